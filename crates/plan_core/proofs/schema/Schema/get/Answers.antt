@@ -1,0 +1,7 @@
+use Rattle.std.proofs.Common.{◌≡◌, ◌∙◌, refl}
+use Rattle.plan_core.specs.Columns.{type_of}
+use Rattle.plan_core.proofs.ColumnLemmas.{type_of-seen}
+use Rattle.plan_core.proofs.schema.Schema.get.Goals as goal
+
+pub returns : goal.returns
+returns c = c.get.ensures.value ∙ type_of-seen c.self.inside.fields.entries c.args.name.now ∙ rw c.self.view_is refl

@@ -1,0 +1,86 @@
+//! A list of values. Contracts see it as a list.
+ghost use Rattle.std.specs.Prelude.{◌≡◌, ◌<◌, ◌++◌, ◌∷◌, [], length, IfOk, OnOk, OnErr, MatchOption};
+ghost use Rattle.std.specs.Cmp.Lexicographic.{pointwise, lists_per};
+
+use crate::try_clone::TryClone;
+use std::alloc::{AllocError, Global};
+use std::marker::Model;
+
+/// A list. A contract sees the list of its values.
+#[derive(Drop, Debug)]
+pub struct Items<T> {
+    items: Vec<T>,
+}
+
+impl<T> Model for Items<T> {
+    ghost use Rattle.std.specs.Prelude.{List};
+
+    ghost Value = { List T };
+
+    ghost view = { λ a. a.items.items };
+}
+
+impl<T> Items<T> {
+    /// A list without values.
+    pub fn new(alloc: Global) -> Self
+        ensures { result ≡ [] }
+    {
+        Items {
+            items: Vec::new(alloc),
+        }
+    }
+
+    /// Appends a value.
+    pub fn push(&mut self, value: T) -> Result<(), AllocError>
+    where
+        T: Drop,
+        ensures pushed { OnOk result (self.new ≡ self.old ++ value ∷ []) }
+        ensures unchanged { OnErr result (self.new ≡ self.old) }
+    {
+        self.items.push(value)?;
+        Ok(())
+    }
+
+    /// Takes the last value.
+    pub fn pop(&mut self) -> Option<T>
+        ensures { MatchOption result (self.old ≡ [] × self.new ≡ []) (λ x. self.old ≡ self.new ++ x ∷ []) }
+    {
+        self.items.pop()
+    }
+
+    /// How many values there are.
+    pub fn len(&self) -> usize
+        ensures { result ≡ length self.now }
+    {
+        self.items.len()
+    }
+
+    /// The values.
+    pub fn as_slice(&self) -> &[T]
+        ensures { result.now ≡ self.now }
+    {
+        self.items.as_slice()
+    }
+}
+
+impl<T: TryClone> TryClone for Items<T> {
+    fn try_clone(&self, alloc: Global) -> Result<Self, AllocError>
+        ensures { IfOk result (λ r. r ≡ self.now) }
+    {
+        let mut items = Vec::new(alloc);
+        for x in &self.items {
+            items.push(x.try_clone(alloc)?)?;
+        }
+        Ok(Items { items })
+    }
+}
+
+impl<T: PartialEq> PartialEq for Items<T> {
+    ghost eq = { λ v w. pointwise T.eq v w };
+
+    ghost laws = { lists_per T.laws };
+
+    fn eq(&self, other: &Self) -> bool {
+        self.as_slice() == other.as_slice()
+    }
+}

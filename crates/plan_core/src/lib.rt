@@ -1,0 +1,20 @@
+//! Arenas, lists, texts, schemas, types, errors and flags that the plan crates share.
+#![tactic(auto)]
+
+mod arena;
+mod data_type;
+mod error;
+mod items;
+mod options;
+mod schema;
+mod text;
+mod try_clone;
+
+pub use arena::{Arena, ColumnNode, Node};
+pub use data_type::DataType;
+pub use error::{At, PolarsError, PolarsResult};
+pub use items::Items;
+pub use options::{FileCount, FileScanOptions, HiveOptions, RowIndex};
+pub use schema::Schema;
+pub use text::PlSmallStr;
+pub use try_clone::TryClone;

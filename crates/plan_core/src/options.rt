@@ -1,0 +1,138 @@
+//! The options that scans carry.
+ghost use Rattle.std.specs.Prelude.{◌≡◌, IfOk};
+
+use crate::items::Items;
+use crate::schema::Schema;
+use crate::text::PlSmallStr;
+use crate::try_clone::TryClone;
+use std::alloc::{AllocError, Global};
+
+/// A number of files.
+pub type FileCount = u32;
+
+/// A column that numbers the rows of a scan: its name, and the number of the first row.
+#[derive(Drop)]
+pub struct RowIndex {
+    pub name: PlSmallStr,
+    pub offset: u32,
+}
+
+impl TryClone for RowIndex {
+    fn try_clone(&self, alloc: Global) -> Result<Self, AllocError>
+        ensures { IfOk result (λ r. r ≡ self.now) }
+    {
+        Ok(RowIndex {
+            name: self.name.try_clone(alloc)?,
+            offset: self.offset,
+        })
+    }
+}
+
+/// How columns are read from the folders of a path.
+#[derive(Drop)]
+pub struct HiveOptions {
+    pub enabled: Option<bool>,
+    /// Where the folders begin in each path, in bytes.
+    pub hive_start_idx: usize,
+    pub schema: Option<Schema>,
+    pub try_parse_dates: bool,
+}
+
+/// What a scan does beside naming its sources.
+#[derive(Drop)]
+pub struct FileScanOptions {
+    /// The first row, and how many rows.
+    pub slice: Option<(i64, usize)>,
+    /// The names of the file columns that are read; all of them where it is absent.
+    pub with_columns: Option<Items<PlSmallStr>>,
+    pub cache: bool,
+    pub row_index: Option<RowIndex>,
+    pub rechunk: bool,
+    pub file_counter: FileCount,
+    pub hive_options: HiveOptions,
+    pub glob: bool,
+    /// The name of a column with the path of each row.
+    pub include_file_paths: Option<PlSmallStr>,
+    pub allow_missing_columns: bool,
+}
+
+impl<T: TryClone> TryClone for Option<T> {
+    fn try_clone(&self, alloc: Global) -> Result<Self, AllocError>
+        ensures { IfOk result (λ r. r ≡ self.now) }
+    {
+        match self {
+            None => Ok(None),
+            Some(value) => Ok(Some(value.try_clone(alloc)?)),
+        }
+    }
+}
+
+impl TryClone for HiveOptions {
+    fn try_clone(&self, alloc: Global) -> Result<Self, AllocError>
+        ensures { IfOk result (λ r. r ≡ self.now) }
+    {
+        Ok(HiveOptions {
+            enabled: self.enabled,
+            hive_start_idx: self.hive_start_idx,
+            schema: self.schema.try_clone(alloc)?,
+            try_parse_dates: self.try_parse_dates,
+        })
+    }
+}
+
+impl TryClone for FileScanOptions {
+    fn try_clone(&self, alloc: Global) -> Result<Self, AllocError>
+        ensures { IfOk result (λ r. r ≡ self.now) }
+    {
+        Ok(FileScanOptions {
+            slice: self.slice,
+            with_columns: self.with_columns.try_clone(alloc)?,
+            cache: self.cache,
+            row_index: self.row_index.try_clone(alloc)?,
+            rechunk: self.rechunk,
+            file_counter: self.file_counter,
+            hive_options: self.hive_options.try_clone(alloc)?,
+            glob: self.glob,
+            include_file_paths: self.include_file_paths.try_clone(alloc)?,
+            allow_missing_columns: self.allow_missing_columns,
+        })
+    }
+}
+
+impl Default for HiveOptions {
+    ghost use Rattle.std.specs.Prelude.{◌≡◌};
+    ghost use Rattle.plan_core.specs.Options.{default_hive};
+
+    ghost is_default = { λ o. o ≡ default_hive };
+
+    fn default() -> Self {
+        HiveOptions {
+            enabled: Some(true),
+            hive_start_idx: 0,
+            schema: None,
+            try_parse_dates: true,
+        }
+    }
+}
+
+impl Default for FileScanOptions {
+    ghost use Rattle.std.specs.Prelude.{◌≡◌};
+    ghost use Rattle.plan_core.specs.Options.{default_scan};
+
+    ghost is_default = { λ o. o ≡ default_scan };
+
+    fn default() -> Self {
+        FileScanOptions {
+            slice: None,
+            with_columns: None,
+            cache: false,
+            row_index: None,
+            rechunk: false,
+            file_counter: 0,
+            hive_options: HiveOptions::default(),
+            glob: false,
+            include_file_paths: None,
+            allow_missing_columns: false,
+        }
+    }
+}

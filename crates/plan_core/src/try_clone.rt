@@ -1,0 +1,10 @@
+//! Copies that want memory.
+ghost use Rattle.std.specs.Prelude.{◌≡◌, IfOk};
+
+use std::alloc::{AllocError, Global};
+
+/// A copy that may want memory, and equals its source.
+pub trait TryClone: Drop {
+    fn try_clone(&self, alloc: Global) -> Result<Self, AllocError>
+        ensures { IfOk result (λ r. r ≡ self.now) };
+}
