@@ -1,0 +1,114 @@
+//! Expressions, in an arena of their own.
+ghost use Rattle.std.specs.Prelude.{◌≡◌, IfOk};
+
+use plan_core::{Node, PlSmallStr, TryClone};
+use std::alloc::{AllocError, Global};
+
+/// What a binary expression does with its two sides.
+#[derive(Clone, Copy, PartialEq, Eq, Hash, Debug)]
+pub enum Operator {
+    Eq,
+    NotEq,
+    Lt,
+    LtEq,
+    Gt,
+    GtEq,
+}
+
+/// A value that is written out.
+#[derive(Drop)]
+pub enum LiteralValue {
+    Int64(i64),
+}
+
+impl TryClone for LiteralValue {
+    fn try_clone(&self, alloc: Global) -> Result<Self, AllocError>
+        ensures { IfOk result (λ r. r ≡ self.now) }
+    {
+        let _ = alloc;
+        match self {
+            LiteralValue::Int64(number) => Ok(LiteralValue::Int64(*number)),
+        }
+    }
+}
+
+/// An expression; it names the expressions that it is made of by their numbers.
+#[derive(Drop)]
+pub enum AExpr {
+    Column(PlSmallStr),
+    Literal(LiteralValue),
+    BinaryExpr {
+        left: Node,
+        op: Operator,
+        right: Node,
+    },
+}
+
+impl TryClone for AExpr {
+    fn try_clone(&self, alloc: Global) -> Result<Self, AllocError>
+        ensures { IfOk result (λ r. r ≡ self.now) }
+    {
+        match self {
+            AExpr::Column(name) => Ok(AExpr::Column(name.try_clone(alloc)?)),
+            AExpr::Literal(value) => Ok(AExpr::Literal(value.try_clone(alloc)?)),
+            AExpr::BinaryExpr { left, op, right } => Ok(AExpr::BinaryExpr {
+                left: *left,
+                op: *op,
+                right: *right,
+            }),
+        }
+    }
+}
+
+/// The name under which an expression is put out, and where it comes from.
+#[derive(Drop)]
+pub enum OutputName {
+    None,
+    /// The name of a literal that decides.
+    LiteralLhs(PlSmallStr),
+    /// The name of a column that decides.
+    ColumnLhs(PlSmallStr),
+    /// A name that was given.
+    Alias(PlSmallStr),
+}
+
+impl TryClone for OutputName {
+    fn try_clone(&self, alloc: Global) -> Result<Self, AllocError>
+        ensures { IfOk result (λ r. r ≡ self.now) }
+    {
+        match self {
+            OutputName::None => Ok(OutputName::None),
+            OutputName::LiteralLhs(name) => Ok(OutputName::LiteralLhs(name.try_clone(alloc)?)),
+            OutputName::ColumnLhs(name) => Ok(OutputName::ColumnLhs(name.try_clone(alloc)?)),
+            OutputName::Alias(name) => Ok(OutputName::Alias(name.try_clone(alloc)?)),
+        }
+    }
+}
+
+/// The number of an expression, with its output name.
+#[derive(Drop)]
+pub struct ExprIR {
+    pub node: Node,
+    pub output_name: OutputName,
+}
+
+impl ExprIR {
+    /// An expression under an output name.
+    pub fn new(node: Node, output_name: OutputName) -> Self
+        ensures node { result.node ≡ node }
+        ensures name { result.output_name ≡ output_name }
+    {
+        ExprIR { node, output_name }
+    }
+}
+
+impl TryClone for ExprIR {
+    fn try_clone(&self, alloc: Global) -> Result<Self, AllocError>
+        ensures { IfOk result (λ r. r ≡ self.now) }
+    {
+        Ok(ExprIR {
+            node: self.node,
+            output_name: self.output_name.try_clone(alloc)?,
+        })
+    }
+}

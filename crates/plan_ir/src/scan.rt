@@ -1,0 +1,45 @@
+//! What a scan reads, and from where.
+ghost use Rattle.std.specs.Prelude.{◌≡◌, IfOk};
+
+use plan_core::{Items, PlSmallStr, Schema, TryClone};
+use std::alloc::{AllocError, Global};
+
+/// The format of the files of a scan.
+#[derive(Clone, Copy, PartialEq, Eq, Hash, Debug)]
+pub enum FileScan {
+    Parquet,
+}
+
+/// Where a scan reads from, in order.
+#[derive(Drop)]
+pub enum ScanSources {
+    Paths(Items<PlSmallStr>),
+}
+
+impl TryClone for ScanSources {
+    fn try_clone(&self, alloc: Global) -> Result<Self, AllocError>
+        ensures { IfOk result (λ r. r ≡ self.now) }
+    {
+        match self {
+            ScanSources::Paths(paths) => Ok(ScanSources::Paths(paths.try_clone(alloc)?)),
+        }
+    }
+}
+
+/// The columns of the files of a scan: those that it can put out, and those that a reader finds.
+#[derive(Drop)]
+pub struct FileInfo {
+    pub schema: Schema,
+    pub reader_schema: Option<Schema>,
+}
+
+impl TryClone for FileInfo {
+    fn try_clone(&self, alloc: Global) -> Result<Self, AllocError>
+        ensures { IfOk result (λ r. r ≡ self.now) }
+    {
+        Ok(FileInfo {
+            schema: self.schema.try_clone(alloc)?,
+            reader_schema: self.reader_schema.try_clone(alloc)?,
+        })
+    }
+}
