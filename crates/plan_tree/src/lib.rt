@@ -1,0 +1,2 @@
+//! Trees that the numbers of an arena stand over, and walks over them.
+#![tactic(auto)]
