@@ -5,15 +5,10 @@ use Rattle.std.proofs.lemmas.Option.{slice_get_within}
 use Rattle.plan_core.specs.declared.arena.Node.{Node}
 use Rattle.plan_tree.proofs.Numbers.{Reaches-within}
 use Rattle.plan_tree.proofs.TreeLemmas.{nth, Opened, height_at, height-is, levels-nth, Stands-nth, IsOnce-nth, StandsOnce-nth}
-use Rattle.plan_tree.specs.Rose.{Rose, Roses, rose, no_roses, more, size, levels}
+use Rattle.plan_tree.specs.Rose.{Rose, Roses, rose, no_roses, more, size, levels, join}
 use Rattle.plan_tree.specs.Stands.{Shape, Trees, Reaches, Apart, IsOnce, Stands, StandsOnce, Keeps, Rewrites}
 
 module _ {P : Type 0} (S : Shape P) where
-  -- trees side by side
-  abbrev pub join : Trees P → Trees P → Trees P
-  join no_roses g = g
-  join (more (rose n p kids) rest) g = more (rose n p kids) (join rest g)
-
   -- the first j trees
   abbrev pub front : Trees P → ℕ → Trees P
   front no_roses j = no_roses

@@ -1,3 +1,4 @@
 pub mod Numbers
 pub mod TreeLemmas
 pub mod Frames
+pub mod ReadLemmas

@@ -1,2 +1,3 @@
 pub mod Rose
 pub mod Stands
+pub mod Read

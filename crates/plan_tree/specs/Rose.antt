@@ -30,6 +30,11 @@ module _ {N P : Type 0} where
   items no_roses = []
   items (more (rose n p kids) rest) = p ∷ (items kids ++ items rest)
 
+-- trees side by side
+abbrev pub join : {N P : Type 0} → Roses N P → Roses N P → Roses N P
+join no_roses g = g
+join (more r rest) g = more r (join rest g)
+
 -- the trees with other labels and items
 abbrev pub map_roses : {N M P Q : Type 0} → (N → M) → (P → Q) → Roses N P → Roses M Q
 map_roses f g no_roses = no_roses
