@@ -1,0 +1,51 @@
+-- The parts of a node and of an expression: inputs, expressions, operands.
+use Rattle.std.specs.Prelude.{Bool, true, false, List, [], ◌∷◌, map, Option, Some, None}
+use Rattle.plan_core.specs.declared.arena.Node.{Node}
+use Rattle.plan_tree.specs.Stands.{Shape, Trees}
+use Rattle.plan_tree.specs.Rose.{Roses, items}
+use Rattle.plan_ir.specs.declared.expr.AExpr.{AExpr}
+use Rattle.plan_ir.specs.declared.expr.AExpr.TheVariants.{Column, Literal, BinaryExpr}
+use Rattle.plan_ir.specs.declared.expr.ExprIR.{ExprIR}
+use Rattle.plan_ir.specs.declared.ir.IR.{IR}
+use Rattle.plan_ir.specs.declared.ir.IR.TheVariants.{Filter, Scan, SimpleProjection, Invalid}
+
+-- the operands of an expression, in walk order
+abbrev pub operands_of : AExpr → List Node
+operands_of (Column name) = []
+operands_of (Literal value) = []
+operands_of (BinaryExpr left op right) = left ∷ right ∷ []
+
+-- any expression can stand in a tree
+abbrev pub expr_shape : Shape AExpr
+expr_shape = record { inputs = operands_of; bad = λ e. false }
+
+abbrev pub list_of : {A : Type 0} → Option A → List A
+list_of None = []
+list_of (Some x) = x ∷ []
+
+-- the inputs of a node, in order
+abbrev pub inputs_of : IR → List Node
+inputs_of (Filter input predicate) = input ∷ []
+inputs_of (Scan sources file_info predicate output_schema scan_type file_options) = []
+inputs_of (SimpleProjection input columns) = input ∷ []
+inputs_of Invalid = []
+
+-- the expressions of a node, in order
+abbrev pub exprs_of : IR → List ExprIR
+exprs_of (Filter input predicate) = predicate ∷ []
+exprs_of (Scan sources file_info predicate output_schema scan_type file_options) = list_of predicate
+exprs_of (SimpleProjection input columns) = []
+exprs_of Invalid = []
+
+abbrev pub is_invalid : IR → Bool
+is_invalid Invalid = true
+is_invalid (Filter input predicate) = false
+is_invalid (Scan sources file_info predicate output_schema scan_type file_options) = false
+is_invalid (SimpleProjection input columns) = false
+
+abbrev pub plan_shape : Shape IR
+plan_shape = record { inputs = inputs_of; bad = is_invalid }
+
+-- the numbers of a node's expressions, in order
+abbrev pub roots_of : IR → List Node
+roots_of p = map (λ (e : ExprIR). e.node) (exprs_of p)

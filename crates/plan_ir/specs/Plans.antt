@@ -1,0 +1,74 @@
+-- Plans and expressions as trees without numbers: what a meaning reads.
+use Rattle.std.specs.Prelude.{ℕ, List, [], ◌∷◌, map, Option, Some, None, option_map, Result}
+use Rattle.plan_core.specs.declared.arena.Node.{Node}
+use Rattle.plan_core.specs.declared.data_type.DataType.{DataType}
+use Rattle.plan_core.specs.declared.options.FileScanOptions.{FileScanOptions}
+use Rattle.plan_core.specs.Columns.{Columns}
+use Rattle.plan_tree.specs.Stands.{Shape, Trees}
+use Rattle.plan_tree.specs.Read.{tree_at}
+use Rattle.plan_tree.specs.Rose.{Rose, Roses, rose, no_roses, more, map_roses}
+use Rattle.plan_ir.specs.declared.expr.AExpr.{AExpr}
+use Rattle.plan_ir.specs.declared.expr.AExpr.TheVariants as exprs
+use Rattle.plan_ir.specs.declared.expr.ExprIR.{ExprIR}
+use Rattle.plan_ir.specs.declared.expr.LiteralValue.{LiteralValue}
+use Rattle.plan_ir.specs.declared.expr.Operator.{Operator}
+use Rattle.plan_ir.specs.declared.expr.OutputName.{OutputName}
+use Rattle.plan_ir.specs.declared.scan.FileInfo.{FileInfo}
+use Rattle.plan_ir.specs.declared.scan.FileScan.{FileScan}
+use Rattle.plan_ir.specs.declared.scan.ScanSources.{ScanSources}
+use Rattle.plan_ir.specs.declared.ir.IR.{IR}
+use Rattle.plan_ir.specs.declared.ir.IR.TheVariants as nodes
+use Rattle.plan_ir.specs.Parts.{expr_shape, plan_shape}
+
+-- what an expression is beside its operands
+pub data ExprOp : Type 0 where
+  column : (name : List ℕ) → ExprOp
+  literal : (value : LiteralValue) → ExprOp
+  binary : (op : Operator) → ExprOp
+
+-- an expression: an operator over the trees of its operands
+abbrev pub Expr : Type 0
+Expr = Rose (Unit {0}) ExprOp
+
+-- an expression with its output name
+pub record Named : Type 0 where
+  pub name : OutputName
+  pub expr : Expr
+
+-- what a plan node is beside its inputs
+pub data Op : Type 0 where
+  filter : (predicate : Named) → Op
+  scan : (sources : ScanSources) → (file_info : FileInfo) → (predicate : Option Named) → (output_schema : Option Columns) → (scan_type : FileScan) → (file_options : FileScanOptions) → Op
+  simple_projection : (columns : Columns) → Op
+  invalid : Op
+
+abbrev pub Plan : Type 0
+Plan = Rose (Unit {0}) Op
+
+abbrev pub expr_op : AExpr → ExprOp
+expr_op (exprs.Column name) = column name
+expr_op (exprs.Literal value) = literal value
+expr_op (exprs.BinaryExpr left op right) = binary op
+
+-- the first of some trees; a column without a name where there is none
+abbrev pub one_expr : Roses (Unit {0}) ExprOp → Expr
+one_expr no_roses = rose tt (column []) no_roses
+one_expr (more e es) = e
+
+-- the expressions that trees in an arena are
+abbrev pub bare_exprs : Trees AExpr → Roses (Unit {0}) ExprOp
+bare_exprs t = map_roses (λ _. tt) expr_op t
+
+-- the expression that a number reaches
+abbrev pub expr_at : List AExpr → Node → Expr
+expr_at ex n = one_expr (bare_exprs (tree_at expr_shape ex n))
+
+abbrev pub named_at : List AExpr → ExprIR → Named
+named_at ex e = record { name = e.output_name; expr = expr_at ex e.node }
+
+-- what a node is, with the expressions that it reaches
+abbrev pub op_at : List AExpr → IR → Op
+op_at ex (nodes.Filter input predicate) = filter (named_at ex predicate)
+op_at ex (nodes.Scan sources file_info predicate output_schema scan_type file_options) = scan sources file_info (option_map (named_at ex) predicate) output_schema scan_type file_options
+op_at ex (nodes.SimpleProjection input columns) = simple_projection columns
+op_at ex nodes.Invalid = invalid
