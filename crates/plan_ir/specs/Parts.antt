@@ -1,8 +1,8 @@
 -- The parts of a node and of an expression: inputs, expressions, operands.
-use Rattle.std.specs.Prelude.{Bool, true, false, List, [], ◌∷◌, map, Option, Some, None}
+use Rattle.std.specs.Prelude.{Bool, true, false, List, [], ◌∷◌, ◌++◌, map, Option, Some, None}
 use Rattle.plan_core.specs.declared.arena.Node.{Node}
-use Rattle.plan_tree.specs.Stands.{Shape, Trees}
-use Rattle.plan_tree.specs.Rose.{Roses, items}
+use Rattle.plan_tree.specs.Stands.{Shape, Trees, StandsOnce}
+use Rattle.plan_tree.specs.Rose.{Roses, rose, no_roses, more}
 use Rattle.plan_ir.specs.declared.expr.AExpr.{AExpr}
 use Rattle.plan_ir.specs.declared.expr.AExpr.TheVariants.{Column, Literal, BinaryExpr}
 use Rattle.plan_ir.specs.declared.expr.ExprIR.{ExprIR}
@@ -49,3 +49,22 @@ plan_shape = record { inputs = inputs_of; bad = is_invalid }
 -- the numbers of a node's expressions, in order
 abbrev pub roots_of : IR → List Node
 roots_of p = map (λ (e : ExprIR). e.node) (exprs_of p)
+
+-- the numbers of the expressions of all nodes, node by node in walk order
+abbrev pub roots_in : Trees IR → List Node
+roots_in no_roses = []
+roots_in (more (rose n p kids) rest) = roots_of p ++ (roots_in kids ++ roots_in rest)
+
+-- a tree of expressions stands at a number
+abbrev pub IsExpr : List AExpr → Node → Type 0
+IsExpr ex n = (t : Trees AExpr) × StandsOnce expr_shape ex (n ∷ []) t
+
+-- a tree of nodes stands at a number, and trees of expressions over the expressions of its nodes; no number stands twice
+pub record StandsPlan (lp : List IR) (ex : List AExpr) (n : Node) (t : Trees IR) (e : Trees AExpr) : Type 0 where
+  pub nodes : StandsOnce plan_shape lp (n ∷ []) t
+  pub exprs : StandsOnce expr_shape ex (roots_in t) e
+
+pub record IsPlan (lp : List IR) (ex : List AExpr) (n : Node) : Type 0 where
+  pub nodes : Trees IR
+  pub exprs : Trees AExpr
+  pub stands : StandsPlan lp ex n nodes exprs

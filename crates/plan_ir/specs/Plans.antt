@@ -5,7 +5,7 @@ use Rattle.plan_core.specs.declared.data_type.DataType.{DataType}
 use Rattle.plan_core.specs.declared.options.FileScanOptions.{FileScanOptions}
 use Rattle.plan_core.specs.Columns.{Columns}
 use Rattle.plan_tree.specs.Stands.{Shape, Trees}
-use Rattle.plan_tree.specs.Read.{tree_at}
+use Rattle.plan_tree.specs.Read.{tree_at, trees_at}
 use Rattle.plan_tree.specs.Rose.{Rose, Roses, rose, no_roses, more, map_roses}
 use Rattle.plan_ir.specs.declared.expr.AExpr.{AExpr}
 use Rattle.plan_ir.specs.declared.expr.AExpr.TheVariants as exprs
@@ -63,6 +63,11 @@ bare_exprs t = map_roses (λ _. tt) expr_op t
 abbrev pub expr_at : List AExpr → Node → Expr
 expr_at ex n = one_expr (bare_exprs (tree_at expr_shape ex n))
 
+-- the expressions that numbers reach
+abbrev pub exprs_at : List AExpr → List Node → Roses (Unit {0}) ExprOp
+exprs_at ex [] = no_roses
+exprs_at ex (n ∷ ns) = more (expr_at ex n) (exprs_at ex ns)
+
 abbrev pub named_at : List AExpr → ExprIR → Named
 named_at ex e = record { name = e.output_name; expr = expr_at ex e.node }
 
@@ -72,3 +77,15 @@ op_at ex (nodes.Filter input predicate) = filter (named_at ex predicate)
 op_at ex (nodes.Scan sources file_info predicate output_schema scan_type file_options) = scan sources file_info (option_map (named_at ex) predicate) output_schema scan_type file_options
 op_at ex (nodes.SimpleProjection input columns) = simple_projection columns
 op_at ex nodes.Invalid = invalid
+
+-- the plans that trees in an arena are, each node with its number
+abbrev pub plans_of : List AExpr → Trees IR → Roses Node Op
+plans_of ex t = map_roses (λ n. n) (op_at ex) t
+
+-- the plans that numbers reach, each node with its number
+abbrev pub plans_at : List IR → List AExpr → List Node → Roses Node Op
+plans_at lp ex ns = plans_of ex (trees_at plan_shape lp ns)
+
+-- the plans without numbers: plans that are equal but for numbers are equal here
+abbrev pub bare : {N : Type 0} → Roses N Op → Roses (Unit {0}) Op
+bare t = map_roses (λ _. tt) (λ op. op) t

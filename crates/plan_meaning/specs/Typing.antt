@@ -111,11 +111,65 @@ projection_checks cs s =
     ∷ (each_name SchemaFieldNotFound 1 (λ a. is_some (type_of s a)) (names_of cs)
     ++ each_column SchemaMismatch 1 (λ c. is_type (type_of s c.0) c.1) cs)
 
--- what a scan puts out has the files' types, and is read
-abbrev pub put_out_checks : Option Columns → Option (List Name) → FileInfo → List Check
-put_out_checks None reads info = check SchemaMismatch 0 (list_all_read reads (names_of (file_columns info))) ∷ []
-  where
-    list_all_read : Option (List Name) → List Name → Bool
-    list_all_read reads [] = true
-    list_all_read reads (a ∷ names) = has_columns reads a && list_all_read reads names
-put_out_checks (Some output) reads info = each_column SchemaMismatch 1 (λ c. is_type (type_of (file_columns info) c.0) c.1 && has_columns reads c.0) output
+abbrev pub all_read : Option (List Name) → List Name → Bool
+all_read reads [] = true
+all_read reads (a ∷ names) = has_columns reads a && all_read reads names
+
+-- what a scan puts out has the files' types and is read; a scan that puts out everything reads everything
+abbrev pub put_out_checks : Option Columns → Option (List Name) → Columns → List Check
+put_out_checks None reads file = check SchemaMismatch 0 (all_read reads (names_of file)) ∷ []
+put_out_checks (Some output) reads file = each_column SchemaMismatch 1 (λ c. is_type (type_of file c.0) c.1 && has_columns reads c.0) output
+
+-- a scan has a reader's columns and nothing that isn't built; what it puts out and reads are such columns, each read once; its stored columns are those of the files
+abbrev pub scan_checks : Option Named → Option Columns → FileInfo → FileScanOptions → List Check
+scan_checks predicate output info options =
+    let outs = columns_or output [] in
+    let reads = names_or options.with_columns [] in
+    check InvalidOperation 0 (is_none predicate && is_none options.slice && is_none options.row_index && is_none options.include_file_paths && is_some info.reader_schema)
+    ∷ (each_name SchemaFieldNotFound 1 (λ a. is_some (type_of (file_columns info) a)) (names_of outs)
+    ++ (each_name SchemaFieldNotFound (suc (length outs)) (λ a. is_some (type_of (file_columns info) a)) reads
+    ++ (put_out_checks output options.with_columns (file_columns info)
+    ++ (each_new (suc (length outs)) [] reads
+    ++ check SchemaMismatch 0 (same_columns info.schema (file_columns info)) ∷ []))))
+
+abbrev pub with_none : List Columns → List Check → List Check
+with_none [] cs = cs
+with_none (s ∷ ss) cs = check ComputeError 0 false ∷ []
+
+abbrev pub with_one : List Columns → (Columns → List Check) → List Check
+with_one (s ∷ []) cs = cs s
+with_one _ cs = check ComputeError 0 false ∷ []
+
+-- the checks on a node over the columns of its inputs
+abbrev pub checks : Op → List Columns → List Check
+checks (filter predicate) ss = with_one ss (filter_checks predicate)
+checks (scan sources info predicate output kind options) ss = with_none ss (scan_checks predicate output info options)
+checks (simple_projection columns) ss = with_one ss (projection_checks columns)
+checks invalid ss = check ComputeError 0 false ∷ []
+
+abbrev pub AllHold : List Check → Type 0
+AllHold [] = Unit {0}
+AllHold (c ∷ cs) = (c.holds ≡ true) × AllHold cs
+
+-- all checks hold at all nodes
+abbrev pub AllValid : {N : Type 0} → Roses N Op → Type 0
+AllValid no_roses = Unit {0}
+AllValid (more (rose n op ts) rest) = AllHold (checks op (schemas ts)) × AllValid ts × AllValid rest
+
+-- a place of a node; a place above the last one that can be said is said as that
+abbrev pub at : Node → ℕ → At
+at n place = record { node = Some n; place = min place 4294967295 }
+
+-- the fault of the first check that doesn't hold
+abbrev pub first_fault : Node → List Check → Option PolarsError
+first_fault n [] = None
+first_fault n (c ∷ cs) = if c.holds then first_fault n cs else Some (c.fault (at n c.place))
+
+abbrev pub or_fault : Option PolarsError → Option PolarsError → Option PolarsError
+or_fault None e = e
+or_fault (Some f) e = Some f
+
+-- the first fault among the nodes: the inputs of a node before it, from first to last
+abbrev pub faults : Roses Node Op → Option PolarsError
+faults no_roses = None
+faults (more (rose n op ts) rest) = or_fault (or_fault (faults ts) (first_fault n (checks op (schemas ts)))) (faults rest)

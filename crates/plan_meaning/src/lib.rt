@@ -1,0 +1,2 @@
+//! What plans mean, and which plans are valid.
+#![tactic(auto)]
