@@ -1,2 +1,3 @@
 pub mod Exprs
 pub mod Typing
+pub mod Seen

@@ -1,2 +1,6 @@
 //! What plans mean, and which plans are valid.
 #![tactic(auto)]
+
+mod exprs;
+
+pub use exprs::{Naming, decided_name, expr_type, may_be_named, reads_only};
