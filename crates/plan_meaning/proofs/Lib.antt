@@ -1,1 +1,2 @@
 mod ExprSteps
+mod CheckLemmas

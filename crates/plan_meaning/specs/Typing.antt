@@ -5,10 +5,11 @@ use Rattle.std.specs.Str.{bytes_eq}
 use Rattle.plan_core.specs.declared.arena.Node.{Node}
 use Rattle.plan_core.specs.declared.error.At.{At}
 use Rattle.plan_core.specs.declared.error.PolarsError.{PolarsError}
-use Rattle.plan_core.specs.declared.error.PolarsError.TheVariants.{SchemaFieldNotFound, Duplicate, SchemaMismatch, InvalidOperation, ComputeError}
+use Rattle.plan_core.specs.declared.error.PolarsError.TheVariants.{SchemaFieldNotFound, Duplicate, SchemaMismatch, InvalidOperation, ComputeError, OutOfMemory}
 use Rattle.plan_core.specs.declared.data_type.DataType.{DataType}
 use Rattle.plan_core.specs.declared.options.FileScanOptions.{FileScanOptions}
 use Rattle.plan_core.specs.Columns.{Columns, type_of}
+use Rattle.plan_core.specs.Names.{has}
 use Rattle.plan_tree.specs.Rose.{Rose, Roses, rose, no_roses, more}
 use Rattle.plan_ir.specs.declared.scan.FileInfo.{FileInfo}
 use Rattle.plan_ir.specs.Plans.{Op, filter, scan, simple_projection, invalid, Named}
@@ -62,28 +63,23 @@ is_empty (x ∷ xs) = false
 abbrev pub is_none : {A : Type 0} → Option A → Bool
 is_none o = not (is_some o)
 
--- a check for each name, the first at this place
-abbrev pub each_name : (At → PolarsError) → ℕ → (Name → Bool) → List Name → List Check
-each_name fault k holds [] = []
-each_name fault k holds (a ∷ names) = check fault k (holds a) ∷ each_name fault (suc k) holds names
+-- a check for each item, the first at this place
+abbrev pub each : {A : Type 0} → (At → PolarsError) → ℕ → (A → Bool) → List A → List Check
+each fault k holds [] = []
+each fault k holds (x ∷ xs) = check fault k (holds x) ∷ each fault (suc k) holds xs
 
--- a check for each column, the first at this place
-abbrev pub each_column : (At → PolarsError) → ℕ → (Name × DataType → Bool) → Columns → List Check
-each_column fault k holds [] = []
-each_column fault k holds (c ∷ cs) = check fault k (holds c) ∷ each_column fault (suc k) holds cs
+abbrev pub is_known : Columns → List ℕ → Bool
+is_known s a = is_some (type_of s a)
 
 -- no name of the list is one before it
 abbrev pub each_new : ℕ → List Name → List Name → List Check
 each_new k before [] = []
-each_new k before (a ∷ names) = check Duplicate k (not (list_any (bytes_eq a) before)) ∷ each_new (suc k) (a ∷ before) names
+each_new k before (a ∷ names) = check Duplicate k (not (has before a)) ∷ each_new (suc k) (before ++ a ∷ []) names
 
 abbrev pub same_columns : Columns → Columns → Bool
 same_columns [] [] = true
 same_columns (c ∷ cs) (d ∷ ds) = bytes_eq c.0 d.0 && same_type c.1 d.1 && same_columns cs ds
 same_columns _ _ = false
-
-abbrev pub has : List Name → Name → Bool
-has names a = list_any (bytes_eq a) names
 
 abbrev pub names_of : Columns → List Name
 names_of s = map (λ (c : Name × DataType). c.0) s
@@ -108,8 +104,8 @@ filter_checks e s =
 abbrev pub projection_checks : Columns → Columns → List Check
 projection_checks cs s =
     check InvalidOperation 0 (not (is_empty cs))
-    ∷ (each_name SchemaFieldNotFound 1 (λ a. is_some (type_of s a)) (names_of cs)
-    ++ each_column SchemaMismatch 1 (λ c. is_type (type_of s c.0) c.1) cs)
+    ∷ (each SchemaFieldNotFound 1 (λ (c : Name × DataType). is_known s c.0) cs
+    ++ each SchemaMismatch 1 (λ (c : Name × DataType). is_type (type_of s c.0) c.1) cs)
 
 abbrev pub all_read : Option (List Name) → List Name → Bool
 all_read reads [] = true
@@ -118,7 +114,7 @@ all_read reads (a ∷ names) = has_columns reads a && all_read reads names
 -- what a scan puts out has the files' types and is read; a scan that puts out everything reads everything
 abbrev pub put_out_checks : Option Columns → Option (List Name) → Columns → List Check
 put_out_checks None reads file = check SchemaMismatch 0 (all_read reads (names_of file)) ∷ []
-put_out_checks (Some output) reads file = each_column SchemaMismatch 1 (λ c. is_type (type_of file c.0) c.1 && has_columns reads c.0) output
+put_out_checks (Some output) reads file = each SchemaMismatch 1 (λ (c : Name × DataType). is_type (type_of file c.0) c.1 && has_columns reads c.0) output
 
 -- a scan has a reader's columns and nothing that isn't built; what it puts out and reads are such columns, each read once; its stored columns are those of the files
 abbrev pub scan_checks : Option Named → Option Columns → FileInfo → FileScanOptions → List Check
@@ -126,8 +122,8 @@ scan_checks predicate output info options =
     let outs = columns_or output [] in
     let reads = names_or options.with_columns [] in
     check InvalidOperation 0 (is_none predicate && is_none options.slice && is_none options.row_index && is_none options.include_file_paths && is_some info.reader_schema)
-    ∷ (each_name SchemaFieldNotFound 1 (λ a. is_some (type_of (file_columns info) a)) (names_of outs)
-    ++ (each_name SchemaFieldNotFound (suc (length outs)) (λ a. is_some (type_of (file_columns info) a)) reads
+    ∷ (each SchemaFieldNotFound 1 (λ (c : Name × DataType). is_known (file_columns info) c.0) outs
+    ++ (each SchemaFieldNotFound (suc (length outs)) (is_known (file_columns info)) reads
     ++ (put_out_checks output options.with_columns (file_columns info)
     ++ (each_new (suc (length outs)) [] reads
     ++ check SchemaMismatch 0 (same_columns info.schema (file_columns info)) ∷ []))))
@@ -173,3 +169,13 @@ or_fault (Some f) e = Some f
 abbrev pub faults : Roses Node Op → Option PolarsError
 faults no_roses = None
 faults (more (rose n op ts) rest) = or_fault (or_fault (faults ts) (first_fault n (checks op (schemas ts)))) (faults rest)
+
+-- the answer names this fault, or there is none and it is Ok; want of memory says nothing
+abbrev pub Says : {A : Type 0} → Result A PolarsError → Option PolarsError → Type 0
+Says (Ok x) fault = fault ≡ None
+Says (Err OutOfMemory) fault = Unit {0}
+Says (Err (SchemaFieldNotFound a)) fault = fault ≡ Some (SchemaFieldNotFound a)
+Says (Err (Duplicate a)) fault = fault ≡ Some (Duplicate a)
+Says (Err (SchemaMismatch a)) fault = fault ≡ Some (SchemaMismatch a)
+Says (Err (InvalidOperation a)) fault = fault ≡ Some (InvalidOperation a)
+Says (Err (ComputeError a)) fault = fault ≡ Some (ComputeError a)

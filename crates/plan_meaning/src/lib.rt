@@ -1,6 +1,8 @@
 //! What plans mean, and which plans are valid.
 #![tactic(auto)]
 
+mod check;
 mod exprs;
 
 pub use exprs::{Naming, decided_name, expr_type, may_be_named, reads_only};
+pub use check::check_filter;

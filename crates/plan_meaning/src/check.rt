@@ -1,0 +1,10 @@
+//! The checks on nodes, a file for each family of nodes, and the walk over a plan that makes them in order.
+mod columns;
+mod filter;
+mod place;
+
+
+
+pub use filter::check_filter;
+
+

@@ -1,0 +1,41 @@
+//! A filter: its predicate reads columns of the input, is Boolean, and is named as it may be.
+ghost use Rattle.std.specs.Prelude.{◌≡◌};
+ghost use Rattle.plan_ir.specs.Parts.{IsExpr};
+ghost use Rattle.plan_ir.specs.Plans.{named_at};
+ghost use Rattle.plan_meaning.specs.Exprs.{is_type};
+ghost use Rattle.plan_core.specs.declared.data_type.DataType.TheVariants.{Boolean};
+ghost use Rattle.plan_meaning.specs.Typing.{filter_checks, first_fault, Says};
+
+use crate::check::place::at;
+use crate::exprs::{expr_type, may_be_named, reads_only};
+use plan_core::{Arena, DataType, Node, PolarsError, PolarsResult, Schema};
+use plan_ir::{AExpr, ExprIR};
+
+/// Whether the type is Boolean.
+fn is_boolean(dtype: Option<DataType>) -> bool
+    ensures { result ≡ is_type dtype Boolean }
+{
+    matches!(dtype, Some(DataType::Boolean))
+}
+
+/// Checks a filter over the columns of its input.
+pub fn check_filter(
+    node: Node,
+    predicate: &ExprIR,
+    ex: &Arena<AExpr>,
+    schema: &Schema,
+) -> PolarsResult<()>
+    requires { IsExpr ex.now predicate.now.node }
+    ensures { Says result (first_fault node (filter_checks (named_at ex.now predicate.now) schema.now)) }
+{
+    if !reads_only(predicate.node, ex, schema) {
+        return Err(PolarsError::SchemaFieldNotFound(at(node, 1)));
+    }
+    if !is_boolean(expr_type(predicate.node, ex, schema)) {
+        return Err(PolarsError::SchemaMismatch(at(node, 1)));
+    }
+    if !may_be_named(&predicate.output_name, predicate.node, ex) {
+        return Err(PolarsError::SchemaMismatch(at(node, 1)));
+    }
+    Ok(())
+}
