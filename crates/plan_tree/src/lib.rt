@@ -1,2 +1,8 @@
 //! Trees that the numbers of an arena stand over, and walks over them.
 #![tactic(auto)]
+
+mod entry;
+mod walking;
+
+pub use entry::Entry;
+pub use walking::{Step, Walked, walk};
