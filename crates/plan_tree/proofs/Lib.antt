@@ -1,3 +1,4 @@
+pub mod LevelLemmas
 pub mod Numbers
 pub mod TreeLemmas
 pub mod Frames

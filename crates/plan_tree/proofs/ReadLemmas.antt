@@ -9,7 +9,8 @@ use Rattle.plan_tree.specs.Rose.{rose, no_roses, more, levels}
 use Rattle.plan_tree.specs.Stands.{Shape, Trees, Stands, StandsOnce}
 
 module _ {P : Type 0} (S : Shape P) where
-  gather-is : (k : ℕ) (lp : List P) (ns : List Node) (f : Trees P) → Stands S lp ns f → levels f ≤ k → gather (tree_within S k lp) ns ≡ f
+  -- trees of no more levels than are read
+  pub gather-is : (k : ℕ) (lp : List P) (ns : List Node) (f : Trees P) → Stands S lp ns f → levels f ≤ k → gather (tree_within S k lp) ns ≡ f
   unfolding tree_within
   gather-is k lp [] no_roses s h = refl
   gather-is k lp [] (more (rose n p kids) rest) s h = absurd s

@@ -24,6 +24,16 @@ differ k n h e = elim (eqb_tells k n) as (λ _. ⊥) [ inl a ↦ (let u = a.0 in
 nat_eq-differ : (k n : ℕ) → (k ≡ n → ⊥) → nat_eq k n ≡ false
 nat_eq-differ k n h = elim (eqb_tells k n) as (λ _. nat_eq k n ≡ false) [ inl a ↦ absurd (h a.1) | inr b ↦ b.0 ]
 
+module _ {W : Type 0} where
+  -- the numbers of steps that come before others
+  pub nodes-next : (w : W) (ns : List Node) (ss : List (Step W)) → nodes_of (steps_to w ns ++ ss) ≡ ns ++ nodes_of ss
+  nodes-next w [] ss = refl
+  nodes-next w (n ∷ ns) ss = ap (λ (x : List Node). n ∷ x) (nodes-next w ns ss)
+
+  pub nodes-steps : (w : W) (ns : List Node) → nodes_of (steps_to w ns) ≡ ns
+  nodes-steps w [] = refl
+  nodes-steps w (n ∷ ns) = ap (λ (x : List Node). n ∷ x) (nodes-steps w ns)
+
 module _ {P : Type 0} where
   -- what trees side by side are apart
   pub record Once (f g : Trees P) : Type 0 where
@@ -83,10 +93,6 @@ module _ {P : Type 0} (S : Shape P) where
   new-from lp met n p e off good = rw (e, off, good) refl
 
 module _ {P W : Type 0} (S : Shape P) where
-  nodes-next : (w : W) (ns : List Node) (ss : List (Step W)) → nodes_of (steps_to w ns ++ ss) ≡ ns ++ nodes_of ss
-  nodes-next w [] ss = refl
-  nodes-next w (n ∷ ns) ss = ap (λ (x : List Node). n ∷ x) (nodes-next w ns ss)
-
   -- trees that stand over the numbers of steps, none of whose numbers was met, and that the walk lists
   pub record Found (lp : List P) (met : List ℕ) (ss : List (Step W)) : Type 0 where
     pub trees : Trees P

@@ -2,7 +2,9 @@
 #![tactic(auto)]
 
 mod entry;
+mod levels;
 mod walking;
 
 pub use entry::Entry;
+pub use levels::levels_of;
 pub use walking::{Step, Walked, walk};

@@ -46,21 +46,26 @@ fn stack_steps<W: Copy>(steps: &[Step<W>], pending: &mut Items<Step<W>>) -> Resu
     Ok(())
 }
 
+/// Appends steps to numbers, the first one last.
+pub(crate) fn stack_numbers<W: Copy>(numbers: &[Node], mark: W, pending: &mut Items<Step<W>>) -> Result<(), AllocError>
+    ensures { OnOk result (pending.new ≡ pending.old ++ reverse (steps_to mark numbers.now)) }
+{
+    for number in numbers.iter().rev() {
+        pending.push(Step {
+            node: *number,
+            mark,
+        })?;
+    }
+    Ok(())
+}
+
 /// Appends steps to the inputs of an entry, the first one last.
-fn stack_inputs<T: Entry, W: Copy>(
-    alloc: Global,
-    entry: &T,
-    mark: W,
-    pending: &mut Items<Step<W>>,
-) -> Result<(), AllocError>
+pub(crate) fn stack_inputs<T: Entry, W: Copy>(alloc: Global, entry: &T, mark: W, pending: &mut Items<Step<W>>) -> Result<(), AllocError>
     ensures { OnOk result (pending.new ≡ pending.old ++ reverse (steps_to mark (T.inputs entry.now))) }
 {
     let mut inputs = Items::new(alloc);
     entry.copy_inputs(&mut inputs)?;
-    for input in inputs.as_slice().iter().rev() {
-        pending.push(Step { node: *input, mark })?;
-    }
-    Ok(())
+    stack_numbers(inputs.as_slice(), mark, pending)
 }
 
 /// Walks over what the roots reach, in order, up to the first number that can't be part of trees. It has no fault
