@@ -1,11 +1,11 @@
 -- How rewrites of trees in an arena follow one another, stand side by side, and go up to the node above.
-use Rattle.std.proofs.Common.{false, ◌≡◌, ℕ, zero, suc, ◌+◌, ◌<◌, ◌≤◌, List, [], ◌∷◌, ◌++◌, length, take, refl, sym, ◌∙◌, ap, inl, inr, ◌⊎◌, arith, Some, None, add-one, max, length-set, length-append}
+use Rattle.std.proofs.Common.{false, ◌≡◌, ℕ, zero, suc, ◌+◌, ◌<◌, ◌≤◌, List, [], ◌∷◌, ◌++◌, length, take, refl, ◌∙◌, ap, inl, inr, ◌⊎◌, arith, Some, add-one, max, length-set, length-append}
 use Rattle.std.specs.List.{slice_get, slice_set}
 use Rattle.std.proofs.lemmas.Option.{slice_get_within}
 use Rattle.plan_core.specs.declared.arena.Node.{Node}
 use Rattle.plan_tree.proofs.Numbers.{Reaches-within}
 use Rattle.plan_tree.proofs.TreeLemmas.{nth, Opened, height_at, height-is, levels-nth, Stands-nth, IsOnce-nth, StandsOnce-nth}
-use Rattle.plan_tree.specs.Rose.{Rose, Roses, rose, no_roses, more, size, levels, join}
+use Rattle.plan_tree.specs.Rose.{Roses, rose, no_roses, more, levels, join}
 use Rattle.plan_tree.specs.Stands.{Shape, Trees, Reaches, Apart, IsOnce, Stands, StandsOnce, Keeps, Rewrites}
 
 module _ {P : Type 0} (S : Shape P) where

@@ -1,4 +1,8 @@
+pub mod LevelLemmas
 pub mod Numbers
 pub mod TreeLemmas
 pub mod Frames
+pub mod JoinLemmas
 pub mod ReadLemmas
+pub mod WalkLemmas
+pub mod WalkTrees

@@ -1,14 +1,14 @@
 -- Trees over an arena have no longer nodes than the arena has entries.
-use Rattle.std.proofs.Common.{◌≡◌, ℕ, ◌+◌, ◌<◌, ◌≤◌, Bool, true, false, ◌||◌, List, [], ◌∷◌, ◌++◌, length, eqb, refl, sym, ap, inl, inr, ◌⊎◌, arith, length-append, Some}
-use Rattle.std.specs.List.{list_any, IsDistinct, AllByRecursion, slice_get}
+use Rattle.std.proofs.Common.{◌≡◌, ℕ, ◌<◌, ◌≤◌, Bool, true, false, ◌||◌, List, [], ◌∷◌, ◌++◌, length, eqb, refl, ap, inl, inr, ◌⊎◌, arith, length-append}
+use Rattle.std.specs.List.{list_any, IsDistinct, AllByRecursion}
 use Rattle.std.proofs.lemmas.List.Folds.{list_any-append}
 use Rattle.std.proofs.lemmas.Option.{slice_get_within}
 use Rattle.std.proofs.lemmas.Map.Steps.{length-le_from_distinct_below}
 use Rattle.std.proofs.lemmas.Bool.{eqb-true, eq-eqb}
 use Rattle.std.proofs.lemmas.Bool.Decides.{eqb_tells}
 use Rattle.plan_core.specs.declared.arena.Node.{Node}
-use Rattle.plan_tree.specs.Rose.{Rose, Roses, rose, no_roses, more, size, levels}
-use Rattle.plan_tree.specs.Stands.{Shape, Trees, Reaches, Apart, IsOnce, Stands, StandsOnce, Keeps, Rewrites}
+use Rattle.plan_tree.specs.Rose.{rose, no_roses, more, size}
+use Rattle.plan_tree.specs.Stands.{Shape, Trees, Reaches, IsOnce, Stands, StandsOnce}
 
 module _ {P : Type 0} (S : Shape P) where
   -- the numbers, a node before its inputs

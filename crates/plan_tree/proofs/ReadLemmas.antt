@@ -1,16 +1,16 @@
 -- What is read at numbers is what stands there.
-use Rattle.std.proofs.Common.{◌≡◌, ℕ, zero, suc, ◌≤◌, List, [], ◌∷◌, length, refl, arith, Some}
-use Rattle.std.specs.List.{slice_get}
-use Rattle.std.specs.Option.{option_map_or}
+use Rattle.std.proofs.Common.{◌≡◌, ℕ, zero, suc, ◌≤◌, List, [], ◌∷◌, length, refl, arith}
 use Rattle.plan_core.specs.declared.arena.Node.{Node}
+use Rattle.plan_tree.proofs.JoinLemmas.{join-none}
 use Rattle.plan_tree.proofs.Numbers.{size-le}
 use Rattle.plan_tree.proofs.TreeLemmas.{levels-le-size}
 use Rattle.plan_tree.specs.Read.{gather, tree_within, tree_at, trees_at}
-use Rattle.plan_tree.specs.Rose.{Rose, Roses, rose, no_roses, more, join, levels}
+use Rattle.plan_tree.specs.Rose.{rose, no_roses, more, levels}
 use Rattle.plan_tree.specs.Stands.{Shape, Trees, Stands, StandsOnce}
 
 module _ {P : Type 0} (S : Shape P) where
-  gather-is : (k : ℕ) (lp : List P) (ns : List Node) (f : Trees P) → Stands S lp ns f → levels f ≤ k → gather (tree_within S k lp) ns ≡ f
+  -- trees of no more levels than are read
+  pub gather-is : (k : ℕ) (lp : List P) (ns : List Node) (f : Trees P) → Stands S lp ns f → levels f ≤ k → gather (tree_within S k lp) ns ≡ f
   unfolding tree_within
   gather-is k lp [] no_roses s h = refl
   gather-is k lp [] (more (rose n p kids) rest) s h = absurd s
@@ -24,10 +24,6 @@ module _ {P : Type 0} (S : Shape P) where
   -- the trees that stand at numbers are those that are read there
   pub trees_at-is : (lp : List P) (ns : List Node) (f : Trees P) → StandsOnce S lp ns f → trees_at S lp ns ≡ f
   trees_at-is lp ns f h = gather-is (length lp) lp ns f h.stands (omega (arith, levels-le-size S f, size-le S lp ns f h))
-
-  join-none : (f : Trees P) → join f no_roses ≡ f
-  join-none no_roses = refl
-  join-none (more r rest) = rw (join-none rest) refl
 
   -- the tree that stands at a number is the one that is read there
   pub tree_at-is : (lp : List P) (n : Node) (t : Trees P) → StandsOnce S lp (n ∷ []) t → tree_at S lp n ≡ t

@@ -1,11 +1,11 @@
 -- The measure of a recursion over an arena, and the trees of a node's inputs by index.
-use Rattle.std.proofs.Common.{false, ◌≡◌, ℕ, zero, suc, ◌+◌, ◌<◌, ◌≤◌, List, [], ◌∷◌, length, max, refl, sym, ◌∙◌, ap, inl, inr, ◌⊎◌, arith, Some, None}
+use Rattle.std.proofs.Common.{false, ◌≡◌, ℕ, zero, suc, ◌+◌, ◌<◌, ◌≤◌, List, [], ◌∷◌, length, max, refl, sym, ◌∙◌, ap, arith, Some}
 use Rattle.std.specs.List.{slice_get}
 use Rattle.std.specs.Option.{option_map_or}
 use Rattle.plan_core.specs.declared.arena.Node.{Node}
 use Rattle.plan_tree.proofs.Numbers.{size-le}
-use Rattle.plan_tree.specs.Rose.{Rose, Roses, rose, no_roses, more, size, levels}
-use Rattle.plan_tree.specs.Stands.{Shape, Trees, Reaches, Apart, IsOnce, Stands, StandsOnce, Keeps, Rewrites}
+use Rattle.plan_tree.specs.Rose.{rose, no_roses, more, size, levels}
+use Rattle.plan_tree.specs.Stands.{Shape, Trees, Reaches, IsOnce, Stands, StandsOnce}
 
 module _ {P : Type 0} (S : Shape P) where
   abbrev pub tallest : (Node → ℕ) → List Node → ℕ

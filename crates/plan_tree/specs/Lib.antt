@@ -1,3 +1,4 @@
 pub mod Rose
 pub mod Stands
 pub mod Read
+pub mod Walk

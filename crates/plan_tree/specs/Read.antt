@@ -2,7 +2,7 @@
 use Rattle.std.specs.Prelude.{ℕ, zero, suc, List, [], ◌∷◌, slice_get, length}
 use Rattle.std.specs.Option.{option_map_or}
 use Rattle.plan_core.specs.declared.arena.Node.{Node}
-use Rattle.plan_tree.specs.Rose.{Rose, Roses, rose, no_roses, more, join}
+use Rattle.plan_tree.specs.Rose.{rose, no_roses, more, join}
 use Rattle.plan_tree.specs.Stands.{Shape, Trees}
 
 -- the trees that a function gives for each of the numbers, side by side

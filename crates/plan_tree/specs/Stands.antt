@@ -1,12 +1,16 @@
 -- The trees that the numbers of an arena stand over.
 use Rattle.std.specs.Prelude.{◌≡◌, ℕ, ◌<◌, ◌≤◌, Bool, false, List, [], ◌∷◌, Some, slice_get, length, ◌⊎◌}
 use Rattle.plan_core.specs.declared.arena.Node.{Node}
-use Rattle.plan_tree.specs.Rose.{Rose, Roses, rose, no_roses, more}
+use Rattle.plan_tree.specs.Rose.{Roses, rose, no_roses, more}
 
 -- how the entries of an arena make trees: the inputs of an entry, in order, and whether it can't stand in a tree
 pub record Shape (P : Type 0) : Type 0 where
   pub inputs : P → List Node
   pub bad : P → Bool
+
+-- the shape that these two make
+abbrev pub shape : {P : Type 0} → (P → List Node) → (P → Bool) → Shape P
+shape inputs bad = record { inputs = inputs; bad = bad }
 
 -- trees of numbered entries
 abbrev pub Trees : Type 0 → Type 0

@@ -1,2 +1,10 @@
 //! Trees that the numbers of an arena stand over, and walks over them.
 #![tactic(auto)]
+
+mod entry;
+mod levels;
+mod walking;
+
+pub use entry::Entry;
+pub use levels::levels_of;
+pub use walking::{Step, Walked, walk};

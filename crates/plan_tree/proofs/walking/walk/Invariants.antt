@@ -1,0 +1,9 @@
+use Rattle.plan_tree.proofs.WalkLemmas.{Walking, unseen}
+use Rattle.plan_tree.specs.Stands.{shape}
+use Rattle.plan_tree.proofs.walking.walk.Given as goal
+
+abbrev pub invariant-loop-step : goal.invariant-loop-step
+invariant-loop-step g l = Walking (shape g.T.Entry.inputs g.T.Entry.bad) l.arena l.fn.roots l.met.items l.listed l.pending
+
+abbrev pub decreases-loop-step : goal.decreases-loop-step
+decreases-loop-step g l = unseen l.met.items
