@@ -1,13 +1,15 @@
 -- Checks made one after another.
-use Rattle.std.proofs.Common.{◌≡◌, ℕ, zero, suc, ◌+◌, ◌<◌, ◌≤◌, Bool, true, false, not, List, [], ◌∷◌, ◌++◌, length, take, drop, Option, Some, None, refl, sym, ap, ◌∙◌, arith, add-one, add-zero, if◌then◌else◌}
+use Rattle.std.proofs.Common.{◌≡◌, ℕ, zero, suc, ◌+◌, ◌<◌, ◌≤◌, ◌^◌, ◌-◌, min, Bool, true, false, not, List, [], ◌∷◌, ◌++◌, length, take, drop, Option, Some, None, refl, sym, ap, ◌∙◌, arith, add-one, add-zero, if◌then◌else◌}
 use Rattle.std.specs.List.{slice_get}
 use Rattle.plan_core.specs.declared.arena.Node.{Node}
 use Rattle.plan_core.specs.declared.error.At.{At}
 use Rattle.plan_core.specs.declared.error.PolarsError.{PolarsError}
 use Rattle.plan_core.specs.declared.error.PolarsError.TheVariants.{Duplicate}
 use Rattle.plan_core.specs.Names.{has}
+use Rattle.plan_core.specs.Columns.{Columns}
+use Rattle.plan_core.specs.declared.data_type.DataType.{DataType}
 use Rattle.plan_meaning.specs.Exprs.{Name}
-use Rattle.plan_meaning.specs.Typing.{Check, check, each, each_new, first_fault, or_fault, at}
+use Rattle.plan_meaning.specs.Typing.{Check, check, each, each_new, all_read, has_columns, first_fault, or_fault, at}
 
 -- the items from a place on
 pub drop-at : {A : Type 0} (xs : List A) (i : ℕ) (x : A) → slice_get xs i ≡ Some x → drop i xs ≡ x ∷ drop (suc i) xs
@@ -48,9 +50,9 @@ module _ {A : Type 0} (n : Node) (fault : At → PolarsError) (k : ℕ) (holds :
   left-end i l h = sym l.same ∙ ap (λ (l : List A). first_fault n (each fault (k + i) holds l)) (drop-end xs i h)
 
 -- checks that hold, and then others
-pub fault-append : (n : Node) (cs ds : List Check) → first_fault n (cs ++ ds) ≡ or_fault (first_fault n cs) (first_fault n ds)
-fault-append n [] ds = refl
-fault-append n (c ∷ cs) ds = go c.holds (fault-append n cs ds)
+pub fault_append : (n : Node) (cs ds : List Check) → first_fault n (cs ++ ds) ≡ or_fault (first_fault n cs) (first_fault n ds)
+fault_append n [] ds = refl
+fault_append n (c ∷ cs) ds = go c.holds (fault_append n cs ds)
   where
     go : (b : Bool) → first_fault n (cs ++ ds) ≡ or_fault (first_fault n cs) (first_fault n ds) → (if b then first_fault n (cs ++ ds) else Some (c.fault (at n c.place))) ≡ or_fault (if b then first_fault n cs else Some (c.fault (at n c.place))) (first_fault n ds)
     go true e = e
@@ -61,3 +63,49 @@ pub past : {A : Type 0} (xs : List A) (i : ℕ) → slice_get xs i ≡ None → 
 past [] i e h = omega arith
 past (x ∷ xs) zero e h = cc
 past (x ∷ xs) (suc i) e h = past xs i e (omega arith)
+
+-- a place that was counted without going past the last number
+pub at-capped : (n : Node) (p q : ℕ) → p ≡ min q (2 ^ 64 - 1) → at n p ≡ at n q
+at-capped n p q e = let same : min p 4294967295 ≡ min q 4294967295 = omega arith in ap (λ (x : ℕ). record { node = Some n; place = x }) same
+
+-- the columns from a place on are read exactly where all are
+pub record ReadLeft (reads : Option (List Name)) (cs : Columns) (i : ℕ) : Type 0 where
+  pub same : all_read reads (drop i cs) ≡ all_read reads cs
+
+pub read-next : (reads : Option (List Name)) (cs : Columns) (i : ℕ) (c : Name × DataType) → ReadLeft reads cs i → slice_get cs i ≡ Some c → has_columns reads c.0 ≡ true → ReadLeft reads cs (i + 1)
+read-next reads cs i c l e good =
+    let step : all_read reads (c ∷ drop (suc i) cs) ≡ all_read reads (drop (suc i) cs) = rw good refl in
+    record { same = rw (add-one i) (sym step ∙ ap (all_read reads) (sym (drop-at cs i c e)) ∙ l.same) }
+
+pub read-bad : (reads : Option (List Name)) (cs : Columns) (i : ℕ) (c : Name × DataType) → ReadLeft reads cs i → slice_get cs i ≡ Some c → has_columns reads c.0 ≡ false → false ≡ all_read reads cs
+read-bad reads cs i c l e bad =
+    let step : all_read reads (c ∷ drop (suc i) cs) ≡ false = rw bad refl in
+    sym step ∙ ap (all_read reads) (sym (drop-at cs i c e)) ∙ l.same
+
+pub read-end : (reads : Option (List Name)) (cs : Columns) (i : ℕ) → ReadLeft reads cs i → length cs ≤ i → true ≡ all_read reads cs
+read-end reads cs i l h = ap (all_read reads) (sym (drop-end cs i h)) ∙ l.same
+
+-- no name so far is one before it, and the checks from a place on say what all of them say
+pub record NewLeft (n : Node) (k : ℕ) (names before : List Name) (i : ℕ) : Type 0 where
+  pub same : first_fault n (each_new (k + i) before (drop i names)) ≡ first_fault n (each_new k [] names)
+
+pub new-all : (n : Node) (k : ℕ) (names : List Name) → NewLeft n k names [] 0
+new-all n k names = record { same = rw add-zero refl }
+
+new_fault : (n : Node) (k : ℕ) (before names : List Name) (i : ℕ) (a : Name) → slice_get names i ≡ Some a → first_fault n (each_new k before (drop i names)) ≡ (if not (has before a) then first_fault n (each_new (suc k) (before ++ a ∷ []) (drop (suc i) names)) else Some (Duplicate (at n k)))
+new_fault n k before names i a e = ap (λ (l : List Name). first_fault n (each_new k before l)) (drop-at names i a e)
+
+pub new-next : (n : Node) (k : ℕ) (names before : List Name) (i : ℕ) (a : Name) → NewLeft n k names before i → slice_get names i ≡ Some a → has before a ≡ false → NewLeft n k names (before ++ a ∷ []) (i + 1)
+new-next n k names before i a l e new =
+    let here : suc (k + i) ≡ k + (i + 1) = omega arith in
+    let step : first_fault n (each_new (k + i) before (drop i names)) ≡ first_fault n (each_new (suc (k + i)) (before ++ a ∷ []) (drop (suc i) names)) = new_fault n (k + i) before names i a e ∙ rw new refl in
+    let now : first_fault n (each_new (suc (k + i)) (before ++ a ∷ []) (drop (suc i) names)) ≡ first_fault n (each_new (k + (i + 1)) (before ++ a ∷ []) (drop (i + 1) names)) = rw (here, add-one i) refl in
+    record { same = sym now ∙ sym step ∙ l.same }
+
+pub new-bad : (n : Node) (k : ℕ) (names before : List Name) (i : ℕ) (a : Name) → NewLeft n k names before i → slice_get names i ≡ Some a → has before a ≡ true → first_fault n (each_new k [] names) ≡ Some (Duplicate (at n (k + i)))
+new-bad n k names before i a l e old =
+    let step : first_fault n (each_new (k + i) before (drop i names)) ≡ Some (Duplicate (at n (k + i))) = new_fault n (k + i) before names i a e ∙ rw old refl in
+    sym l.same ∙ step
+
+pub new-end : (n : Node) (k : ℕ) (names before : List Name) (i : ℕ) → NewLeft n k names before i → length names ≤ i → first_fault n (each_new k [] names) ≡ None
+new-end n k names before i l h = sym l.same ∙ ap (λ (l : List Name). first_fault n (each_new (k + i) before l)) (drop-end names i h)

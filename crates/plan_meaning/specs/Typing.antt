@@ -68,8 +68,13 @@ abbrev pub each : {A : Type 0} → (At → PolarsError) → ℕ → (A → Bool)
 each fault k holds [] = []
 each fault k holds (x ∷ xs) = check fault k (holds x) ∷ each fault (suc k) holds xs
 
-abbrev pub is_known : Columns → List ℕ → Bool
+-- a name is one of the columns
+abbrev pub is_known : Columns → Name → Bool
 is_known s a = is_some (type_of s a)
+
+-- a column is one of the columns, with that type
+abbrev pub is_column : Columns → Name × DataType → Bool
+is_column s c = is_type (type_of s c.0) c.1
 
 -- no name of the list is one before it
 abbrev pub each_new : ℕ → List Name → List Name → List Check
@@ -80,9 +85,6 @@ abbrev pub same_columns : Columns → Columns → Bool
 same_columns [] [] = true
 same_columns (c ∷ cs) (d ∷ ds) = bytes_eq c.0 d.0 && same_type c.1 d.1 && same_columns cs ds
 same_columns _ _ = false
-
-abbrev pub names_of : Columns → List Name
-names_of s = map (λ (c : Name × DataType). c.0) s
 
 abbrev pub names_or : Option (List Name) → List Name → List Name
 names_or None names = names
@@ -105,16 +107,17 @@ abbrev pub projection_checks : Columns → Columns → List Check
 projection_checks cs s =
     check InvalidOperation 0 (not (is_empty cs))
     ∷ (each SchemaFieldNotFound 1 (λ (c : Name × DataType). is_known s c.0) cs
-    ++ each SchemaMismatch 1 (λ (c : Name × DataType). is_type (type_of s c.0) c.1) cs)
+    ++ each SchemaMismatch 1 (is_column s) cs)
 
-abbrev pub all_read : Option (List Name) → List Name → Bool
+-- each column is read
+abbrev pub all_read : Option (List Name) → Columns → Bool
 all_read reads [] = true
-all_read reads (a ∷ names) = has_columns reads a && all_read reads names
+all_read reads (c ∷ cs) = has_columns reads c.0 && all_read reads cs
 
 -- what a scan puts out has the files' types and is read; a scan that puts out everything reads everything
 abbrev pub put_out_checks : Option Columns → Option (List Name) → Columns → List Check
-put_out_checks None reads file = check SchemaMismatch 0 (all_read reads (names_of file)) ∷ []
-put_out_checks (Some output) reads file = each SchemaMismatch 1 (λ (c : Name × DataType). is_type (type_of file c.0) c.1 && has_columns reads c.0) output
+put_out_checks None reads file = check SchemaMismatch 0 (all_read reads file) ∷ []
+put_out_checks (Some output) reads file = each SchemaMismatch 1 (λ (c : Name × DataType). is_column file c && has_columns reads c.0) output
 
 -- a scan has a reader's columns and nothing that isn't built; what it puts out and reads are such columns, each read once; its stored columns are those of the files
 abbrev pub scan_checks : Option Named → Option Columns → FileInfo → FileScanOptions → List Check

@@ -2,9 +2,11 @@
 mod columns;
 mod filter;
 mod place;
+mod projection;
 
 
 
 pub use filter::check_filter;
+pub use projection::check_projection;
 
 

@@ -1,30 +1,140 @@
 //! Checks that go over names and columns in order.
-ghost use Rattle.std.specs.Prelude.{◌≡◌, ◌+◌, ◌<◌, ◌^◌, length, [], ◌&&◌};
-ghost use Rattle.plan_core.specs.Columns.{type_of};
+ghost use Rattle.std.specs.Prelude.{◌≡◌, ◌+◌, ◌<◌, ◌^◌, length, [], ◌&&◌, IfOk, option_map};
 ghost use Rattle.plan_core.specs.declared.error.PolarsError.TheVariants.{SchemaFieldNotFound, SchemaMismatch};
-ghost use Rattle.plan_meaning.specs.Exprs.{is_type};
-ghost use Rattle.plan_meaning.specs.Typing.{each, each_new, is_known, first_fault, Says};
+ghost use Rattle.plan_core.specs.Names.{with_names};
+ghost use Rattle.plan_meaning.specs.Typing.{all_read as are_all_read, each, each_new, has_columns, is_column as is_one, is_known, first_fault, Says};
 
 use crate::check::place::at;
-use plan_core::{Names, Node, PlSmallStr, PolarsError, PolarsResult, Schema};
+use plan_core::{DataType, Names, Node, PlSmallStr, PolarsError, PolarsResult, Schema};
 use std::alloc::Global;
 
-/// Each column's name is one of the schema's; the first column stands at a place.
-pub fn check_columns_known(
-    node: Node,
-    place: usize,
-    columns: &Schema,
-    schema: &Schema,
-) -> PolarsResult<()>
-    requires { place + length columns.now < 2 ^ 64 }
-    ensures { Says result (first_fault node (each SchemaFieldNotFound place (λ c. is_known schema.now c.0) columns.now)) }
+/// Whether the schema has the column, with that type.
+fn is_column(schema: &Schema, name: &str, dtype: DataType) -> bool
+    ensures { result ≡ is_one schema.now (name.now, dtype) }
+{
+    schema.get(name).copied() == Some(dtype)
+}
+
+/// Whether the name is among those that are read; without a list all are.
+fn is_read(reads: &Option<Names>, name: &str) -> bool
+    ensures { result ≡ has_columns reads.now name.now }
+{
+    match reads {
+        None => true,
+        Some(names) => names.contains(name),
+    }
+}
+
+/// Whether a scan can put out the column: it is there, with that type, and is read.
+fn is_put_out(schema: &Schema, reads: &Option<Names>, name: &str, dtype: DataType) -> bool
+    ensures { result ≡ (is_one schema.now (name.now, dtype) && has_columns reads.now name.now) }
+{
+    is_column(schema, name, dtype) && is_read(reads, name)
+}
+
+/// Each column's name is one of the schema's; the first column stands at place 1.
+pub fn check_columns_known(node: Node, columns: &Schema, schema: &Schema) -> PolarsResult<()>
+    ensures { Says result (first_fault node (each SchemaFieldNotFound 1 (λ c. is_known schema.now c.0) columns.now)) }
 {
     for i in 0..columns.len() {
         if let Some((name, _)) = columns.get_at_index(i) {
             if schema.get(name).is_none() {
-                return Err(PolarsError::SchemaFieldNotFound(at(node, place + i)));
+                return Err(PolarsError::SchemaFieldNotFound(at(node, 1 + i)));
             }
         }
     }
     Ok(())
+}
+
+/// Each column is one of the schema's, with its type; the first column stands at place 1.
+pub fn check_columns_typed(node: Node, columns: &Schema, schema: &Schema) -> PolarsResult<()>
+    ensures { Says result (first_fault node (each SchemaMismatch 1 (is_one schema.now) columns.now)) }
+{
+    for i in 0..columns.len() {
+        if let Some((name, dtype)) = columns.get_at_index(i) {
+            if !is_column(schema, name, *dtype) {
+                return Err(PolarsError::SchemaMismatch(at(node, 1 + i)));
+            }
+        }
+    }
+    Ok(())
+}
+
+/// Each column is one of the schema's, with its type, and is read; the first column stands at place 1.
+pub fn check_columns_read(
+    node: Node,
+    columns: &Schema,
+    schema: &Schema,
+    reads: &Option<Names>,
+) -> PolarsResult<()>
+    ensures { Says result (first_fault node (each SchemaMismatch 1 (λ c. is_one schema.now c && has_columns reads.now c.0) columns.now)) }
+{
+    for i in 0..columns.len() {
+        if let Some((name, dtype)) = columns.get_at_index(i) {
+            if !is_put_out(schema, reads, name, *dtype) {
+                return Err(PolarsError::SchemaMismatch(at(node, 1 + i)));
+            }
+        }
+    }
+    Ok(())
+}
+
+/// Each name is one of the schema's; the first name stands at a place.
+pub fn check_names_known(
+    node: Node,
+    place: usize,
+    names: &[PlSmallStr],
+    schema: &Schema,
+) -> PolarsResult<()>
+    ensures { Says result (first_fault node (each SchemaFieldNotFound place (is_known schema.now) names.now)) }
+{
+    for (i, name) in names.iter().enumerate() {
+        if schema.get(name.as_str()).is_none() {
+            return Err(PolarsError::SchemaFieldNotFound(at(node, place.saturating_add(i))));
+        }
+    }
+    Ok(())
+}
+
+/// No name is one before it; the first name stands at a place.
+pub fn check_names_new(
+    alloc: Global,
+    node: Node,
+    place: usize,
+    names: &[PlSmallStr],
+) -> PolarsResult<()>
+    ensures { Says result (first_fault node (each_new place [] names.now)) }
+{
+    let mut before = Names::new(alloc);
+    for (i, name) in names.iter().enumerate() {
+        if !before.add(name.as_str())? {
+            return Err(PolarsError::Duplicate(at(node, place.saturating_add(i))));
+        }
+    }
+    Ok(())
+}
+
+/// The names of a list, each once.
+pub fn set_of(alloc: Global, names: &[PlSmallStr]) -> PolarsResult<Names>
+    ensures { IfOk result (λ set. set ≡ with_names [] names.now) }
+{
+    let mut set = Names::new(alloc);
+    for name in names {
+        let _ = set.add(name.as_str())?;
+    }
+    Ok(set)
+}
+
+/// Whether each column of the schema is read.
+pub fn all_read(schema: &Schema, reads: &Option<Names>) -> bool
+    ensures { result ≡ are_all_read reads.now schema.now }
+{
+    for i in 0..schema.len() {
+        if let Some((name, _)) = schema.get_at_index(i) {
+            if !is_read(reads, name) {
+                return false;
+            }
+        }
+    }
+    true
 }

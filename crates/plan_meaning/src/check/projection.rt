@@ -1,0 +1,20 @@
+//! A simple projection: it has columns, and each is the input's.
+ghost use Rattle.std.specs.Prelude.{◌≡◌};
+ghost use Rattle.plan_meaning.specs.Typing.{projection_checks, first_fault, Says};
+
+use crate::check::columns::{check_columns_known, check_columns_typed};
+use crate::check::place::at;
+use plan_core::{Node, PolarsError, PolarsResult, Schema};
+
+/// Checks a simple projection over the columns of its input.
+#[tactic(auto, using(crate::proofs::CheckLemmas::fault_append))]
+pub fn check_projection(node: Node, columns: &Schema, schema: &Schema) -> PolarsResult<()>
+    ensures { Says result (first_fault node (projection_checks columns.now schema.now)) }
+{
+    if columns.len() == 0 {
+        return Err(PolarsError::InvalidOperation(at(node, 0)));
+    }
+    check_columns_known(node, columns, schema)?;
+    check_columns_typed(node, columns, schema)?;
+    Ok(())
+}
