@@ -1,3 +1,4 @@
 pub mod Lending
 pub mod Columns
 pub mod Options
+pub mod Flags

@@ -4,6 +4,7 @@
 mod arena;
 mod data_type;
 mod error;
+mod flags;
 mod items;
 mod options;
 mod schema;

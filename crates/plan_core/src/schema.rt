@@ -2,9 +2,9 @@
 ghost use Rattle.std.specs.Prelude.{◌≡◌, [], length, IfOk, OnOk, IfSome, IfNone, None, Some, slice_get, option_copied};
 ghost use Rattle.plan_core.specs.Columns.{HasDistinctNames, type_of, with_type, without};
 
-use crate::try_clone::TryClone;
 use crate::data_type::DataType;
 use crate::text::PlSmallStr;
+use crate::try_clone::TryClone;
 use indexmap::IndexMap;
 use std::alloc::{AllocError, Global};
 use std::marker::Model;
