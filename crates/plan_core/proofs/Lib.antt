@@ -1,1 +1,4 @@
 pub mod ColumnLemmas
+pub mod PlaceLemmas
+pub mod MergeLemmas
+pub mod InsertLemmas

@@ -2,3 +2,4 @@ pub mod Lending
 pub mod Columns
 pub mod Options
 pub mod Flags
+pub mod Errors
