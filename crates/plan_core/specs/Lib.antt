@@ -3,3 +3,4 @@ pub mod Columns
 pub mod Options
 pub mod Flags
 pub mod Errors
+pub mod UnitVec

@@ -10,12 +10,15 @@ mod options;
 mod schema;
 mod text;
 mod try_clone;
+mod unit_vec;
 
 pub use arena::{Arena, ColumnNode, Node};
 pub use data_type::DataType;
 pub use error::{At, PolarsError, PolarsResult};
+pub use flags::{AllowedOptimizations, OptFlags};
 pub use items::Items;
 pub use options::{FileCount, FileScanOptions, HiveOptions, RowIndex};
 pub use schema::Schema;
 pub use text::PlSmallStr;
 pub use try_clone::TryClone;
+pub use unit_vec::UnitVec;
