@@ -2,3 +2,4 @@ pub mod ColumnLemmas
 pub mod PlaceLemmas
 pub mod MergeLemmas
 pub mod InsertLemmas
+pub mod SameLemmas

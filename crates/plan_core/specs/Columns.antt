@@ -1,8 +1,10 @@
 -- Lists of names with types.
-use Rattle.std.specs.Prelude.{◌≡◌, ℕ, List, [], ◌∷◌, Option, None, Some, if◌then◌else◌, map, fold, position, slice_get}
+use Rattle.std.specs.Prelude.{◌≡◌, ℕ, Bool, ◌&&◌, nat_eq, List, [], ◌∷◌, ◌++◌, Option, None, Some, if◌then◌else◌, map, fold, position, slice_get}
 use Rattle.std.specs.Str.{bytes_eq}
 use Rattle.std.specs.List.{IsDistinct}
+use Rattle.std.specs.Cmp.Lexicographic.{pointwise}
 use Rattle.plan_core.specs.declared.data_type.DataType.{DataType}
+use Rattle.plan_core.specs.declared.data_type.DataType.TheVariants.{Int64, String, Boolean}
 
 abbrev pub Columns : Type 0
 Columns = List (List ℕ × DataType)
@@ -41,3 +43,17 @@ without (c ∷ cs) name = if bytes_eq name c.0 then cs else c ∷ without cs nam
 -- no name comes twice
 abbrev pub HasDistinctNames : Columns → Type 0
 HasDistinctNames cs = IsDistinct bytes_eq (names_of cs)
+
+-- a number for each type
+abbrev pub type_number : DataType → ℕ
+type_number Int64 = 0
+type_number String = 1
+type_number Boolean = 2
+
+-- whether two columns have one name and one type
+abbrev pub same_column : List ℕ × DataType → List ℕ × DataType → Bool
+same_column c d = bytes_eq c.0 d.0 && nat_eq (type_number c.1) (type_number d.1)
+
+-- whether two lists of columns are one
+abbrev pub same_columns : Columns → Columns → Bool
+same_columns cs ds = pointwise same_column cs ds

@@ -155,3 +155,29 @@ impl TryClone for Schema {
         Ok(copy)
     }
 }
+
+impl PartialEq for Schema {
+    ghost use Rattle.std.specs.Prelude.{◌≡◌, ◌↔◌, IsTrue, nat_eq};
+    ghost use Rattle.std.specs.Cmp.{and_per, on_per, partial_equiv_from_equiv, nat_eq_equiv};
+    ghost use Rattle.std.specs.Cmp.Lexicographic.{lists_per, nat_list_eq_equiv};
+    ghost use Rattle.plan_core.specs.Columns.{same_columns, type_number};
+
+    ghost eq = { same_columns };
+
+    ghost laws = { lists_per (and_per (on_per (λ c. c.0) (partial_equiv_from_equiv nat_list_eq_equiv)) (on_per (λ c. type_number c.1) (partial_equiv_from_equiv nat_eq_equiv))) };
+
+    fn eq(&self, other: &Self) -> bool
+        ensures value { result ≡ same_columns self.now other.now }
+        ensures same { IsTrue result ↔ (self.now ≡ other.now) }
+    {
+        self.fields.as_slice() == other.fields.as_slice()
+    }
+}
+
+impl Eq for Schema {
+    ghost use Rattle.std.specs.Cmp.{and_equiv, on_equiv, nat_eq_equiv};
+    ghost use Rattle.std.specs.Cmp.Lexicographic.{lists_equiv, nat_list_eq_equiv};
+    ghost use Rattle.plan_core.specs.Columns.{type_number};
+
+    ghost laws = { lists_equiv (and_equiv (on_equiv (λ c. c.0) nat_list_eq_equiv) (on_equiv (λ c. type_number c.1) nat_eq_equiv)) };
+}

@@ -1,10 +1,13 @@
 //! A list that keeps a single value in itself. Contracts see it as a list.
 ghost use Rattle.std.specs.Prelude.{◌≡◌, ◌++◌, ◌∷◌, [], length, IfOk, OnOk, OnErr, MatchOption};
 ghost use Rattle.std.specs.Cmp.Lexicographic.{pointwise, lists_per, lists_equiv};
+ghost use Rattle.std.specs.Hash as fed;
+ghost use Rattle.std.specs.Hash.{items_Alike};
 
 use crate::try_clone::TryClone;
 use smallvec::SmallVec;
 use std::alloc::{AllocError, Global};
+use std::hash::{Hash, Hasher};
 use std::marker::Model;
 use std::{fmt, mem};
 
@@ -134,5 +137,47 @@ fn only_value<T: Drop>(one: SmallVec<T, 1>) -> T
     match one.into_inner() {
         Ok([only]) => only,
         Err(_list) => unreachable!(),
+    }
+}
+
+impl<T: TryClone> TryClone for UnitVec<T> {
+    fn try_clone(&self, alloc: Global) -> Result<Self, AllocError>
+        ensures { IfOk result (λ r. r ≡ self.now) }
+    {
+        let mut copy = UnitVec::new(alloc);
+        for x in self.as_slice() {
+            copy.push(x.try_clone(alloc)?)?;
+        }
+        Ok(copy)
+    }
+}
+
+impl<T: PartialEq> PartialEq for UnitVec<T> {
+    ghost eq = { λ v w. pointwise T.eq v w };
+
+    ghost laws = { lists_per T.laws };
+
+    fn eq(&self, other: &Self) -> bool {
+        self.as_slice() == other.as_slice()
+    }
+}
+
+impl<T: Eq> Eq for UnitVec<T> {
+    ghost laws = { lists_equiv T.Eq.laws };
+}
+
+impl<T: Hash> Hash for UnitVec<T> {
+    ghost hash_input = { λ v. fed.slice T.hash_input v };
+
+    ghost respects_eq = { (items_Alike (record { fed = T.respects_eq })).fed };
+
+    fn hash<H: Hasher>(&self, state: &mut H) {
+        self.as_slice().hash(state);
+    }
+}
+
+impl<T: fmt::Debug> fmt::Debug for UnitVec<T> {
+    fn fmt<W: fmt::Write>(&self, f: &mut fmt::Formatter<W>) -> fmt::Result {
+        f.debug_list().entries(self.as_slice()).finish()
     }
 }
