@@ -1,5 +1,5 @@
 -- What a map with text keys says of the list of names and types.
-use Rattle.std.proofs.Common.{◌≡◌, ℕ, zero, suc, take, Bool, true, false, cond, List, [], ◌∷◌, ◌++◌, map, Option, Some, None, refl, ap, sym, ◌∙◌}
+use Rattle.std.proofs.Common.{◌≡◌, ℕ, zero, suc, take, Bool, true, false, cond, List, [], ◌∷◌, ◌++◌, map, Option, Some, refl, ap, sym, ◌∙◌}
 use Rattle.std.specs.Str.{bytes_eq}
 use Rattle.std.specs.Map.{lookup, remove_entry, keys_of}
 use Rattle.std.specs.List.{IsDistinct, AllByRecursion, slice_get}
@@ -52,7 +52,7 @@ pub with_type-last : (cs : Columns) (name : List ℕ) (d : DataType) → AllByRe
 with_type-last [] name d h = refl
 with_type-last (c ∷ cs) name d h = rw h.0 (ap (λ (x : Columns). c ∷ x) (with_type-last cs name d h.1))
 
-flip_false : (x y : List ℕ) → bytes_eq x y ≡ false → bytes_eq y x ≡ false
+pub flip_false : (x y : List ℕ) → bytes_eq x y ≡ false → bytes_eq y x ≡ false
 flip_false x y h = go (bytes_eq y x) refl
   where
     go : (b : Bool) → bytes_eq y x ≡ b → b ≡ false

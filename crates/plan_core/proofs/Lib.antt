@@ -1,2 +1,6 @@
 pub mod ColumnLemmas
 pub mod NameLemmas
+pub mod PlaceLemmas
+pub mod MergeLemmas
+pub mod InsertLemmas
+pub mod SameLemmas

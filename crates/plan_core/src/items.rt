@@ -1,13 +1,17 @@
 //! A list of values. Contracts see it as a list.
 ghost use Rattle.std.specs.Prelude.{◌≡◌, ◌<◌, ◌++◌, ◌∷◌, [], length, IfOk, OnOk, OnErr, MatchOption};
-ghost use Rattle.std.specs.Cmp.Lexicographic.{pointwise, lists_per};
+ghost use Rattle.std.specs.Cmp.Lexicographic.{pointwise, lists_per, lists_equiv};
+ghost use Rattle.std.specs.Hash as fed;
+ghost use Rattle.std.specs.Hash.{items_Alike};
 
 use crate::try_clone::TryClone;
 use std::alloc::{AllocError, Global};
+use std::fmt;
+use std::hash::{Hash, Hasher};
 use std::marker::Model;
 
 /// A list. A contract sees the list of its values.
-#[derive(Drop, Debug)]
+#[derive(Drop)]
 pub struct Items<T> {
     items: Vec<T>,
 }
@@ -82,5 +86,25 @@ impl<T: PartialEq> PartialEq for Items<T> {
 
     fn eq(&self, other: &Self) -> bool {
         self.as_slice() == other.as_slice()
+    }
+}
+
+impl<T: Eq> Eq for Items<T> {
+    ghost laws = { lists_equiv T.Eq.laws };
+}
+
+impl<T: Hash> Hash for Items<T> {
+    ghost hash_input = { λ v. fed.slice T.hash_input v };
+
+    ghost respects_eq = { (items_Alike (record { fed = T.respects_eq })).fed };
+
+    fn hash<H: Hasher>(&self, state: &mut H) {
+        self.as_slice().hash(state);
+    }
+}
+
+impl<T: fmt::Debug> fmt::Debug for Items<T> {
+    fn fmt<W: fmt::Write>(&self, f: &mut fmt::Formatter<W>) -> fmt::Result {
+        f.debug_list().entries(self.as_slice()).finish()
     }
 }

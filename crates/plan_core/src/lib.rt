@@ -4,19 +4,23 @@
 mod arena;
 mod data_type;
 mod error;
+mod flags;
 mod items;
 mod names;
 mod options;
 mod schema;
 mod text;
 mod try_clone;
+mod unit_vec;
 
 pub use arena::{Arena, ColumnNode, Node};
 pub use data_type::DataType;
 pub use error::{At, PolarsError, PolarsResult};
+pub use flags::{AllowedOptimizations, OptFlags};
 pub use items::Items;
 pub use names::Names;
 pub use options::{FileCount, FileScanOptions, HiveOptions, RowIndex};
 pub use schema::Schema;
 pub use text::PlSmallStr;
 pub use try_clone::TryClone;
+pub use unit_vec::UnitVec;

@@ -11,7 +11,7 @@ use std::alloc::{AllocError, Global};
 pub type FileCount = u32;
 
 /// A column that numbers the rows of a scan: its name, and the number of the first row.
-#[derive(Drop)]
+#[derive(Drop, PartialEq, Eq, Debug)]
 pub struct RowIndex {
     pub name: PlSmallStr,
     pub offset: u32,
@@ -29,7 +29,7 @@ impl TryClone for RowIndex {
 }
 
 /// How columns are read from the folders of a path.
-#[derive(Drop)]
+#[derive(Drop, PartialEq, Eq, Debug)]
 pub struct HiveOptions {
     pub enabled: Option<bool>,
     /// Where the folders begin in each path, in bytes.
@@ -39,7 +39,7 @@ pub struct HiveOptions {
 }
 
 /// What a scan does beside naming its sources.
-#[derive(Drop)]
+#[derive(Drop, PartialEq, Eq, Debug)]
 pub struct FileScanOptions {
     /// The first row, and how many rows.
     pub slice: Option<(i64, usize)>,
@@ -54,17 +54,6 @@ pub struct FileScanOptions {
     /// The name of a column with the path of each row.
     pub include_file_paths: Option<PlSmallStr>,
     pub allow_missing_columns: bool,
-}
-
-impl<T: TryClone> TryClone for Option<T> {
-    fn try_clone(&self, alloc: Global) -> Result<Self, AllocError>
-        ensures { IfOk result (λ r. r ≡ self.now) }
-    {
-        match self {
-            None => Ok(None),
-            Some(value) => Ok(Some(value.try_clone(alloc)?)),
-        }
-    }
 }
 
 impl TryClone for HiveOptions {

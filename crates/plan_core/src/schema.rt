@@ -1,16 +1,18 @@
 //! Columns by name, in order. Contracts see a list of names and types.
-ghost use Rattle.std.specs.Prelude.{◌≡◌, [], length, IfOk, OnOk, IfSome, IfNone, None, Some, slice_get, option_copied};
-ghost use Rattle.plan_core.specs.Columns.{HasDistinctNames, type_of, with_type, without};
+ghost use Rattle.std.specs.Prelude.{◌≡◌, ◌<◌, ◌≤◌, ◌↔◌, [], length, insert, IsSome, IfOk, IfErr, OnOk, OnErr, IfSome, IfNone, None, Some, slice_get, option_copied};
+ghost use Rattle.plan_core.specs.Columns.{HasDistinctNames, StandsAt, place_of, type_of, with_type, with_types, without};
+ghost use Rattle.plan_core.specs.Errors.{item_at};
 
-use crate::try_clone::TryClone;
 use crate::data_type::DataType;
+use crate::error::{At, PolarsError, PolarsResult};
 use crate::text::PlSmallStr;
+use crate::try_clone::TryClone;
 use indexmap::IndexMap;
 use std::alloc::{AllocError, Global};
 use std::marker::Model;
 
 /// Columns by name, in order. A contract sees the list of the names with their types.
-#[derive(Drop)]
+#[derive(Drop, Debug)]
 pub struct Schema {
     fields: IndexMap<String, DataType>,
 }
@@ -54,7 +56,45 @@ impl Schema {
         self.fields.get(name)
     }
 
+    /// The type of a column. It refuses with `SchemaFieldNotFound` at place 0, of no node,
+    /// where the column is absent.
+    pub fn try_get(&self, name: &str) -> PolarsResult<&DataType>
+        ensures found { IfOk result (λ dtype. type_of self.now name.now ≡ Some dtype.now) }
+        ensures absent { OnErr result (type_of self.now name.now ≡ None) }
+        ensures cause { IfErr result (λ error. error ≡ PolarsError.SchemaFieldNotFound (item_at 0)) }
+    {
+        match self.get(name) {
+            Some(dtype) => Ok(dtype),
+            None => Err(PolarsError::SchemaFieldNotFound(At {
+                node: None,
+                place: 0,
+            })),
+        }
+    }
+
+    /// The place of a column, counted from 0, if it is there.
+    pub fn index_of(&self, name: &str) -> Option<usize>
+        ensures place { result ≡ place_of self.now name.now }
+        ensures stands { IfSome result (StandsAt self.now name.now) }
+        ensures absent { IfNone result (type_of self.now name.now ≡ None) }
+    {
+        self.fields.get_index_of(name)
+    }
+
+    /// The name and type of a column by its place.
+    pub fn get_at_index(&self, index: usize) -> Option<(&str, &DataType)>
+        ensures found { IfSome result (λ p. slice_get self.now index ≡ Some (p.0.now, p.1.now)) }
+        ensures none { IfNone result (slice_get self.now index ≡ None) }
+        ensures within { IsSome result ↔ (index < length self.now) }
+    {
+        match self.fields.get_index(index) {
+            None => None,
+            Some((name, dtype)) => Some((name.as_str(), dtype)),
+        }
+    }
+
     /// Gives a column a type: a new one goes last, and one that is there keeps its place.
+    /// It gives the type that the column had.
     pub fn with_column(
         &mut self,
         name: PlSmallStr,
@@ -62,8 +102,35 @@ impl Schema {
     ) -> Result<Option<DataType>, AllocError>
         ensures given { IfOk result (λ old. old ≡ type_of self.old name) }
         ensures after { OnOk result (self.new ≡ with_type self.old name dtype) }
+        ensures unchanged { OnErr result (self.new ≡ self.old) }
     {
         Ok(self.fields.insert(name.into_string(), dtype)?)
+    }
+
+    /// Gives each column of the other, in order, its type there, as `with_column` does.
+    pub fn merge(&mut self, other: Schema) -> Result<(), AllocError>
+        ensures after { OnOk result (self.new ≡ with_types self.old other) }
+        ensures unchanged { OnErr result (self.new ≡ self.old) }
+    {
+        let Schema { mut fields } = other;
+        self.fields.append(&mut fields)?;
+        Ok(())
+    }
+
+    /// Puts a new column at a place, and those from there on move down.
+    pub fn insert_at_index(
+        &mut self,
+        index: usize,
+        name: PlSmallStr,
+        dtype: DataType,
+    ) -> Result<(), AllocError>
+        requires within { index ≤ length self.old }
+        requires absent { type_of self.old name ≡ None }
+        ensures after { OnOk result (self.new ≡ insert self.old index (name, dtype)) }
+        ensures unchanged { OnErr result (self.new ≡ self.old) }
+    {
+        let _ = self.fields.shift_insert(index, name.into_string(), dtype)?;
+        Ok(())
     }
 
     /// Takes a column out, and those after it move up.
@@ -72,17 +139,6 @@ impl Schema {
         ensures after { self.new ≡ without self.old name.now }
     {
         self.fields.shift_remove(name)
-    }
-
-    /// The name and type of a column by its place.
-    pub fn get_at_index(&self, index: usize) -> Option<(&str, &DataType)>
-        ensures found { IfSome result (λ p. slice_get self.now index ≡ Some (p.0.now, p.1.now)) }
-        ensures none { IfNone result (slice_get self.now index ≡ None) }
-    {
-        match self.fields.get_index(index) {
-            None => None,
-            Some((name, dtype)) => Some((name.as_str(), dtype)),
-        }
     }
 }
 
@@ -98,4 +154,30 @@ impl TryClone for Schema {
         }
         Ok(copy)
     }
+}
+
+impl PartialEq for Schema {
+    ghost use Rattle.std.specs.Prelude.{◌≡◌, ◌↔◌, IsTrue, nat_eq};
+    ghost use Rattle.std.specs.Cmp.{and_per, on_per, partial_equiv_from_equiv, nat_eq_equiv};
+    ghost use Rattle.std.specs.Cmp.Lexicographic.{lists_per, nat_list_eq_equiv};
+    ghost use Rattle.plan_core.specs.Columns.{same_columns, type_number};
+
+    ghost eq = { same_columns };
+
+    ghost laws = { lists_per (and_per (on_per (λ c. c.0) (partial_equiv_from_equiv nat_list_eq_equiv)) (on_per (λ c. type_number c.1) (partial_equiv_from_equiv nat_eq_equiv))) };
+
+    fn eq(&self, other: &Self) -> bool
+        ensures value { result ≡ same_columns self.now other.now }
+        ensures same { IsTrue result ↔ (self.now ≡ other.now) }
+    {
+        self.fields.as_slice() == other.fields.as_slice()
+    }
+}
+
+impl Eq for Schema {
+    ghost use Rattle.std.specs.Cmp.{and_equiv, on_equiv, nat_eq_equiv};
+    ghost use Rattle.std.specs.Cmp.Lexicographic.{lists_equiv, nat_list_eq_equiv};
+    ghost use Rattle.plan_core.specs.Columns.{type_number};
+
+    ghost laws = { lists_equiv (and_equiv (on_equiv (λ c. c.0) nat_list_eq_equiv) (on_equiv (λ c. type_number c.1) nat_eq_equiv)) };
 }

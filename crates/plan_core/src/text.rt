@@ -3,10 +3,12 @@ ghost use Rattle.std.specs.Prelude.{◌≡◌, IfOk, string_bytes};
 
 use crate::try_clone::TryClone;
 use std::alloc::{AllocError, Global};
+use std::fmt;
+use std::hash::{Hash, Hasher};
 use std::marker::Model;
 
 /// Owned text. A contract sees the list of its bytes.
-#[derive(Drop, Debug)]
+#[derive(Drop)]
 pub struct PlSmallStr {
     text: String,
 }
@@ -20,6 +22,7 @@ impl Model for PlSmallStr {
 }
 
 impl PlSmallStr {
+    /// A copy of a text.
     pub fn new(alloc: Global, text: &str) -> Result<Self, AllocError>
         ensures { IfOk result (λ r. r ≡ text.now) }
     {
@@ -28,6 +31,7 @@ impl PlSmallStr {
         })
     }
 
+    // The text by value.
     pub(crate) fn into_string(self) -> String
         ensures { string_bytes result ≡ self }
     {
@@ -35,6 +39,7 @@ impl PlSmallStr {
         text
     }
 
+    /// The text.
     pub fn as_str(&self) -> &str
         ensures { result.now ≡ self.now }
     {
@@ -61,5 +66,32 @@ impl PartialEq for PlSmallStr {
 
     fn eq(&self, other: &Self) -> bool {
         self.as_str() == other.as_str()
+    }
+}
+
+impl Eq for PlSmallStr {
+    ghost use Rattle.std.specs.Cmp.Lexicographic.{nat_list_eq_equiv};
+
+    ghost laws = { nat_list_eq_equiv };
+}
+
+impl Hash for PlSmallStr {
+    ghost use Rattle.std.specs.Hash as fed;
+    ghost use Rattle.std.specs.Hash.{same_Alike};
+    ghost use Rattle.std.specs.Cmp.Lexicographic.{bytes_decides};
+
+    ghost hash_input = { λ s. fed.str s };
+
+    ghost respects_eq = { (same_Alike fed.str bytes_decides).fed };
+
+    fn hash<H: Hasher>(&self, state: &mut H) {
+        self.as_str().hash(state);
+    }
+}
+
+// Written as a text is, between quotes.
+impl fmt::Debug for PlSmallStr {
+    fn fmt<W: fmt::Write>(&self, f: &mut fmt::Formatter<W>) -> fmt::Result {
+        fmt::Debug::fmt(self.as_str(), f)
     }
 }

@@ -8,3 +8,14 @@ pub trait TryClone: Drop {
     fn try_clone(&self, alloc: Global) -> Result<Self, AllocError>
         ensures { IfOk result (λ r. r ≡ self.now) };
 }
+
+impl<T: TryClone> TryClone for Option<T> {
+    fn try_clone(&self, alloc: Global) -> Result<Self, AllocError>
+        ensures { IfOk result (λ r. r ≡ self.now) }
+    {
+        match self {
+            None => Ok(None),
+            Some(value) => Ok(Some(value.try_clone(alloc)?)),
+        }
+    }
+}

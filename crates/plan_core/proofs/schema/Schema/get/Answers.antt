@@ -1,5 +1,4 @@
-use Rattle.std.proofs.Common.{◌≡◌, ◌∙◌, refl}
-use Rattle.plan_core.specs.Columns.{type_of}
+use Rattle.std.proofs.Common.{◌∙◌, refl}
 use Rattle.plan_core.proofs.ColumnLemmas.{type_of-seen}
 use Rattle.plan_core.proofs.schema.Schema.get.Goals as goal
 

@@ -1,5 +1,4 @@
-use Rattle.std.proofs.Common.{◌≡◌, ◌∙◌, ap, refl}
-use Rattle.plan_core.specs.Columns.{type_of, without}
+use Rattle.std.proofs.Common.{◌∙◌, ap, refl}
 use Rattle.plan_core.proofs.ColumnLemmas.{HasDistinctNames-seen, type_of-seen, without-seen, seen}
 use Rattle.plan_core.proofs.schema.Schema.shift_remove.Goals as goal
 

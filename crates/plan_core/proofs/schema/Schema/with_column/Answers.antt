@@ -1,6 +1,5 @@
-use Rattle.std.proofs.Common.{◌≡◌, ◌∙◌, ap, refl}
+use Rattle.std.proofs.Common.{◌∙◌, ap, refl}
 use Rattle.std.specs.Prelude.{string_bytes}
-use Rattle.plan_core.specs.Columns.{type_of, with_type}
 use Rattle.plan_core.proofs.ColumnLemmas.{HasDistinctNames-seen, type_of-seen, with_type-seen, seen}
 use Rattle.plan_core.proofs.schema.Schema.with_column.Goals as goal
 
