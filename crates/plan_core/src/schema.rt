@@ -1,5 +1,5 @@
 //! Columns by name, in order. Contracts see a list of names and types.
-ghost use Rattle.std.specs.Prelude.{◌≡◌, ◌<◌, ◌≤◌, ◌↔◌, [], length, insert, IsSome, IfOk, IfErr, OnOk, OnErr, IfSome, IfNone, None, Some, slice_get, option_copied};
+ghost use Rattle.std.specs.Prelude.{◌≡◌, ◌<◌, ◌^◌, ◌≤◌, ◌↔◌, [], length, insert, IsSome, IfOk, IfErr, OnOk, OnErr, IfSome, IfNone, None, Some, slice_get, option_copied};
 ghost use Rattle.plan_core.specs.Columns.{HasDistinctNames, StandsAt, place_of, type_of, with_type, with_types, without};
 ghost use Rattle.plan_core.specs.Errors.{item_at};
 
@@ -45,6 +45,7 @@ impl Schema {
     pub fn len(&self) -> usize
         ensures value { result ≡ length self.now }
         ensures distinct { HasDistinctNames self.now }
+        ensures small { result < 2 ^ 63 }
     {
         self.fields.len()
     }

@@ -1,2 +1,3 @@
 mod ExprSteps
 mod CheckLemmas
+mod ReadLemmas

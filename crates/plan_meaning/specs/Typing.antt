@@ -8,7 +8,7 @@ use Rattle.plan_core.specs.declared.error.PolarsError.{PolarsError}
 use Rattle.plan_core.specs.declared.error.PolarsError.TheVariants.{SchemaFieldNotFound, Duplicate, SchemaMismatch, InvalidOperation, ComputeError, OutOfMemory}
 use Rattle.plan_core.specs.declared.data_type.DataType.{DataType}
 use Rattle.plan_core.specs.declared.options.FileScanOptions.{FileScanOptions}
-use Rattle.plan_core.specs.Columns.{Columns, type_of}
+use Rattle.plan_core.specs.Columns.{Columns, type_of, same_columns}
 use Rattle.plan_core.specs.Names.{has}
 use Rattle.plan_tree.specs.Rose.{Rose, Roses, rose, no_roses, more}
 use Rattle.plan_ir.specs.declared.scan.FileInfo.{FileInfo}
@@ -81,11 +81,6 @@ abbrev pub each_new : ℕ → List Name → List Name → List Check
 each_new k before [] = []
 each_new k before (a ∷ names) = check Duplicate k (not (has before a)) ∷ each_new (suc k) (before ++ a ∷ []) names
 
-abbrev pub same_columns : Columns → Columns → Bool
-same_columns [] [] = true
-same_columns (c ∷ cs) (d ∷ ds) = bytes_eq c.0 d.0 && same_type c.1 d.1 && same_columns cs ds
-same_columns _ _ = false
-
 abbrev pub names_or : Option (List Name) → List Name → List Name
 names_or None names = names
 names_or (Some given) names = given
@@ -115,21 +110,34 @@ all_read reads [] = true
 all_read reads (c ∷ cs) = has_columns reads c.0 && all_read reads cs
 
 -- what a scan puts out has the files' types and is read; a scan that puts out everything reads everything
-abbrev pub put_out_checks : Option Columns → Option (List Name) → Columns → List Check
+unfoldable pub put_out_checks : Option Columns → Option (List Name) → Columns → List Check
 put_out_checks None reads file = check SchemaMismatch 0 (all_read reads file) ∷ []
 put_out_checks (Some output) reads file = each SchemaMismatch 1 (λ (c : Name × DataType). is_column file c && has_columns reads c.0) output
 
--- a scan has a reader's columns and nothing that isn't built; what it puts out and reads are such columns, each read once; its stored columns are those of the files
+-- what a scan puts out, and then what it reads, are columns of the files
+unfoldable pub scan_name_checks : Columns → List Name → Columns → List Check
+scan_name_checks outs reads file =
+    each SchemaFieldNotFound 1 (λ (c : Name × DataType). is_known file c.0) outs
+    ++ each SchemaFieldNotFound (suc (length outs)) (is_known file) reads
+
+-- whether a scan has a form that is built: a reader's columns, and no predicate, slice, row index or path column
+unfoldable pub is_built_scan : Option Named → FileInfo → FileScanOptions → Bool
+is_built_scan predicate info options =
+    is_some info.reader_schema && is_none predicate && is_none options.slice && is_none options.row_index && is_none options.include_file_paths
+
+-- what a scan puts out and reads are columns of its files, each read once; its stored columns are those of the files
+unfoldable pub scan_column_checks : Option Columns → Option (List Name) → Columns → Columns → List Check
+scan_column_checks output reads stored file =
+    scan_name_checks (columns_or output []) (names_or reads []) file
+    ++ (put_out_checks output reads file
+    ++ (each_new (suc (length (columns_or output []))) [] (names_or reads [])
+    ++ check SchemaMismatch 0 (same_columns stored file) ∷ []))
+
+-- a scan has a form that is built, and its columns are as they must be
 abbrev pub scan_checks : Option Named → Option Columns → FileInfo → FileScanOptions → List Check
 scan_checks predicate output info options =
-    let outs = columns_or output [] in
-    let reads = names_or options.with_columns [] in
-    check InvalidOperation 0 (is_none predicate && is_none options.slice && is_none options.row_index && is_none options.include_file_paths && is_some info.reader_schema)
-    ∷ (each SchemaFieldNotFound 1 (λ (c : Name × DataType). is_known (file_columns info) c.0) outs
-    ++ (each SchemaFieldNotFound (suc (length outs)) (is_known (file_columns info)) reads
-    ++ (put_out_checks output options.with_columns (file_columns info)
-    ++ (each_new (suc (length outs)) [] reads
-    ++ check SchemaMismatch 0 (same_columns info.schema (file_columns info)) ∷ []))))
+    check InvalidOperation 0 (is_built_scan predicate info options)
+    ∷ scan_column_checks output options.with_columns info.schema (file_columns info)
 
 abbrev pub with_none : List Columns → List Check → List Check
 with_none [] cs = cs

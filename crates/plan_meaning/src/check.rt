@@ -3,10 +3,12 @@ mod columns;
 mod filter;
 mod place;
 mod projection;
+mod scan;
 
 
 
 pub use filter::check_filter;
 pub use projection::check_projection;
+pub use scan::check_scan;
 
 

@@ -5,4 +5,4 @@ mod check;
 mod exprs;
 
 pub use exprs::{Naming, decided_name, expr_type, may_be_named, reads_only};
-pub use check::{check_filter, check_projection};
+pub use check::{check_filter, check_projection, check_scan};

@@ -6,7 +6,7 @@ ghost use Rattle.plan_meaning.specs.Typing.{all_read as are_all_read, each, each
 
 use crate::check::place::at;
 use plan_core::{DataType, Names, Node, PlSmallStr, PolarsError, PolarsResult, Schema};
-use std::alloc::Global;
+use std::alloc::{AllocError, Global};
 
 /// Whether the schema has the column, with that type.
 fn is_column(schema: &Schema, name: &str, dtype: DataType) -> bool
@@ -115,7 +115,7 @@ pub fn check_names_new(
 }
 
 /// The names of a list, each once.
-pub fn set_of(alloc: Global, names: &[PlSmallStr]) -> PolarsResult<Names>
+pub fn set_of(alloc: Global, names: &[PlSmallStr]) -> Result<Names, AllocError>
     ensures { IfOk result (λ set. set ≡ with_names [] names.now) }
 {
     let mut set = Names::new(alloc);
