@@ -8,7 +8,7 @@ use Rattle.plan_tree.specs.declared.walking.Step.{Step}
 use Rattle.plan_tree.specs.declared.walking.Walked.{Walked}
 use Rattle.plan_tree.proofs.Frames.{join-left, join-right, Reaches-join, IsOnce-join, Stands-join}
 use Rattle.plan_tree.proofs.JoinLemmas.{size-join, labels-join}
-use Rattle.plan_tree.proofs.Numbers.{size-le}
+use Rattle.plan_tree.proofs.Numbers.{differ-from_nat_eq, nat_eq-from_differ, size-le}
 use Rattle.plan_tree.proofs.WalkLemmas.{walk_on-end, walk_on-fault, walk_on-next}
 use Rattle.plan_tree.specs.Rose.{rose, no_roses, more, size, labels, join}
 use Rattle.plan_tree.specs.Stands.{Shape, Trees, Reaches, Apart, IsOnce, Stands, StandsOnce}
@@ -17,12 +17,6 @@ use Rattle.plan_tree.specs.Walk.{if_new, entry_if_new, nodes_of, steps_to, walk_
 or_false : (a b : Bool) → (a || b) ≡ false → (a ≡ false) × (b ≡ false)
 or_false true b h = cc
 or_false false b h = (refl, h)
-
-differ : (k n : ℕ) → nat_eq k n ≡ false → k ≡ n → ⊥
-differ k n h e = elim (eqb_tells k n) as (λ _. ⊥) [ inl a ↦ (let u = a.0 in cc) | inr b ↦ b.1 e ]
-
-nat_eq-differ : (k n : ℕ) → (k ≡ n → ⊥) → nat_eq k n ≡ false
-nat_eq-differ k n h = elim (eqb_tells k n) as (λ _. nat_eq k n ≡ false) [ inl a ↦ absurd (h a.1) | inr b ↦ b.0 ]
 
 module _ {W : Type 0} where
   -- the numbers of steps that come before others
@@ -110,7 +104,7 @@ module _ {P W : Type 0} (S : Shape P) where
         trees = more (rose n p parts.left) parts.right;
         stands = record {
           stands = (refl, h.entry, h.good, parts.first, parts.second);
-          once = ((λ r. differ n.0 n.0 (off n.0 (join-left S parts.left parts.right n.0 r)).0 refl), (λ r. differ n.0 n.0 (off n.0 (join-right S parts.left parts.right n.0 r)).0 refl), once.apart, once.left, once.right);
+          once = ((λ r. differ-from_nat_eq n.0 n.0 (off n.0 (join-left S parts.left parts.right n.0 r)).0 refl), (λ r. differ-from_nat_eq n.0 n.0 (off n.0 (join-right S parts.left parts.right n.0 r)).0 refl), once.apart, once.left, once.right);
         };
         fresh = λ k r. elim r as (λ _. list_any (nat_eq k) met ≡ false) [
           | inl e ↦ rw e h.off
@@ -146,8 +140,8 @@ module _ {P W : Type 0} (S : Shape P) where
       let step : walk_on S left lp (n.0 ∷ met) (steps_to s.mark (S.inputs p) ++ ss) ≡ record { listed = labels (join kids rest); fault = None } =
       walk_on-complete left lp (n.0 ∷ met) (steps_to s.mark (S.inputs p) ++ ss) (join kids rest) (rw nodes-next below)
       (λ k r. elim (Reaches-join S kids rest k r) as (λ _. (nat_eq k n.0 || list_any (nat_eq k) met) ≡ false) [
-        | inl u ↦ rw (nat_eq-differ k n.0 (λ q. h.once.0 (rw (← e, ← q) u))) (fresh k (inr (inl u)))
-        | inr v ↦ rw (nat_eq-differ k n.0 (λ q. h.once.1 (rw (← e, ← q) v))) (fresh k (inr (inr v)))
+        | inl u ↦ rw (nat_eq-from_differ k n.0 (λ q. h.once.0 (rw (← e, ← q) u))) (fresh k (inr (inl u)))
+        | inr v ↦ rw (nat_eq-from_differ k n.0 (λ q. h.once.1 (rw (← e, ← q) v))) (fresh k (inr (inr v)))
       ])
       (omega (arith, size-join kids rest)) in
       walk_on-next S left lp met s ss p new ∙ rw (step, labels-join kids rest, h.stands.0) refl
