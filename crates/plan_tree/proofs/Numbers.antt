@@ -101,19 +101,28 @@ module _ {P : Type 0} where
   length-items (more (rose n p kids) rest) = omega (arith, length-append (items kids) (items rest), length-items kids, length-items rest)
 
 module _ {P : Type 0} (S : Shape P) where
-  -- each number that is reached is in the arena
-  pub Reaches-within : (lp : List P) (ns : List Node) (f : Trees P) (k : ℕ) → Stands S lp ns f → Reaches f k → k < length lp
-  Reaches-within lp [] no_roses k s r = absurd r
-  Reaches-within lp [] (more (rose n p kids) rest) k s r = absurd s
-  Reaches-within lp (m ∷ ns) no_roses k s r = absurd s
-  Reaches-within lp (m ∷ ns) (more (rose n p kids) rest) k s r =
-      elim r as (λ _. k < length lp) [
-        | inl e ↦ (let w = slice_get_within lp m.0 p s.1 in let q : m.0 ≡ n.0 = ap (λ (x : Node). x.0) s.0 in omega arith)
-        | inr t ↦ elim t as (λ _. k < length lp) [
-          | inl u ↦ Reaches-within lp (S.inputs p) kids k s.3 u
-          | inr v ↦ Reaches-within lp ns rest k s.4 v
+  -- a number that is reached has an entry, and that can stand in a tree
+  pub record Entered (lp : List P) (k : ℕ) : Type 0 where
+    pub entry : P
+    pub is : slice_get lp k ≡ Some entry
+    pub valid : S.bad entry ≡ false
+
+  pub Reaches-entered : (lp : List P) (ns : List Node) (f : Trees P) (k : ℕ) → Stands S lp ns f → Reaches f k → Entered lp k
+  Reaches-entered lp [] no_roses k s r = absurd r
+  Reaches-entered lp [] (more (rose n p kids) rest) k s r = absurd s
+  Reaches-entered lp (m ∷ ns) no_roses k s r = absurd s
+  Reaches-entered lp (m ∷ ns) (more (rose n p kids) rest) k s r =
+      elim r as (λ _. Entered lp k) [
+        | inl e ↦ record { entry = p; is = ap (slice_get lp) (e ∙ sym (ap (λ (x : Node). x.0) s.0)) ∙ s.1; valid = s.2 }
+        | inr t ↦ elim t as (λ _. Entered lp k) [
+          | inl u ↦ Reaches-entered lp (S.inputs p) kids k s.3 u
+          | inr v ↦ Reaches-entered lp ns rest k s.4 v
         ]
       ]
+
+  -- each number that is reached is in the arena
+  pub Reaches-within : (lp : List P) (ns : List Node) (f : Trees P) (k : ℕ) → Stands S lp ns f → Reaches f k → k < length lp
+  Reaches-within lp ns f k s r = let e = Reaches-entered lp ns f k s r in slice_get_within lp k e.entry e.is
 
   -- trees that stand over an arena have no more nodes than it has entries
   pub size-le : (lp : List P) (ns : List Node) (f : Trees P) → StandsOnce S lp ns f → size f ≤ length lp

@@ -2,16 +2,16 @@
 use Rattle.std.proofs.Common.{◌≡◌, ℕ, zero, suc, ◌≤◌, Bool, true, false, ◌||◌, List, [], ◌∷◌, ◌++◌, length, refl, sym, ◌∙◌, ap, inl, inr, arith, Some, None, Option, if◌then◌else◌, ◌↔◌}
 use Rattle.std.specs.Bool.{nat_eq}
 use Rattle.std.specs.List.{slice_get, list_any}
-use Rattle.std.proofs.lemmas.Bool.Decides.{eqb_tells}
 use Rattle.plan_core.specs.declared.arena.Node.{Node}
 use Rattle.plan_tree.specs.declared.walking.Step.{Step}
 use Rattle.plan_tree.specs.declared.walking.Walked.{Walked}
 use Rattle.plan_tree.proofs.Frames.{join-left, join-right, Reaches-join, IsOnce-join, Stands-join}
 use Rattle.plan_tree.proofs.JoinLemmas.{size-join, labels-join}
 use Rattle.plan_tree.proofs.Numbers.{differ-from_nat_eq, nat_eq-from_differ, size-le}
+use Rattle.plan_tree.proofs.SplitLemmas.{Stands-split, IsOnce-split}
 use Rattle.plan_tree.proofs.WalkLemmas.{walk_on-end, walk_on-fault, walk_on-next}
 use Rattle.plan_tree.specs.Rose.{rose, no_roses, more, size, labels, join}
-use Rattle.plan_tree.specs.Stands.{Shape, Trees, Reaches, Apart, IsOnce, Stands, StandsOnce}
+use Rattle.plan_tree.specs.Stands.{Shape, Trees, Reaches, Stands, StandsOnce}
 use Rattle.plan_tree.specs.Walk.{if_new, entry_if_new, nodes_of, steps_to, walk_on, walk_from}
 
 or_false : (a b : Bool) → (a || b) ≡ false → (a ≡ false) × (b ≡ false)
@@ -28,42 +28,7 @@ module _ {W : Type 0} where
   nodes-steps w [] = refl
   nodes-steps w (n ∷ ns) = ap (λ (x : List Node). n ∷ x) (nodes-steps w ns)
 
-module _ {P : Type 0} where
-  -- what trees side by side are apart
-  pub record Once (f g : Trees P) : Type 0 where
-    pub left : IsOnce f
-    pub right : IsOnce g
-    pub apart : Apart f g
-
 module _ {P : Type 0} (S : Shape P) where
-  -- two parts of trees side by side
-  pub record Parts (lp : List P) (ns ms : List Node) (f : Trees P) : Type 0 where
-    pub left : Trees P
-    pub right : Trees P
-    pub is : f ≡ join left right
-    pub first : Stands S lp ns left
-    pub second : Stands S lp ms right
-
-  pub Stands-split : (lp : List P) (ns ms : List Node) (f : Trees P) → Stands S lp (ns ++ ms) f → Parts lp ns ms f
-  Stands-split lp [] ms f s = record { left = no_roses; right = f; is = refl; first = tt; second = s }
-  Stands-split lp (n ∷ ns) ms no_roses s = absurd s
-  Stands-split lp (n ∷ ns) ms (more (rose m p kids) rest) s =
-      let r = Stands-split lp ns ms rest s.4 in
-      record { left = more (rose m p kids) r.left; right = r.right; is = ap (λ (x : Trees P). more (rose m p kids) x) r.is; first = (s.0, s.1, s.2, s.3, r.first); second = r.second }
-
-  pub IsOnce-split : (f g : Trees P) → IsOnce (join f g) → Once f g
-  IsOnce-split no_roses g o = record { left = tt; right = o; apart = λ k a b. a }
-  IsOnce-split (more (rose n p kids) rest) g o =
-      let r = IsOnce-split rest g o.4 in
-      record {
-        left = (o.0, (λ x. o.1 (join-left S rest g n.0 x)), (λ k a b. o.2 k a (join-left S rest g k b)), o.3, r.left);
-        right = r.right;
-        apart = λ k a b. elim a as (λ _. ⊥) [
-          | inl e ↦ o.1 (join-right S rest g n.0 (rw (← e) b))
-          | inr t ↦ elim t as (λ _. ⊥) [ inl u ↦ o.2 k u (join-right S rest g k b) | inr v ↦ r.apart k v b ]
-        ];
-      }
-
   -- what an entry that is new has
   record New (lp : List P) (met : List ℕ) (n : Node) (p : P) : Type 0 where
     entry : slice_get lp n.0 ≡ Some p

@@ -10,7 +10,11 @@ use std::alloc::{AllocError, Global};
 
 /// How many levels the tallest tree over the roots has, where trees stand over them. It keeps a stack of its own.
 /// Refuses for want of memory alone.
-pub fn levels_of<T: Entry>(alloc: Global, arena: &Arena<T>, roots: &[Node]) -> Result<usize, AllocError>
+pub fn levels_of<T: Entry>(
+    alloc: Global,
+    arena: &Arena<T>,
+    roots: &[Node],
+) -> Result<usize, AllocError>
     requires { (t : Trees T) × StandsOnce (shape T.inputs T.bad) arena.now roots.now t }
     ensures { IfOk result (λ d. (t : Trees T) → StandsOnce (shape T.inputs T.bad) arena.now roots.now t → d ≡ levels t) }
 {

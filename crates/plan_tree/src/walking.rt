@@ -47,7 +47,11 @@ fn stack_steps<W: Copy>(steps: &[Step<W>], pending: &mut Items<Step<W>>) -> Resu
 }
 
 /// Appends steps to numbers, the first one last.
-pub(crate) fn stack_numbers<W: Copy>(numbers: &[Node], mark: W, pending: &mut Items<Step<W>>) -> Result<(), AllocError>
+pub(crate) fn stack_numbers<W: Copy>(
+    numbers: &[Node],
+    mark: W,
+    pending: &mut Items<Step<W>>,
+) -> Result<(), AllocError>
     ensures { OnOk result (pending.new ≡ pending.old ++ reverse (steps_to mark numbers.now)) }
 {
     for number in numbers.iter().rev() {
@@ -60,7 +64,12 @@ pub(crate) fn stack_numbers<W: Copy>(numbers: &[Node], mark: W, pending: &mut It
 }
 
 /// Appends steps to the inputs of an entry, the first one last.
-pub(crate) fn stack_inputs<T: Entry, W: Copy>(alloc: Global, entry: &T, mark: W, pending: &mut Items<Step<W>>) -> Result<(), AllocError>
+pub(crate) fn stack_inputs<T: Entry, W: Copy>(
+    alloc: Global,
+    entry: &T,
+    mark: W,
+    pending: &mut Items<Step<W>>,
+) -> Result<(), AllocError>
     ensures { OnOk result (pending.new ≡ pending.old ++ reverse (steps_to mark (T.inputs entry.now))) }
 {
     let mut inputs = Items::new(alloc);

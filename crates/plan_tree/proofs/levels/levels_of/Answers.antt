@@ -1,7 +1,7 @@
-use Rattle.std.proofs.Common.{◌≡◌, ◌<◌, ◌≤◌, ℕ, ◌+◌, max, length, sym, ◌∙◌, ap, arith, nat_cmp}
+use Rattle.std.proofs.Common.{◌≡◌, ℕ, max, ◌∙◌, ap, arith, nat_cmp}
 use Rattle.std.specs.Ordering.{ord_max}
 use Rattle.std.proofs.lemmas.Bool.Decides.{nat_tests}
-use Rattle.plan_tree.proofs.LevelLemmas.{Deep, Deep-init, Deep-end, turn, on_top, levels-fit}
+use Rattle.plan_tree.proofs.LevelLemmas.{Deep-init, Deep-end, turn, on_top, levels-fit}
 use Rattle.plan_tree.proofs.ReadLemmas.{trees_at-is}
 use Rattle.plan_tree.specs.Rose.{levels}
 use Rattle.plan_tree.specs.Stands.{shape}
