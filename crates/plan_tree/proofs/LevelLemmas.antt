@@ -1,5 +1,5 @@
 -- The loop of `levels_of`.
-use Rattle.std.proofs.Common.{◌≡◌, ℕ, zero, suc, ◌+◌, ◌<◌, ◌≤◌, List, [], ◌∷◌, ◌++◌, length, max, reverse, refl, sym, ◌∙◌, ap, arith, Some, None}
+use Rattle.std.proofs.Common.{◌≡◌, ℕ, ◌+◌, ◌<◌, ◌≤◌, List, [], ◌∷◌, ◌++◌, length, max, reverse, refl, ◌∙◌, ap, arith, Some}
 use Rattle.std.specs.List.{slice_get}
 use Rattle.std.proofs.lemmas.Option.{slice_get_within}
 use Rattle.std.proofs.lemmas.List.{reverse-append, reverse-reverse}
@@ -11,8 +11,8 @@ use Rattle.plan_tree.proofs.Numbers.{size-le}
 use Rattle.plan_tree.proofs.ReadLemmas.{gather-is, trees_at-is}
 use Rattle.plan_tree.proofs.TreeLemmas.{levels-le-size}
 use Rattle.plan_tree.proofs.WalkTrees.{nodes-next, nodes-steps}
-use Rattle.plan_tree.specs.Read.{gather, tree_within, tree_at, trees_at}
-use Rattle.plan_tree.specs.Rose.{Rose, Roses, rose, no_roses, more, size, levels, join}
+use Rattle.plan_tree.specs.Read.{trees_at}
+use Rattle.plan_tree.specs.Rose.{rose, no_roses, more, size, levels, join}
 use Rattle.plan_tree.specs.Stands.{Shape, Trees, Stands, StandsOnce}
 use Rattle.plan_tree.specs.Walk.{nodes_of, steps_to}
 

@@ -1,5 +1,6 @@
 pub mod LevelLemmas
 pub mod Numbers
+pub mod SplitLemmas
 pub mod TreeLemmas
 pub mod Frames
 pub mod JoinLemmas

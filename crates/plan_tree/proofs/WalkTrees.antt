@@ -2,27 +2,21 @@
 use Rattle.std.proofs.Common.{◌≡◌, ℕ, zero, suc, ◌≤◌, Bool, true, false, ◌||◌, List, [], ◌∷◌, ◌++◌, length, refl, sym, ◌∙◌, ap, inl, inr, arith, Some, None, Option, if◌then◌else◌, ◌↔◌}
 use Rattle.std.specs.Bool.{nat_eq}
 use Rattle.std.specs.List.{slice_get, list_any}
-use Rattle.std.proofs.lemmas.Bool.Decides.{eqb_tells}
 use Rattle.plan_core.specs.declared.arena.Node.{Node}
 use Rattle.plan_tree.specs.declared.walking.Step.{Step}
 use Rattle.plan_tree.specs.declared.walking.Walked.{Walked}
 use Rattle.plan_tree.proofs.Frames.{join-left, join-right, Reaches-join, IsOnce-join, Stands-join}
 use Rattle.plan_tree.proofs.JoinLemmas.{size-join, labels-join}
-use Rattle.plan_tree.proofs.Numbers.{size-le}
+use Rattle.plan_tree.proofs.Numbers.{differ-from_nat_eq, nat_eq-from_differ, size-le}
+use Rattle.plan_tree.proofs.SplitLemmas.{Stands-split, IsOnce-split}
 use Rattle.plan_tree.proofs.WalkLemmas.{walk_on-end, walk_on-fault, walk_on-next}
 use Rattle.plan_tree.specs.Rose.{rose, no_roses, more, size, labels, join}
-use Rattle.plan_tree.specs.Stands.{Shape, Trees, Reaches, Apart, IsOnce, Stands, StandsOnce}
+use Rattle.plan_tree.specs.Stands.{Shape, Trees, Reaches, Stands, StandsOnce}
 use Rattle.plan_tree.specs.Walk.{if_new, entry_if_new, nodes_of, steps_to, walk_on, walk_from}
 
 or_false : (a b : Bool) → (a || b) ≡ false → (a ≡ false) × (b ≡ false)
 or_false true b h = cc
 or_false false b h = (refl, h)
-
-differ : (k n : ℕ) → nat_eq k n ≡ false → k ≡ n → ⊥
-differ k n h e = elim (eqb_tells k n) as (λ _. ⊥) [ inl a ↦ (let u = a.0 in cc) | inr b ↦ b.1 e ]
-
-nat_eq-differ : (k n : ℕ) → (k ≡ n → ⊥) → nat_eq k n ≡ false
-nat_eq-differ k n h = elim (eqb_tells k n) as (λ _. nat_eq k n ≡ false) [ inl a ↦ absurd (h a.1) | inr b ↦ b.0 ]
 
 module _ {W : Type 0} where
   -- the numbers of steps that come before others
@@ -34,42 +28,7 @@ module _ {W : Type 0} where
   nodes-steps w [] = refl
   nodes-steps w (n ∷ ns) = ap (λ (x : List Node). n ∷ x) (nodes-steps w ns)
 
-module _ {P : Type 0} where
-  -- what trees side by side are apart
-  pub record Once (f g : Trees P) : Type 0 where
-    pub left : IsOnce f
-    pub right : IsOnce g
-    pub apart : Apart f g
-
 module _ {P : Type 0} (S : Shape P) where
-  -- two parts of trees side by side
-  pub record Parts (lp : List P) (ns ms : List Node) (f : Trees P) : Type 0 where
-    pub left : Trees P
-    pub right : Trees P
-    pub is : f ≡ join left right
-    pub first : Stands S lp ns left
-    pub second : Stands S lp ms right
-
-  pub Stands-split : (lp : List P) (ns ms : List Node) (f : Trees P) → Stands S lp (ns ++ ms) f → Parts lp ns ms f
-  Stands-split lp [] ms f s = record { left = no_roses; right = f; is = refl; first = tt; second = s }
-  Stands-split lp (n ∷ ns) ms no_roses s = absurd s
-  Stands-split lp (n ∷ ns) ms (more (rose m p kids) rest) s =
-      let r = Stands-split lp ns ms rest s.4 in
-      record { left = more (rose m p kids) r.left; right = r.right; is = ap (λ (x : Trees P). more (rose m p kids) x) r.is; first = (s.0, s.1, s.2, s.3, r.first); second = r.second }
-
-  pub IsOnce-split : (f g : Trees P) → IsOnce (join f g) → Once f g
-  IsOnce-split no_roses g o = record { left = tt; right = o; apart = λ k a b. a }
-  IsOnce-split (more (rose n p kids) rest) g o =
-      let r = IsOnce-split rest g o.4 in
-      record {
-        left = (o.0, (λ x. o.1 (join-left S rest g n.0 x)), (λ k a b. o.2 k a (join-left S rest g k b)), o.3, r.left);
-        right = r.right;
-        apart = λ k a b. elim a as (λ _. ⊥) [
-          | inl e ↦ o.1 (join-right S rest g n.0 (rw (← e) b))
-          | inr t ↦ elim t as (λ _. ⊥) [ inl u ↦ o.2 k u (join-right S rest g k b) | inr v ↦ r.apart k v b ]
-        ];
-      }
-
   -- what an entry that is new has
   record New (lp : List P) (met : List ℕ) (n : Node) (p : P) : Type 0 where
     entry : slice_get lp n.0 ≡ Some p
@@ -110,7 +69,7 @@ module _ {P W : Type 0} (S : Shape P) where
         trees = more (rose n p parts.left) parts.right;
         stands = record {
           stands = (refl, h.entry, h.good, parts.first, parts.second);
-          once = ((λ r. differ n.0 n.0 (off n.0 (join-left S parts.left parts.right n.0 r)).0 refl), (λ r. differ n.0 n.0 (off n.0 (join-right S parts.left parts.right n.0 r)).0 refl), once.apart, once.left, once.right);
+          once = ((λ r. differ-from_nat_eq n.0 n.0 (off n.0 (join-left S parts.left parts.right n.0 r)).0 refl), (λ r. differ-from_nat_eq n.0 n.0 (off n.0 (join-right S parts.left parts.right n.0 r)).0 refl), once.apart, once.left, once.right);
         };
         fresh = λ k r. elim r as (λ _. list_any (nat_eq k) met ≡ false) [
           | inl e ↦ rw e h.off
@@ -146,8 +105,8 @@ module _ {P W : Type 0} (S : Shape P) where
       let step : walk_on S left lp (n.0 ∷ met) (steps_to s.mark (S.inputs p) ++ ss) ≡ record { listed = labels (join kids rest); fault = None } =
       walk_on-complete left lp (n.0 ∷ met) (steps_to s.mark (S.inputs p) ++ ss) (join kids rest) (rw nodes-next below)
       (λ k r. elim (Reaches-join S kids rest k r) as (λ _. (nat_eq k n.0 || list_any (nat_eq k) met) ≡ false) [
-        | inl u ↦ rw (nat_eq-differ k n.0 (λ q. h.once.0 (rw (← e, ← q) u))) (fresh k (inr (inl u)))
-        | inr v ↦ rw (nat_eq-differ k n.0 (λ q. h.once.1 (rw (← e, ← q) v))) (fresh k (inr (inr v)))
+        | inl u ↦ rw (nat_eq-from_differ k n.0 (λ q. h.once.0 (rw (← e, ← q) u))) (fresh k (inr (inl u)))
+        | inr v ↦ rw (nat_eq-from_differ k n.0 (λ q. h.once.1 (rw (← e, ← q) v))) (fresh k (inr (inr v)))
       ])
       (omega (arith, size-join kids rest)) in
       walk_on-next S left lp met s ss p new ∙ rw (step, labels-join kids rest, h.stands.0) refl

@@ -1,5 +1,5 @@
 -- The trees that the numbers of an arena stand over.
-use Rattle.std.specs.Prelude.{◌≡◌, ℕ, ◌<◌, ◌≤◌, Bool, false, List, [], ◌∷◌, Some, slice_get, length, ◌⊎◌}
+use Rattle.std.specs.Prelude.{map, ◌≡◌, ℕ, ◌<◌, ◌≤◌, Bool, false, List, [], ◌∷◌, Some, slice_get, length, ◌⊎◌}
 use Rattle.plan_core.specs.declared.arena.Node.{Node}
 use Rattle.plan_tree.specs.Rose.{Roses, rose, no_roses, more}
 
@@ -15,6 +15,10 @@ shape inputs bad = record { inputs = inputs; bad = bad }
 -- trees of numbered entries
 abbrev pub Trees : Type 0 → Type 0
 Trees P = Roses Node P
+
+-- the numbers themselves
+abbrev pub numbers : List Node → List ℕ
+numbers ns = map (λ n. n.0) ns
 
 module _ {P : Type 0} where
   -- the number k stands in the trees

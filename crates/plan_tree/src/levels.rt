@@ -10,17 +10,22 @@ use std::alloc::{AllocError, Global};
 
 /// How many levels the tallest tree over the roots has, where trees stand over them. It keeps a stack of its own.
 /// Refuses for want of memory alone.
-pub fn levels_of<T: Entry>(alloc: Global, arena: &Arena<T>, roots: &[Node]) -> Result<usize, AllocError>
+pub fn levels_of<T: Entry>(
+    alloc: Global,
+    arena: &Arena<T>,
+    roots: &[Node],
+) -> Result<usize, AllocError>
     requires { (t : Trees T) × StandsOnce (shape T.inputs T.bad) arena.now roots.now t }
-    ensures { IfOk result (λ d. (t : Trees T) → StandsOnce (shape T.inputs T.bad) arena.now roots.now t → d ≡ levels t) }
+    ensures { IfOk result (λ d. (t : Trees T)
+        → StandsOnce (shape T.inputs T.bad) arena.now roots.now t
+        → d ≡ levels t) }
 {
-    let mut deepest = 0;
+    let mut deepest: usize = 0;
     let mut pending = Items::new(alloc);
     stack_numbers(roots, 1, &mut pending)?;
     while let Some(step) = pending.pop() {
-        let level: usize = step.mark;
-        deepest = deepest.max(level);
-        stack_inputs(alloc, arena.get(step.node), level + 1, &mut pending)?;
+        deepest = deepest.max(step.mark);
+        stack_inputs(alloc, arena.get(step.node), step.mark + 1, &mut pending)?;
     }
     Ok(deepest)
 }

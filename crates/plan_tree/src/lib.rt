@@ -8,3 +8,6 @@ mod walking;
 pub use entry::Entry;
 pub use levels::levels_of;
 pub use walking::{Step, Walked, walk};
+
+#[cfg(test)]
+mod tests;

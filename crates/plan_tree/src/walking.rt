@@ -11,7 +11,9 @@ use std::alloc::{AllocError, Global};
 /// A number that a walk comes to, with the mark of the root that it comes from.
 #[derive(Clone, Copy, Debug)]
 pub struct Step<W> {
+    /// The number.
     pub node: Node,
+    /// What the root is marked with: whatever tells the caller where it stood.
     pub mark: W,
 }
 
@@ -27,7 +29,8 @@ pub struct Walked<W> {
 /// The entry at a number, unless the number is outside the arena or was met before or the entry is bad.
 fn new_entry<'a, T: Entry>(arena: &'a Arena<T>, met: &[bool], node: Node) -> Option<&'a T>
     requires { length met.now ≡ length arena.now }
-    ensures { MatchOption result (entry_if_new (shape T.inputs T.bad) arena.now (get_or met.now node.0 true) node ≡ None) (λ e. entry_if_new (shape T.inputs T.bad) arena.now (get_or met.now node.0 true) node ≡ Some e.now) }
+    ensures { let found = entry_if_new (shape T.inputs T.bad) arena.now (get_or met.now node.0 true) node in
+        MatchOption result (found ≡ None) (λ e. found ≡ Some e.now) }
 {
     if node.0 >= met.len() || met[node.0] {
         return None;
@@ -47,7 +50,11 @@ fn stack_steps<W: Copy>(steps: &[Step<W>], pending: &mut Items<Step<W>>) -> Resu
 }
 
 /// Appends steps to numbers, the first one last.
-pub(crate) fn stack_numbers<W: Copy>(numbers: &[Node], mark: W, pending: &mut Items<Step<W>>) -> Result<(), AllocError>
+pub(crate) fn stack_numbers<W: Copy>(
+    numbers: &[Node],
+    mark: W,
+    pending: &mut Items<Step<W>>,
+) -> Result<(), AllocError>
     ensures { OnOk result (pending.new ≡ pending.old ++ reverse (steps_to mark numbers.now)) }
 {
     for number in numbers.iter().rev() {
@@ -60,7 +67,12 @@ pub(crate) fn stack_numbers<W: Copy>(numbers: &[Node], mark: W, pending: &mut It
 }
 
 /// Appends steps to the inputs of an entry, the first one last.
-pub(crate) fn stack_inputs<T: Entry, W: Copy>(alloc: Global, entry: &T, mark: W, pending: &mut Items<Step<W>>) -> Result<(), AllocError>
+pub(crate) fn stack_inputs<T: Entry, W: Copy>(
+    alloc: Global,
+    entry: &T,
+    mark: W,
+    pending: &mut Items<Step<W>>,
+) -> Result<(), AllocError>
     ensures { OnOk result (pending.new ≡ pending.old ++ reverse (steps_to mark (T.inputs entry.now))) }
 {
     let mut inputs = Items::new(alloc);
@@ -76,8 +88,11 @@ pub fn walk<T: Entry, W: Copy>(
     roots: &[Step<W>],
 ) -> Result<Walked<W>, AllocError>
     ensures walked { IfOk result (λ w. w ≡ walk_from (shape T.inputs T.bad) arena.now roots.now) }
-    ensures stands { IfOk result (λ w. (w.fault ≡ None) ↔ ((t : Trees T) × StandsOnce (shape T.inputs T.bad) arena.now (nodes_of roots.now) t)) }
-    ensures in_order { IfOk result (λ w. (t : Trees T) → StandsOnce (shape T.inputs T.bad) arena.now (nodes_of roots.now) t → w.listed ≡ labels t) }
+    ensures stands { IfOk result (λ w. (w.fault ≡ None)
+        ↔ ((t : Trees T) × StandsOnce (shape T.inputs T.bad) arena.now (nodes_of roots.now) t)) }
+    ensures in_order { IfOk result (λ w. (t : Trees T)
+        → StandsOnce (shape T.inputs T.bad) arena.now (nodes_of roots.now) t
+        → w.listed ≡ labels t) }
 {
     let mut met = vec![in alloc; false; arena.len()]?;
     let mut listed = Items::new(alloc);

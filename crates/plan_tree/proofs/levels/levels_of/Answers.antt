@@ -1,14 +1,9 @@
-use Rattle.std.proofs.Common.{◌≡◌, ◌<◌, ◌≤◌, ℕ, ◌+◌, max, length, sym, ◌∙◌, ap, arith, nat_cmp}
-use Rattle.std.specs.Ordering.{ord_max}
-use Rattle.std.proofs.lemmas.Bool.Decides.{nat_tests}
-use Rattle.plan_tree.proofs.LevelLemmas.{Deep, Deep-init, Deep-end, turn, on_top, levels-fit}
+use Rattle.std.proofs.Common.{◌∙◌, ap, arith}
+use Rattle.plan_tree.proofs.LevelLemmas.{Deep-init, Deep-end, turn, on_top, levels-fit}
 use Rattle.plan_tree.proofs.ReadLemmas.{trees_at-is}
 use Rattle.plan_tree.specs.Rose.{levels}
 use Rattle.plan_tree.specs.Stands.{shape}
 use Rattle.plan_tree.proofs.levels.levels_of.Goals as goal
-
-larger : (a b : ℕ) → ord_max nat_cmp a b ≡ max a b
-larger a b = grind (arith, nat_tests)
 
 pub loop-step-init : goal.loop-step-init
 loop-step-init g c = rw (c.in_ok-stack_numbers.ensures, c.new-pending.ensures) (Deep-init (shape g.T.Entry.inputs g.T.Entry.bad) c.args.arena.now c.args.roots.now c.requires)
@@ -16,8 +11,8 @@ loop-step-init g c = rw (c.in_ok-stack_numbers.ensures, c.new-pending.ensures) (
 pub get-requires : goal.get-requires
 get-requires g c = (on_top (shape g.T.Entry.inputs g.T.Entry.bad) c.args.arena.now c.args.roots.now c.loop-step.deepest c.in-Some.step c.loop-step.pending c.pop.new.self c.in-Some.ensures c.loop-step.invariant).0
 
-pub overflow_add-level : goal.overflow_add-level
-overflow_add-level g c =
+pub overflow_add-step : goal.overflow_add-step
+overflow_add-step g c =
     let low = on_top (shape g.T.Entry.inputs g.T.Entry.bad) c.args.arena.now c.args.roots.now c.loop-step.deepest c.in-Some.step c.loop-step.pending c.pop.new.self c.in-Some.ensures c.loop-step.invariant in
     let fits = levels-fit (shape g.T.Entry.inputs g.T.Entry.bad) c.args.arena.now c.args.roots.now c.requires in
     omega (arith, c.get.ensures.small, low.1, fits)
@@ -26,7 +21,7 @@ pub loop-step-smaller : goal.loop-step-smaller
 loop-step-smaller g c = (turn (shape g.T.Entry.inputs g.T.Entry.bad) c.args.arena.now c.args.roots.now c.loop-step.deepest c.in-Some.step c.loop-step.pending c.pop.new.self c.stack_inputs.new.pending c.get.result.now c.in-Some.ensures c.loop-step.invariant c.get.ensures.entry c.in_ok-stack_inputs.ensures).falls
 
 pub loop-step-preserved : goal.loop-step-preserved
-loop-step-preserved g c = rw (c.max-deepest.ensures ∙ larger c.loop-step.deepest c.in-Some.step.mark) (turn (shape g.T.Entry.inputs g.T.Entry.bad) c.args.arena.now c.args.roots.now c.loop-step.deepest c.in-Some.step c.loop-step.pending c.pop.new.self c.stack_inputs.new.pending c.get.result.now c.in-Some.ensures c.loop-step.invariant c.get.ensures.entry c.in_ok-stack_inputs.ensures).next
+loop-step-preserved g c = rw c.max-deepest.ensures (turn (shape g.T.Entry.inputs g.T.Entry.bad) c.args.arena.now c.args.roots.now c.loop-step.deepest c.in-Some.step c.loop-step.pending c.pop.new.self c.stack_inputs.new.pending c.get.result.now c.in-Some.ensures c.loop-step.invariant c.get.ensures.entry c.in_ok-stack_inputs.ensures).next
 
 pub returns : goal.returns
 returns g c = λ t h. Deep-end (shape g.T.Entry.inputs g.T.Entry.bad) c.args.arena.now c.args.roots.now c.loop-step.deepest (rw c.in_default.ensures.0 at c.loop-step.invariant) ∙ ap levels (trees_at-is (shape g.T.Entry.inputs g.T.Entry.bad) c.args.arena.now c.args.roots.now t h)
