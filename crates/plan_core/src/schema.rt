@@ -1,10 +1,13 @@
 //! Columns by name, in order. Contracts see a list of names and types.
-ghost use Rattle.std.specs.Prelude.{◌≡◌, ◌<◌, ◌^◌, ◌≤◌, ◌↔◌, [], length, insert, IsSome, IfOk, IfErr, OnOk, OnErr, IfSome, IfNone, None, Some, slice_get, option_copied};
+ghost use Rattle.std.specs.Prelude.{◌≡◌, ◌<◌, ◌^◌, ◌≤◌, ◌↔◌, [], length, insert, IsSome, IfOk, IfErr, OnOk, OnErr, IfSome, IfNone, None, Some, slice_get, option_copied, List, ℕ};
+ghost use Rattle.std.specs.Map.Iter.{ShowsInOrder, deref_pair};
+ghost use Rattle.plan_core.specs.declared.data_type.DataType.{DataType};
 ghost use Rattle.plan_core.specs.Columns.{HasDistinctNames, StandsAt, place_of, type_of, with_type, with_types, without};
 ghost use Rattle.plan_core.specs.Errors.{item_at};
 
 use crate::data_type::DataType;
 use crate::error::{At, PolarsError, PolarsResult};
+use crate::schema_iter::SchemaIter;
 use crate::text::PlSmallStr;
 use crate::try_clone::TryClone;
 use indexmap::IndexMap;
@@ -92,6 +95,16 @@ impl Schema {
             None => None,
             Some((name, dtype)) => Some((name.as_str(), dtype)),
         }
+    }
+
+    /// The columns in order, each by its name and type.
+    pub fn iter(&self) -> SchemaIter<'_>
+        ensures rest { result ≡ self.now }
+        ensures len { length result ≡ length self.now }
+        ensures runs { ShowsInOrder (deref_pair {K = List ℕ} {X = DataType}) }
+        ensures distinct { HasDistinctNames self.now }
+    {
+        SchemaIter::new(self.fields.iter())
     }
 
     /// Gives a column a type: a new one goes last, and one that is there keeps its place.

@@ -1,5 +1,4 @@
-use Rattle.std.proofs.Common.{◌≡◌, ◌∙◌, refl}
-use Rattle.plan_core.specs.Columns.{same_columns}
+use Rattle.std.proofs.Common.{◌∙◌, refl}
 use Rattle.plan_core.proofs.SameLemmas.{same_columns-Decides, same_columns-seen}
 use Rattle.plan_core.proofs.schema.SchemaPartialEq.eq.Goals as goal
 
