@@ -1,0 +1,11 @@
+//! The texts of plans, listings and errors.
+#![tactic(auto)]
+
+mod kinds;
+mod lists;
+mod objects;
+mod parts;
+mod plan;
+mod texts;
+
+pub use texts::{write_fault, write_listing, write_plan};
