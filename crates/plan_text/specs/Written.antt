@@ -1,5 +1,5 @@
 -- The JSON values of plans, listings and errors, and their texts: members in the byte order of their keys.
-use Rattle.std.specs.Prelude.{ℕ, ℤ, List, [], ◌∷◌, ◌++◌, map, Bool, Option, Some, None, codes}
+use Rattle.std.specs.Prelude.{ℕ, ℤ, List, [], ◌∷◌, ◌++◌, map, Option, Some, None, codes}
 use Rattle.serde_json.specs.Data as json
 use Rattle.serde_json.specs.Data.{Data, unsigned, number, boolean, string, array, object, no_items, item, no_members, member}
 use Rattle.serde_json.specs.Find.{of_integer}
@@ -14,7 +14,6 @@ use Rattle.plan_core.specs.declared.options.RowIndex.{RowIndex}
 use Rattle.plan_ir.specs.declared.expr.AExpr.{AExpr}
 use Rattle.plan_ir.specs.declared.expr.AExpr.TheVariants as exprs
 use Rattle.plan_ir.specs.declared.expr.ExprIR.{ExprIR}
-use Rattle.plan_ir.specs.declared.expr.LiteralValue.{LiteralValue}
 use Rattle.plan_ir.specs.declared.expr.LiteralValue.TheVariants as literals
 use Rattle.plan_ir.specs.declared.expr.OutputName.{OutputName}
 use Rattle.plan_ir.specs.declared.expr.OutputName.TheVariants as names

@@ -4,4 +4,4 @@ use Rattle.plan_text.proofs.ListLemmas.{each_is_written}
 use Rattle.plan_text.proofs.parts.names.Goals as goal
 
 pub returns : goal.returns
-returns c = each_is_written string c.in_ok-written.ensures (λ x r p. search rules)
+returns c = rw (← c.as_slice.ensures) (each_is_written string c.in_ok-written.ensures (λ x r p. search rules))
