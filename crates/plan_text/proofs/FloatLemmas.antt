@@ -61,8 +61,17 @@ expr_plain (exprs.BinaryExpr left op right) = refl
 scan_plain : (from : ScanSources) (info : FileInfo) (predicate : Option ExprIR) (output : Option Columns) (format : FileScan) (options : FileScanOptions) → IsPlain (scan_data from info predicate output format options)
 unfolding scan_data
 scan_plain from info predicate output format options =
-    rw (nullable_plain names_data options.with_columns names_plain, nullable_plain columns_data output columns_plain, nullable_plain string options.include_file_paths (λ n. refl), nullable_plain output_data predicate output_plain,
-    nullable_plain columns_data info.reader_schema columns_plain, nullable_plain row_index_data options.row_index (λ r. refl), columns_plain info.schema, nullable_plain slice_data options.slice slice_plain, sources_plain from) refl
+    rw (
+      nullable_plain names_data options.with_columns names_plain,
+      nullable_plain columns_data output columns_plain,
+      nullable_plain string options.include_file_paths (λ n. refl),
+      nullable_plain output_data predicate output_plain,
+      nullable_plain columns_data info.reader_schema columns_plain,
+      nullable_plain row_index_data options.row_index (λ r. refl),
+      columns_plain info.schema,
+      nullable_plain slice_data options.slice slice_plain,
+      sources_plain from,
+    ) refl
 
 node_plain : (n : IR) → IsPlain (node_data n)
 unfolding node_data

@@ -97,19 +97,19 @@ expr_data (exprs.BinaryExpr left op right) = object (member (codes "left") (link
 -- a scan
 unfoldable pub scan_data : ScanSources → FileInfo → Option ExprIR → Option Columns → FileScan → FileScanOptions → Data
 scan_data from info predicate output format options = object (
-  member (codes "columns") (nullable_data names_data options.with_columns) (
-  member (codes "hive") json.null (
-  member (codes "kind") (string (format_text format)) (
-  member (codes "op") (string (codes "Scan")) (
-  member (codes "output") (nullable_data columns_data output) (
-  member (codes "path_column") (nullable_data string options.include_file_paths) (
-  member (codes "predicate") (nullable_data output_data predicate) (
-  member (codes "reader") (nullable_data columns_data info.reader_schema) (
-  member (codes "rechunk") (boolean options.rechunk) (
-  member (codes "row_index") (nullable_data row_index_data options.row_index) (
-  member (codes "schema") (columns_data info.schema) (
-  member (codes "slice") (nullable_data slice_data options.slice) (
-  member (codes "sources") (sources_data from) no_members)))))))))))))
+    member (codes "columns") (nullable_data names_data options.with_columns) (
+    member (codes "hive") json.null (
+    member (codes "kind") (string (format_text format)) (
+    member (codes "op") (string (codes "Scan")) (
+    member (codes "output") (nullable_data columns_data output) (
+    member (codes "path_column") (nullable_data string options.include_file_paths) (
+    member (codes "predicate") (nullable_data output_data predicate) (
+    member (codes "reader") (nullable_data columns_data info.reader_schema) (
+    member (codes "rechunk") (boolean options.rechunk) (
+    member (codes "row_index") (nullable_data row_index_data options.row_index) (
+    member (codes "schema") (columns_data info.schema) (
+    member (codes "slice") (nullable_data slice_data options.slice) (
+    member (codes "sources") (sources_data from) no_members)))))))))))))
 
 -- a node
 unfoldable pub node_data : IR → Data

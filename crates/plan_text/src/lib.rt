@@ -6,6 +6,8 @@ mod lists;
 mod objects;
 mod parts;
 mod plan;
+#[cfg(test)]
+mod tests;
 mod texts;
 
 pub use texts::{write_fault, write_listing, write_plan};

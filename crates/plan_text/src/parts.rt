@@ -84,10 +84,7 @@ pub fn optional_columns(alloc: Global, given: &Option<Schema>) -> Result<Value, 
     }
 }
 
-pub fn optional_names(
-    alloc: Global,
-    given: &Option<Items<PlSmallStr>>,
-) -> Result<Value, AllocError>
+pub fn optional_names(alloc: Global, given: &Option<Items<PlSmallStr>>) -> Result<Value, AllocError>
     ensures { IfOk result (λ v. view v ≡ nullable_data names_data given.now) }
 {
     match given {

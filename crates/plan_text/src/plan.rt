@@ -70,13 +70,24 @@ fn scan(
         row_index,
         schema,
         slice,
-        sources
+        sources,
     ]?;
     object(
         alloc,
         &[
-            "columns", "hive", "kind", "op", "output", "path_column", "predicate", "reader",
-            "rechunk", "row_index", "schema", "slice", "sources",
+            "columns",
+            "hive",
+            "kind",
+            "op",
+            "output",
+            "path_column",
+            "predicate",
+            "reader",
+            "rechunk",
+            "row_index",
+            "schema",
+            "slice",
+            "sources",
         ],
         values,
     )

@@ -30,11 +30,7 @@ fn reads_value(alloc: Global, reads: &[Items<PlSmallStr>]) -> Result<Value, Allo
 }
 
 #[tactic(auto, unfolding(crate::specs::Written::listing_data))]
-fn listing(
-    alloc: Global,
-    plan: &PlanCopy,
-    reads: &[Items<PlSmallStr>],
-) -> Result<Value, AllocError>
+fn listing(alloc: Global, plan: &PlanCopy, reads: &[Items<PlSmallStr>]) -> Result<Value, AllocError>
     ensures { IfOk result (λ v. view v
         ≡ listing_data plan.now.lp plan.now.ex plan.now.root reads.now) }
 {
