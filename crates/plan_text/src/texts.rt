@@ -1,7 +1,8 @@
 //! The texts that are written.
-ghost use Rattle.std.specs.Prelude.{◌≡◌, IfOk, string_bytes};
+ghost use Rattle.std.specs.Prelude.{◌≡◌, IfOk, false, string_bytes};
 ghost use Rattle.serde_json.specs.View.{view};
-ghost use Rattle.plan_text.specs.Written.{names_data, list_data, listing_data, fault_data, plan_text, listing_text, error_text};
+ghost use Rattle.serde_json.specs.Written.{has_float};
+ghost use Rattle.plan_text.specs.Written.{names_data, list_data, listing_data, fault_data, line_of, plan_text, listing_text, error_text};
 
 use crate::kinds::{fault_name, place};
 use crate::lists::each;
@@ -20,6 +21,16 @@ pub fn write_plan(alloc: Global, plan: &PlanCopy) -> Result<String, AllocError>
 {
     let value = plan_value(alloc, plan)?;
     value.to_string(alloc)
+}
+
+/// The text of a value that has no float, and a line feed.
+fn line(alloc: Global, value: &Value) -> Result<String, AllocError>
+    requires { has_float (view value.now) ≡ false }
+    ensures { IfOk result (λ s. string_bytes s ≡ line_of (view value.now)) }
+{
+    let mut text = value.to_string(alloc)?;
+    text.push_str("\n")?;
+    Ok(text)
 }
 
 fn reads_value(alloc: Global, reads: &[Items<PlSmallStr>]) -> Result<Value, AllocError>
@@ -51,9 +62,7 @@ pub fn write_listing(
         ≡ listing_text plan.now.lp plan.now.ex plan.now.root reads.now) }
 {
     let value = listing(alloc, plan, reads)?;
-    let mut text = value.to_string(alloc)?;
-    text.push_str("\n")?;
-    Ok(text)
+    line(alloc, &value)
 }
 
 #[tactic(auto, unfolding(crate::specs::Written::fault_data))]
@@ -73,7 +82,5 @@ pub fn write_fault(alloc: Global, error: &PolarsError) -> Result<String, AllocEr
     ensures { IfOk result (λ s. string_bytes s ≡ error_text error.now) }
 {
     let value = fault(alloc, error)?;
-    let mut text = value.to_string(alloc)?;
-    text.push_str("\n")?;
-    Ok(text)
+    line(alloc, &value)
 }
