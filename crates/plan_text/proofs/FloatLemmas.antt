@@ -1,0 +1,93 @@
+-- No plan, listing or error has a float, so its text is known.
+use Rattle.std.proofs.Common.{◌≡◌, ℕ, ℤ, pos, negsuc, List, [], ◌∷◌, false, Option, Some, None, refl}
+use Rattle.serde_json.specs.Data.{Data, string}
+use Rattle.serde_json.specs.Written.{has_float}
+use Rattle.plan_core.specs.Columns.{Columns}
+use Rattle.plan_core.specs.declared.arena.Node.{Node}
+use Rattle.plan_core.specs.declared.error.PolarsError.{PolarsError}
+use Rattle.plan_core.specs.declared.options.FileScanOptions.{FileScanOptions}
+use Rattle.plan_ir.specs.declared.expr.AExpr.{AExpr}
+use Rattle.plan_ir.specs.declared.expr.AExpr.TheVariants as exprs
+use Rattle.plan_ir.specs.declared.expr.ExprIR.{ExprIR}
+use Rattle.plan_ir.specs.declared.expr.LiteralValue.TheVariants as literals
+use Rattle.plan_ir.specs.declared.ir.IR.{IR}
+use Rattle.plan_ir.specs.declared.ir.IR.TheVariants as nodes
+use Rattle.plan_ir.specs.declared.scan.FileInfo.{FileInfo}
+use Rattle.plan_ir.specs.declared.scan.FileScan.{FileScan}
+use Rattle.plan_ir.specs.declared.scan.ScanSources.{ScanSources}
+use Rattle.plan_ir.specs.declared.scan.ScanSources.TheVariants as sources
+use Rattle.plan_text.specs.Kinds.{place_of}
+use Rattle.plan_text.specs.Written.{link_data, integer_data, list_data, nullable_data, field_data, columns_data, names_data, output_data, slice_data, row_index_data, sources_data, expr_data, scan_data, node_data, plan_data, listing_data, fault_data}
+
+-- the value has no float
+abbrev IsPlain : Data → Type 0
+IsPlain d = has_float d ≡ false
+
+integer_plain : (z : ℤ) → IsPlain (integer_data z)
+integer_plain (pos n) = refl
+integer_plain (negsuc n) = refl
+
+list_plain : {A : Type 0} (f : A → Data) (xs : List A) → ((x : A) → IsPlain (f x)) → IsPlain (list_data f xs)
+unfolding list_data
+list_plain f [] each = refl
+list_plain f (x ∷ xs) each = rw (each x, list_plain f xs each) refl
+
+nullable_plain : {A : Type 0} (f : A → Data) (o : Option A) → ((x : A) → IsPlain (f x)) → IsPlain (nullable_data f o)
+nullable_plain f None each = refl
+nullable_plain f (Some x) each = each x
+
+output_plain : (e : ExprIR) → IsPlain (output_data e)
+unfolding output_data
+output_plain e = refl
+
+names_plain : (ns : List (List ℕ)) → IsPlain (names_data ns)
+names_plain ns = list_plain string ns (λ n. refl)
+
+columns_plain : (cs : Columns) → IsPlain (columns_data cs)
+columns_plain cs = list_plain field_data cs (λ f. refl)
+
+sources_plain : (s : ScanSources) → IsPlain (sources_data s)
+sources_plain (sources.Paths ps) = rw (names_plain ps) refl
+
+slice_plain : (s : ℤ × ℕ) → IsPlain (slice_data s)
+slice_plain s = rw (integer_plain s.0) refl
+
+expr_plain : (e : AExpr) → IsPlain (expr_data e)
+unfolding expr_data
+expr_plain (exprs.Column s) = refl
+expr_plain (exprs.Literal (literals.Int64 z)) = rw (integer_plain z) refl
+expr_plain (exprs.BinaryExpr left op right) = refl
+
+scan_plain : (from : ScanSources) (info : FileInfo) (predicate : Option ExprIR) (output : Option Columns) (format : FileScan) (options : FileScanOptions) → IsPlain (scan_data from info predicate output format options)
+unfolding scan_data
+scan_plain from info predicate output format options =
+    rw (
+      nullable_plain names_data options.with_columns names_plain,
+      nullable_plain columns_data output columns_plain,
+      nullable_plain string options.include_file_paths (λ n. refl),
+      nullable_plain output_data predicate output_plain,
+      nullable_plain columns_data info.reader_schema columns_plain,
+      nullable_plain row_index_data options.row_index (λ r. refl),
+      columns_plain info.schema,
+      nullable_plain slice_data options.slice slice_plain,
+      sources_plain from,
+    ) refl
+
+node_plain : (n : IR) → IsPlain (node_data n)
+unfolding node_data
+node_plain (nodes.Filter input predicate) = rw (output_plain predicate) refl
+node_plain (nodes.Scan from info predicate output format options) = scan_plain from info predicate output format options
+node_plain (nodes.SimpleProjection input columns) = rw (columns_plain columns) refl
+node_plain nodes.Invalid = refl
+
+pub plan_plain : (lp : List IR) (ex : List AExpr) (root : Node) → has_float (plan_data lp ex root) ≡ false
+unfolding plan_data
+plan_plain lp ex root = rw (list_plain expr_data ex expr_plain, list_plain node_data lp node_plain) refl
+
+pub listing_plain : (lp : List IR) (ex : List AExpr) (root : Node) (reads : List (List (List ℕ))) → has_float (listing_data lp ex root reads) ≡ false
+unfolding listing_data
+listing_plain lp ex root reads = rw (plan_plain lp ex root, list_plain names_data reads names_plain) refl
+
+pub fault_plain : (e : PolarsError) → has_float (fault_data e) ≡ false
+unfolding fault_data
+fault_plain e = rw (nullable_plain link_data (place_of e).node (λ n. refl)) refl

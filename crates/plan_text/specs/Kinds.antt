@@ -1,0 +1,48 @@
+-- The texts of types, operators, formats of files, and errors.
+use Rattle.std.specs.Prelude.{ℕ, List, None, codes}
+use Rattle.plan_core.specs.declared.data_type.DataType.{DataType}
+use Rattle.plan_core.specs.declared.data_type.DataType.TheVariants as types
+use Rattle.plan_core.specs.declared.error.At.{At}
+use Rattle.plan_core.specs.declared.error.PolarsError.{PolarsError}
+use Rattle.plan_core.specs.declared.error.PolarsError.TheVariants as errors
+use Rattle.plan_ir.specs.declared.expr.Operator.{Operator}
+use Rattle.plan_ir.specs.declared.expr.Operator.TheVariants as operators
+use Rattle.plan_ir.specs.declared.scan.FileScan.{FileScan}
+use Rattle.plan_ir.specs.declared.scan.FileScan.TheVariants as files
+
+-- the name of a type
+abbrev pub type_text : DataType → List ℕ
+type_text types.Int64 = codes "Int64"
+type_text types.String = codes "String"
+type_text types.Boolean = codes "Boolean"
+
+-- the name of an operator
+abbrev pub operator_text : Operator → List ℕ
+operator_text operators.Eq = codes "Eq"
+operator_text operators.NotEq = codes "NotEq"
+operator_text operators.Lt = codes "Lt"
+operator_text operators.LtEq = codes "LtEq"
+operator_text operators.Gt = codes "Gt"
+operator_text operators.GtEq = codes "GtEq"
+
+-- the name of a format of files
+abbrev pub format_text : FileScan → List ℕ
+format_text files.Parquet = codes "Parquet"
+
+-- the name of an error's kind
+abbrev pub fault_text : PolarsError → List ℕ
+fault_text (errors.SchemaFieldNotFound at) = codes "SchemaFieldNotFound"
+fault_text (errors.Duplicate at) = codes "Duplicate"
+fault_text (errors.SchemaMismatch at) = codes "SchemaMismatch"
+fault_text (errors.InvalidOperation at) = codes "InvalidOperation"
+fault_text (errors.ComputeError at) = codes "ComputeError"
+fault_text errors.OutOfMemory = codes "OutOfMemory"
+
+-- where an error lies: want of memory lies at no node
+abbrev pub place_of : PolarsError → At
+place_of (errors.SchemaFieldNotFound at) = at
+place_of (errors.Duplicate at) = at
+place_of (errors.SchemaMismatch at) = at
+place_of (errors.InvalidOperation at) = at
+place_of (errors.ComputeError at) = at
+place_of errors.OutOfMemory = record { node = None; place = 0 }

@@ -1,0 +1,147 @@
+-- The JSON values of plans, listings and errors, and their texts: members in the byte order of their keys.
+use Rattle.std.specs.Prelude.{ℕ, ℤ, List, [], ◌∷◌, ◌++◌, map, Option, Some, None, codes}
+use Rattle.serde_json.specs.Data as json
+use Rattle.serde_json.specs.Data.{Data, unsigned, number, boolean, string, array, object, no_items, item, no_members, member}
+use Rattle.serde_json.specs.Find.{of_integer}
+use Rattle.serde_json.specs.View.{items_of}
+use Rattle.serde_json.specs.Written.{compact_text}
+use Rattle.plan_core.specs.Columns.{Columns}
+use Rattle.plan_core.specs.declared.arena.Node.{Node}
+use Rattle.plan_core.specs.declared.data_type.DataType.{DataType}
+use Rattle.plan_core.specs.declared.error.PolarsError.{PolarsError}
+use Rattle.plan_core.specs.declared.options.FileScanOptions.{FileScanOptions}
+use Rattle.plan_core.specs.declared.options.RowIndex.{RowIndex}
+use Rattle.plan_ir.specs.declared.expr.AExpr.{AExpr}
+use Rattle.plan_ir.specs.declared.expr.AExpr.TheVariants as exprs
+use Rattle.plan_ir.specs.declared.expr.ExprIR.{ExprIR}
+use Rattle.plan_ir.specs.declared.expr.LiteralValue.TheVariants as literals
+use Rattle.plan_ir.specs.declared.expr.OutputName.{OutputName}
+use Rattle.plan_ir.specs.declared.expr.OutputName.TheVariants as names
+use Rattle.plan_ir.specs.declared.ir.IR.{IR}
+use Rattle.plan_ir.specs.declared.ir.IR.TheVariants as nodes
+use Rattle.plan_ir.specs.declared.scan.FileInfo.{FileInfo}
+use Rattle.plan_ir.specs.declared.scan.FileScan.{FileScan}
+use Rattle.plan_ir.specs.declared.scan.ScanSources.{ScanSources}
+use Rattle.plan_ir.specs.declared.scan.ScanSources.TheVariants as sources
+use Rattle.plan_text.specs.Kinds.{type_text, operator_text, format_text, fault_text, place_of}
+
+-- the number of a node or of an expression
+abbrev pub link_data : Node → Data
+link_data n = number (unsigned n.0)
+
+-- a whole number
+abbrev pub integer_data : ℤ → Data
+integer_data z = number (of_integer z)
+
+-- an array of what each value gives
+unfoldable pub list_data : {A : Type 0} → (A → Data) → List A → Data
+list_data f xs = array (items_of (map f xs))
+
+-- null where there is no value
+abbrev pub nullable_data : {A : Type 0} → (A → Data) → Option A → Data
+nullable_data f None = json.null
+nullable_data f (Some x) = f x
+
+-- a pair
+abbrev pub two_data : Data → Data → Data
+two_data a b = array (item a (item b no_items))
+
+-- a column: its name and its type
+abbrev pub field_data : List ℕ × DataType → Data
+field_data f = two_data (string f.0) (string (type_text f.1))
+
+-- the columns of a schema
+abbrev pub columns_data : Columns → Data
+columns_data cs = list_data field_data cs
+
+-- names
+abbrev pub names_data : List (List ℕ) → Data
+names_data ns = list_data string ns
+
+-- where an output name comes from
+abbrev pub origin_text : OutputName → List ℕ
+origin_text names.None = codes "none"
+origin_text (names.LiteralLhs s) = codes "lit"
+origin_text (names.ColumnLhs s) = codes "col"
+origin_text (names.Alias s) = codes "alias"
+
+-- an output name, empty where there is none
+abbrev pub name_text : OutputName → List ℕ
+name_text names.None = []
+name_text (names.LiteralLhs s) = s
+name_text (names.ColumnLhs s) = s
+name_text (names.Alias s) = s
+
+-- an expression that is put out under a name
+unfoldable pub output_data : ExprIR → Data
+output_data e = array (item (link_data e.node) (item (string (origin_text e.output_name)) (item (string (name_text e.output_name)) no_items)))
+
+-- the first row, and how many rows
+abbrev pub slice_data : ℤ × ℕ → Data
+slice_data s = two_data (integer_data s.0) (number (unsigned s.1))
+
+-- the column that numbers the rows
+abbrev pub row_index_data : RowIndex → Data
+row_index_data r = two_data (string r.name) (number (unsigned r.offset))
+
+-- where a scan reads from
+abbrev pub sources_data : ScanSources → Data
+sources_data (sources.Paths ps) = object (member (codes "paths") (names_data ps) no_members)
+
+-- an expression
+unfoldable pub expr_data : AExpr → Data
+expr_data (exprs.Column s) = object (member (codes "name") (string s) (member (codes "op") (string (codes "Column")) no_members))
+expr_data (exprs.Literal (literals.Int64 z)) = object (member (codes "op") (string (codes "Literal")) (member (codes "type") (string (codes "Int64")) (member (codes "value") (integer_data z) no_members)))
+expr_data (exprs.BinaryExpr left op right) = object (member (codes "left") (link_data left) (member (codes "op") (string (codes "BinaryExpr")) (member (codes "operator") (string (operator_text op)) (member (codes "right") (link_data right) no_members))))
+
+-- a scan
+unfoldable pub scan_data : ScanSources → FileInfo → Option ExprIR → Option Columns → FileScan → FileScanOptions → Data
+scan_data from info predicate output format options = object (
+    member (codes "columns") (nullable_data names_data options.with_columns) (
+    member (codes "hive") json.null (
+    member (codes "kind") (string (format_text format)) (
+    member (codes "op") (string (codes "Scan")) (
+    member (codes "output") (nullable_data columns_data output) (
+    member (codes "path_column") (nullable_data string options.include_file_paths) (
+    member (codes "predicate") (nullable_data output_data predicate) (
+    member (codes "reader") (nullable_data columns_data info.reader_schema) (
+    member (codes "rechunk") (boolean options.rechunk) (
+    member (codes "row_index") (nullable_data row_index_data options.row_index) (
+    member (codes "schema") (columns_data info.schema) (
+    member (codes "slice") (nullable_data slice_data options.slice) (
+    member (codes "sources") (sources_data from) no_members)))))))))))))
+
+-- a node
+unfoldable pub node_data : IR → Data
+node_data (nodes.Filter input predicate) = object (member (codes "input") (link_data input) (member (codes "op") (string (codes "Filter")) (member (codes "predicate") (output_data predicate) no_members)))
+node_data (nodes.Scan from info predicate output format options) = scan_data from info predicate output format options
+node_data (nodes.SimpleProjection input columns) = object (member (codes "columns") (columns_data columns) (member (codes "input") (link_data input) (member (codes "op") (string (codes "SimpleProjection")) no_members)))
+node_data nodes.Invalid = object (member (codes "op") (string (codes "Invalid")) no_members)
+
+-- a plan: its expressions, its nodes and its root
+unfoldable pub plan_data : List IR → List AExpr → Node → Data
+plan_data lp ex root = object (member (codes "exprs") (list_data expr_data ex) (member (codes "nodes") (list_data node_data lp) (member (codes "root") (link_data root) no_members)))
+
+-- a plan with the columns that each of its scans reads
+unfoldable pub listing_data : List IR → List AExpr → Node → List (List (List ℕ)) → Data
+listing_data lp ex root reads = object (member (codes "plan") (plan_data lp ex root) (member (codes "reads") (list_data names_data reads) (member (codes "rows") json.null no_members)))
+
+-- an error: its kind and where it lies
+unfoldable pub fault_data : PolarsError → Data
+fault_data e = object (member (codes "error") (object (member (codes "kind") (string (fault_text e)) (member (codes "node") (nullable_data link_data (place_of e).node) (member (codes "place") (number (unsigned (place_of e).place)) no_members)))) no_members)
+
+-- the value's text, and a line feed
+abbrev pub line_of : Data → List ℕ
+line_of d = compact_text d ++ 10 ∷ []
+
+-- the text of a plan, with no line feed
+unfoldable pub plan_text : List IR → List AExpr → Node → List ℕ
+plan_text lp ex root = compact_text (plan_data lp ex root)
+
+-- the text of a listing
+unfoldable pub listing_text : List IR → List AExpr → Node → List (List (List ℕ)) → List ℕ
+listing_text lp ex root reads = line_of (listing_data lp ex root reads)
+
+-- the text of an error
+unfoldable pub error_text : PolarsError → List ℕ
+error_text e = line_of (fault_data e)

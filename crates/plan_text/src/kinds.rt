@@ -1,0 +1,66 @@
+//! The names of types, operators, formats of files, and errors.
+ghost use Rattle.std.specs.Prelude.{◌≡◌};
+ghost use Rattle.plan_text.specs.Kinds.{type_text, operator_text, format_text, fault_text, place_of};
+
+use plan_core::{At, DataType, PolarsError};
+use plan_ir::{FileScan, Operator};
+
+pub fn type_name(data_type: DataType) -> &'static str
+    ensures { result.now ≡ type_text data_type }
+{
+    match data_type {
+        DataType::Int64 => "Int64",
+        DataType::String => "String",
+        DataType::Boolean => "Boolean",
+    }
+}
+
+pub fn operator_name(operator: Operator) -> &'static str
+    ensures { result.now ≡ operator_text operator }
+{
+    match operator {
+        Operator::Eq => "Eq",
+        Operator::NotEq => "NotEq",
+        Operator::Lt => "Lt",
+        Operator::LtEq => "LtEq",
+        Operator::Gt => "Gt",
+        Operator::GtEq => "GtEq",
+    }
+}
+
+pub fn format_name(format: FileScan) -> &'static str
+    ensures { result.now ≡ format_text format }
+{
+    match format {
+        FileScan::Parquet => "Parquet",
+    }
+}
+
+pub fn fault_name(error: &PolarsError) -> &'static str
+    ensures { result.now ≡ fault_text error.now }
+{
+    match error {
+        PolarsError::SchemaFieldNotFound(_) => "SchemaFieldNotFound",
+        PolarsError::Duplicate(_) => "Duplicate",
+        PolarsError::SchemaMismatch(_) => "SchemaMismatch",
+        PolarsError::InvalidOperation(_) => "InvalidOperation",
+        PolarsError::ComputeError(_) => "ComputeError",
+        PolarsError::OutOfMemory => "OutOfMemory",
+    }
+}
+
+pub fn place(error: &PolarsError) -> At
+    ensures { result ≡ place_of error.now }
+{
+    match error {
+        PolarsError::SchemaFieldNotFound(at)
+        | PolarsError::Duplicate(at)
+        | PolarsError::SchemaMismatch(at)
+        | PolarsError::InvalidOperation(at)
+        | PolarsError::ComputeError(at) => *at,
+        PolarsError::OutOfMemory => At {
+            node: None,
+            place: 0,
+        },
+    }
+}

@@ -1,0 +1,13 @@
+//! The texts of plans, listings and errors.
+#![tactic(auto)]
+
+mod kinds;
+mod lists;
+mod objects;
+mod parts;
+mod plan;
+#[cfg(test)]
+mod tests;
+mod texts;
+
+pub use texts::{write_fault, write_listing, write_plan};

@@ -1,0 +1,141 @@
+//! The parts of the JSON values of nodes.
+ghost use Rattle.std.specs.Prelude.{◌≡◌, IfOk};
+ghost use Rattle.serde_json.specs.Data.{string};
+ghost use Rattle.serde_json.specs.View.{view};
+ghost use Rattle.plan_text.specs.Written.{columns_data, names_data, list_data, link_data, field_data, output_data, sources_data, slice_data, row_index_data, nullable_data, origin_text, name_text};
+
+use crate::kinds::type_name;
+use crate::lists::each;
+use plan_core::{DataType, Items, Node, PlSmallStr, RowIndex, Schema};
+use plan_ir::{ExprIR, OutputName, ScanSources};
+use serde_json::{Value, json};
+use std::alloc::{AllocError, Global};
+
+fn field(alloc: Global, name: &str, data_type: DataType) -> Result<Value, AllocError>
+    ensures { IfOk result (λ v. view v ≡ field_data (name.now, data_type)) }
+{
+    json!(in alloc; [name, type_name(data_type)])
+}
+
+pub fn columns(alloc: Global, schema: &Schema) -> Result<Value, AllocError>
+    ensures { IfOk result (λ v. view v ≡ columns_data schema.now) }
+{
+    let mut written = Vec::new(alloc);
+    while let Some((name, data_type)) = schema.get_at_index(written.len()) {
+        written.push(field(alloc, name, *data_type)?)?;
+    }
+    Ok(Value::Array(written))
+}
+
+pub fn names(alloc: Global, names: &Items<PlSmallStr>) -> Result<Value, AllocError>
+    ensures { IfOk result (λ v. view v ≡ names_data names.now) }
+{
+    let written = each(alloc, names.as_slice(), |name| {
+        Value::try_from_str(alloc, name.as_str())
+    })?;
+    Ok(Value::Array(written))
+}
+
+fn origin(name: &OutputName) -> &'static str
+    ensures { result.now ≡ origin_text name.now }
+{
+    match name {
+        OutputName::None => "none",
+        OutputName::LiteralLhs(_) => "lit",
+        OutputName::ColumnLhs(_) => "col",
+        OutputName::Alias(_) => "alias",
+    }
+}
+
+fn name_of(name: &OutputName) -> &str
+    ensures { result.now ≡ name_text name.now }
+{
+    match name {
+        OutputName::None => "",
+        OutputName::LiteralLhs(name) | OutputName::ColumnLhs(name) | OutputName::Alias(name) => {
+            name.as_str()
+        }
+    }
+}
+
+#[tactic(auto, unfolding(crate::specs::Written::output_data))]
+pub fn output(alloc: Global, expr: &ExprIR) -> Result<Value, AllocError>
+    ensures { IfOk result (λ v. view v ≡ output_data expr.now) }
+{
+    let name = &expr.output_name;
+    json!(in alloc; [expr.node.0, origin(name), name_of(name)])
+}
+
+pub fn optional_link(link: Option<Node>) -> Value
+    ensures { view result ≡ nullable_data link_data link }
+{
+    match link {
+        None => Value::Null,
+        Some(node) => Value::from(node.0),
+    }
+}
+
+pub fn optional_columns(alloc: Global, given: &Option<Schema>) -> Result<Value, AllocError>
+    ensures { IfOk result (λ v. view v ≡ nullable_data columns_data given.now) }
+{
+    match given {
+        None => Ok(Value::Null),
+        Some(schema) => columns(alloc, schema),
+    }
+}
+
+pub fn optional_names(alloc: Global, given: &Option<Items<PlSmallStr>>) -> Result<Value, AllocError>
+    ensures { IfOk result (λ v. view v ≡ nullable_data names_data given.now) }
+{
+    match given {
+        None => Ok(Value::Null),
+        Some(given) => names(alloc, given),
+    }
+}
+
+pub fn optional_name(alloc: Global, given: &Option<PlSmallStr>) -> Result<Value, AllocError>
+    ensures { IfOk result (λ v. view v ≡ nullable_data string given.now) }
+{
+    match given {
+        None => Ok(Value::Null),
+        Some(name) => Value::try_from_str(alloc, name.as_str()),
+    }
+}
+
+pub fn optional_output(alloc: Global, given: &Option<ExprIR>) -> Result<Value, AllocError>
+    ensures { IfOk result (λ v. view v ≡ nullable_data output_data given.now) }
+{
+    match given {
+        None => Ok(Value::Null),
+        Some(expr) => output(alloc, expr),
+    }
+}
+
+pub fn optional_row_index(alloc: Global, given: &Option<RowIndex>) -> Result<Value, AllocError>
+    ensures { IfOk result (λ v. view v ≡ nullable_data row_index_data given.now) }
+{
+    match given {
+        None => Ok(Value::Null),
+        Some(column) => json!(in alloc; [column.name.as_str(), column.offset]),
+    }
+}
+
+pub fn optional_slice(alloc: Global, given: Option<(i64, usize)>) -> Result<Value, AllocError>
+    ensures { IfOk result (λ v. view v ≡ nullable_data slice_data given) }
+{
+    match given {
+        None => Ok(Value::Null),
+        Some((offset, len)) => json!(in alloc; [offset, len]),
+    }
+}
+
+pub fn sources(alloc: Global, given: &ScanSources) -> Result<Value, AllocError>
+    ensures { IfOk result (λ v. view v ≡ sources_data given.now) }
+{
+    match given {
+        ScanSources::Paths(paths) => {
+            let paths = names(alloc, paths)?;
+            json!(in alloc; {"paths": paths})
+        }
+    }
+}

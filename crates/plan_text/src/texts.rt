@@ -1,0 +1,86 @@
+//! The texts that are written.
+ghost use Rattle.std.specs.Prelude.{◌≡◌, IfOk, false, string_bytes};
+ghost use Rattle.serde_json.specs.View.{view};
+ghost use Rattle.serde_json.specs.Written.{has_float};
+ghost use Rattle.plan_text.specs.Written.{names_data, list_data, listing_data, fault_data, line_of, plan_text, listing_text, error_text};
+
+use crate::kinds::{fault_name, place};
+use crate::lists::each;
+use crate::parts::{names, optional_link};
+use crate::plan::plan as plan_value;
+use plan_core::{Items, PlSmallStr, PolarsError};
+use plan_ir::PlanCopy;
+use serde_json::{Value, json};
+use std::alloc::{AllocError, Global};
+
+/// The text of a plan, with no line feed: the object of its `exprs`, its `nodes` and its `root`,
+/// as compact JSON with its keys in byte order.
+#[tactic(auto, using(crate::proofs::FloatLemmas::plan_plain), unfolding(crate::specs::Written::plan_text))]
+pub fn write_plan(alloc: Global, plan: &PlanCopy) -> Result<String, AllocError>
+    ensures { IfOk result (λ s. string_bytes s ≡ plan_text plan.now.lp plan.now.ex plan.now.root) }
+{
+    let value = plan_value(alloc, plan)?;
+    value.to_string(alloc)
+}
+
+/// The text of a value that has no float, and a line feed.
+fn line(alloc: Global, value: &Value) -> Result<String, AllocError>
+    requires { has_float (view value.now) ≡ false }
+    ensures { IfOk result (λ s. string_bytes s ≡ line_of (view value.now)) }
+{
+    let mut text = value.to_string(alloc)?;
+    text.push_str("\n")?;
+    Ok(text)
+}
+
+fn reads_value(alloc: Global, reads: &[Items<PlSmallStr>]) -> Result<Value, AllocError>
+    ensures { IfOk result (λ v. view v ≡ list_data names_data reads.now) }
+{
+    let written = each(alloc, reads, |read| names(alloc, read))?;
+    Ok(Value::Array(written))
+}
+
+#[tactic(auto, unfolding(crate::specs::Written::listing_data))]
+fn listing(alloc: Global, plan: &PlanCopy, reads: &[Items<PlSmallStr>]) -> Result<Value, AllocError>
+    ensures { IfOk result (λ v. view v
+        ≡ listing_data plan.now.lp plan.now.ex plan.now.root reads.now) }
+{
+    let plan = plan_value(alloc, plan)?;
+    let reads = reads_value(alloc, reads)?;
+    json!(in alloc; {"plan": plan, "reads": reads, "rows": null})
+}
+
+/// The text of a listing, with a line feed: the object of a `plan`, of the names that each of its
+/// scans `reads`, from left to right, and of its `rows`, which are null.
+#[tactic(auto, using(crate::proofs::FloatLemmas::listing_plain), unfolding(crate::specs::Written::listing_text))]
+pub fn write_listing(
+    alloc: Global,
+    plan: &PlanCopy,
+    reads: &[Items<PlSmallStr>],
+) -> Result<String, AllocError>
+    ensures { IfOk result (λ s. string_bytes s
+        ≡ listing_text plan.now.lp plan.now.ex plan.now.root reads.now) }
+{
+    let value = listing(alloc, plan, reads)?;
+    line(alloc, &value)
+}
+
+#[tactic(auto, unfolding(crate::specs::Written::fault_data))]
+fn fault(alloc: Global, error: &PolarsError) -> Result<Value, AllocError>
+    ensures { IfOk result (λ v. view v ≡ fault_data error.now) }
+{
+    let at = place(error);
+    let node = optional_link(at.node);
+    json!(in alloc; {"error": {"kind": fault_name(error), "node": node, "place": at.place}})
+}
+
+/// The text of an error, with a line feed: the object of an `error` with its `kind`, its `node`,
+/// which is null where it lies at none, and its `place`. `OutOfMemory` has the node null and the
+/// place 0; the program writes no text for it.
+#[tactic(auto, using(crate::proofs::FloatLemmas::fault_plain), unfolding(crate::specs::Written::error_text))]
+pub fn write_fault(alloc: Global, error: &PolarsError) -> Result<String, AllocError>
+    ensures { IfOk result (λ s. string_bytes s ≡ error_text error.now) }
+{
+    let value = fault(alloc, error)?;
+    line(alloc, &value)
+}
