@@ -1,0 +1,12 @@
+//! The documents of plans: from bytes to the arenas of a plan.
+#![tactic(auto)]
+
+mod arrays;
+mod built;
+mod document;
+mod exprs;
+mod fault;
+mod nodes;
+mod parts;
+
+pub use document::{Document, ReadError, read_document};
