@@ -91,7 +91,7 @@ module _ (vs : List Value) (i : ℕ) (v : Value) (lt : i < length vs) (here : v 
   no_column Memory h = tt
   no_column Form h =
       let none : each column_of (map view vs) ≡ None =
-          ap (λ (l : List Value). each column_of (map view l)) split ∙ rw (map-append view (take i vs) (v ∷ drop (i + 1) vs)) (cut column_of (map view (take i vs)) (map view (drop (i + 1) vs)) (view v) h) in
+      ap (λ (l : List Value). each column_of (map view l)) split ∙ rw (map-append view (take i vs) (v ∷ drop (i + 1) vs)) (cut column_of (map view (take i vs)) (map view (drop (i + 1) vs)) (view v) h) in
       rw none refl
 
   module _ (cs : Columns) (name : List ℕ) (t : DataType) (before : each column_of (map view (take i vs)) ≡ Some cs) (now : column_of (view v) ≡ Some (name, t)) where

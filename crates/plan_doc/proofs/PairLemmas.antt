@@ -29,13 +29,15 @@ module _ {T : Type 0} (calls : Value → Result T Fault → Type 0) where
   stops vs i v Memory lt here says = record { answers = tt }
   stops vs i v Form lt here says =
       let rest = drop (i + 1) vs in
-      record { answers = record {
-        before = take i vs;
-        entry = v;
-        after = rest;
-        split = sym (take-append-drop i vs) ∙ ap (λ (l : List Value). take i vs ++ l) (drop_more vs i v lt ∙ ap (λ (w : Value). w ∷ rest) (sym here));
-        refused = says;
-      } }
+      record {
+        answers = record {
+          before = take i vs;
+          entry = v;
+          after = rest;
+          split = sym (take-append-drop i vs) ∙ ap (λ (l : List Value). take i vs ++ l) (drop_more vs i v lt ∙ ap (λ (w : Value). w ∷ rest) (sym here));
+          refused = says;
+        };
+      }
 
   -- what each call gives is what the entry stands for, so all of them are what the entries stand for
   module _ (f : Data → Option T) (each_call : (v : Value) (r : Result T Fault) → calls v r → Gives r (f (view v))) where

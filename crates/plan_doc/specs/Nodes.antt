@@ -81,8 +81,8 @@ expr_of d = do
   op ← get (codes "op") d
   s ← name_of op
   if bytes_eq s (codes "Column") then column_expr_of d else (
-    if bytes_eq s (codes "Literal") then literal_of d else (
-    if bytes_eq s (codes "BinaryExpr") then binary_of d else None))
+      if bytes_eq s (codes "Literal") then literal_of d else (
+      if bytes_eq s (codes "BinaryExpr") then binary_of d else None))
 
 -- rows of the input where an expression is true
 unfoldable pub filter_of : Data → Option IR
@@ -146,15 +146,15 @@ scan_keys = codes "columns" ∷ codes "hive" ∷ codes "kind" ∷ codes "op" ∷
 unfoldable pub scan_of : Data → Option IR
 scan_of d = do
   o ← object_of scan_keys d
+  nothing ← null_fields o
   kind ← get (codes "kind") o
   k ← kind_of kind
+  output ← get (codes "output") o
   paths ← get (codes "sources") o
   ps ← sources_of paths
-  info ← file_info_of o
-  output ← get (codes "output") o
   out ← nullable columns_of output
+  info ← file_info_of o
   options ← file_options_of o
-  nothing ← null_fields o
   Some (nodes.Scan ps info None out k options)
 
 -- the node of an entry
@@ -163,5 +163,5 @@ node_of d = do
   op ← get (codes "op") d
   s ← name_of op
   if bytes_eq s (codes "Scan") then scan_of d else (
-    if bytes_eq s (codes "Filter") then filter_of d else (
-    if bytes_eq s (codes "SimpleProjection") then simple_projection_of d else None))
+      if bytes_eq s (codes "Filter") then filter_of d else (
+      if bytes_eq s (codes "SimpleProjection") then simple_projection_of d else None))

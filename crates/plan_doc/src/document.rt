@@ -77,7 +77,10 @@ fn exprs(alloc: Global, value: &Value) -> Result<Arena<AExpr>, Fault>
 fn document_object(value: &Value) -> Result<&Value, Fault>
     ensures { Shows (λ v. view v.now) result (object_of document_keys (view value.now)) }
 {
-    object(value, &["exprs", "flags", "nodes", "root", "shared", "tables"])
+    object(
+        value,
+        &["exprs", "flags", "nodes", "root", "shared", "tables"],
+    )
 }
 
 #[tactic(auto, unfolding(crate::specs::Document::document_of))]

@@ -86,8 +86,19 @@ fn scan_object(value: &Value) -> Result<&Value, Fault>
     object(
         value,
         &[
-            "columns", "hive", "kind", "op", "output", "path_column", "predicate", "reader",
-            "rechunk", "row_index", "schema", "slice", "sources",
+            "columns",
+            "hive",
+            "kind",
+            "op",
+            "output",
+            "path_column",
+            "predicate",
+            "reader",
+            "rechunk",
+            "row_index",
+            "schema",
+            "slice",
+            "sources",
         ],
     )
 }
@@ -97,12 +108,13 @@ fn scan(alloc: Global, value: &Value) -> Result<IR, Fault>
     ensures { Gives result (scan_of (view value.now)) }
 {
     let object = scan_object(value)?;
-    let scan_type = kind(field(object, "kind")?)?;
-    let sources = sources(alloc, field(object, "sources")?)?;
-    let file_info = file_info(alloc, object)?;
-    let output_schema = optional_columns(alloc, field(object, "output")?)?;
-    let file_options = file_options(alloc, object)?;
     null_fields(object)?;
+    let scan_type = kind(field(object, "kind")?)?;
+    let output_value = field(object, "output")?;
+    let sources = sources(alloc, field(object, "sources")?)?;
+    let output_schema = optional_columns(alloc, output_value)?;
+    let file_info = file_info(alloc, object)?;
+    let file_options = file_options(alloc, object)?;
     Ok(IR::Scan {
         sources,
         file_info,

@@ -6,5 +6,5 @@ use Rattle.plan_doc.proofs.parts.columns.Given as goal
 abbrev pub invariant-loop-entry : goal.invariant-loop-entry
 invariant-loop-entry l = record {
   read : each column_of (map view (take l.entry-index l.entries)) ≡ Some l.columns;
-  distinct : are_distinct (column_names l.columns) ≡ true
+  distinct : are_distinct (column_names l.columns) ≡ true;
 }
