@@ -8,5 +8,7 @@ mod exprs;
 mod fault;
 mod nodes;
 mod parts;
+#[cfg(test)]
+mod tests;
 
 pub use document::{Document, ReadError, read_document};
