@@ -1,0 +1,52 @@
+-- Readers that go over an array.
+use Rattle.std.proofs.Common.{◌≡◌, ℕ, List, [], ◌∷◌, ◌++◌, length, map, Option, Some, None, String, refl, ap}
+use Rattle.std.specs.declared.alloc.Global.{Global}
+use Rattle.serde_json.specs.Data.{Data}
+use Rattle.serde_json.specs.Events.{members_len}
+use Rattle.serde_json.proofs.Views.{members_len-members_view}
+use Rattle.serde_json.specs.View.{view, items_view, items_of, members_view}
+use Rattle.serde_json.specs.declared.value.Value.{Value}
+use Rattle.plan_doc.specs.Parts.{◌>>=◌, items_list, each}
+
+items_list-items_of : (ds : List Data) → items_list (items_of ds) ≡ ds
+items_list-items_of [] = refl
+items_list-items_of (d ∷ ds) = ap (λ l. d ∷ l) (items_list-items_of ds)
+
+-- the entries of an array in memory
+pub items_list_view : (vs : List Value) → items_list (items_view vs) ≡ map view vs
+items_list_view vs = items_list-items_of (map view vs)
+
+-- the number of members of an object in memory
+pub members_len_view : (es : List (String Global × Value)) → members_len (members_view es) ≡ length es
+members_len_view es = members_len-members_view es
+
+-- the value of a step that gave one
+pub bind_some : {A B : Type 0} (o : Option A) (f : A → Option B) (y : B) → (o >>= f) ≡ Some y → (x : A) × (o ≡ Some x) × (f x ≡ Some y)
+bind_some (Some x) f y e = (x, refl, e)
+bind_some None f y e = absurd cc
+
+some_is : {A : Type 0} (x y : A) → ◌≡◌ {A = Option A} (Some x) (Some y) → x ≡ y
+some_is x y e = cc
+
+module _ {A : Type 0} (f : Data → Option A) where
+  -- one array after another
+  pub joined : (ds es : List Data) (xs ys : List A) → each f ds ≡ Some xs → each f es ≡ Some ys → each f (ds ++ es) ≡ Some (xs ++ ys)
+  joined [] es xs ys p q = let none : [] ≡ xs = some_is _ _ p in rw (← none) q
+  joined (d ∷ ds) es xs ys p q =
+      let a = bind_some (f d) (λ x. each f ds >>= λ zs. Some (x ∷ zs)) xs p in
+      let b = bind_some (each f ds) (λ zs. Some (a.0 ∷ zs)) xs a.2 in
+      let is : a.0 ∷ b.0 ≡ xs = some_is _ _ b.2 in
+      rw (a.1, joined ds es b.0 ys b.1 q) (ap (λ (l : List A). Some (l ++ ys)) is)
+
+  -- entries that stand for nothing, behind others
+  pub late : (ds es : List Data) → each f es ≡ None → each f (ds ++ es) ≡ None
+  late [] es p = p
+  late (d ∷ ds) es p = first (f d) (late ds es p)
+    where
+      first : (o : Option A) → each f (ds ++ es) ≡ None → (o >>= λ x. each f (ds ++ es) >>= λ xs. Some (x ∷ xs)) ≡ None
+      first None q = refl
+      first (Some x) q = rw q
+
+  -- an entry that stands for nothing
+  pub cut : (ds es : List Data) (d : Data) → f d ≡ None → each f (ds ++ d ∷ es) ≡ None
+  cut ds es d p = late ds (d ∷ es) (rw p)

@@ -1,0 +1,5 @@
+pub mod EntryLemmas
+pub mod PairLemmas
+pub mod NullLemmas
+pub mod ReadingLemmas
+pub mod ColumnLemmas

@@ -1,0 +1,10 @@
+use Rattle.std.proofs.Common.{◌≡◌, true, map, take, Some}
+use Rattle.serde_json.specs.View.{view}
+use Rattle.plan_doc.specs.Parts.{each, column_of, are_distinct, column_names}
+use Rattle.plan_doc.proofs.parts.columns.Given as goal
+
+abbrev pub invariant-loop-entry : goal.invariant-loop-entry
+invariant-loop-entry l = record {
+  read : each column_of (map view (take l.entry-index l.entries)) ≡ Some l.columns;
+  distinct : are_distinct (column_names l.columns) ≡ true;
+}

@@ -1,0 +1,42 @@
+-- What is refused until it is built. Each definition goes when its form is built.
+use Rattle.std.specs.Prelude.{ℕ, ◌&&◌, ◌==◌, List, length, Bool, not, Option, Some, None, if◌then◌else◌, codes, bit_and, nat_lt}
+use Rattle.serde_json.specs.Data.{Data}
+use Rattle.serde_json.specs.Find.{get, as_null}
+use Rattle.plan_core.specs.Columns.{Columns}
+use Rattle.plan_doc.specs.Parts.{◌>>=◌, truth_of}
+
+-- flags of passes that are not built: CLUSTER_WITH_COLUMNS, EAGER, FAST_PROJECTION, COLLAPSE_JOINS, CHECK_ORDER_OBSERVE
+abbrev pub unbuilt_flags : ℕ
+unbuilt_flags = 118792
+
+-- flags without those
+abbrev pub built_flags : ℕ → Option ℕ
+built_flags n = if bit_and n unbuilt_flags == 0 then Some n else None
+
+-- false alone
+unfoldable pub unshared_of : Data → Option Bool
+unshared_of d = do
+  shared ← truth_of d
+  if shared then None else Some shared
+
+-- a scan of one path
+abbrev pub one_path : List (List ℕ) → Option (List (List ℕ))
+one_path paths = if length paths == 1 then Some paths else None
+
+-- a projection of some columns
+abbrev pub some_columns : Columns → Option Columns
+some_columns cs = if nat_lt 0 (length cs) then Some cs else None
+
+-- the fields of a scan that are null
+unfoldable pub null_fields : Data → Option (Unit {0})
+null_fields o = do
+  hive ← get (codes "hive") o
+  a ← as_null hive
+  path_column ← get (codes "path_column") o
+  b ← as_null path_column
+  predicate ← get (codes "predicate") o
+  c ← as_null predicate
+  row_index ← get (codes "row_index") o
+  e ← as_null row_index
+  slice ← get (codes "slice") o
+  as_null slice

@@ -1,0 +1,98 @@
+-- The document that bytes stand for.
+use Rattle.std.specs.Prelude.{◌≡◌, ℕ, ◌==◌, List, [], ◌∷◌, Bool, Option, Some, None, Result, Ok, Err, if◌then◌else◌, codes, bit_or}
+use Rattle.std.specs.Str.{is_utf8}
+use Rattle.serde_json.specs.Read.{read}
+use Rattle.serde_json.specs.Data.{Data}
+use Rattle.serde_json.specs.View.{view}
+use Rattle.serde_json.specs.declared.value.Value.{Value}
+use Rattle.serde_json.specs.Find.{get, as_null}
+use Rattle.plan_ir.specs.declared.expr.AExpr.{AExpr}
+use Rattle.plan_ir.specs.declared.ir.IR.{IR}
+use Rattle.plan_doc.specs.declared.document.Document.{Document}
+use Rattle.plan_doc.specs.declared.document.ReadError.{ReadError}
+use Rattle.plan_doc.specs.declared.document.ReadError.TheVariants as errors
+use Rattle.plan_doc.specs.Parts.{◌>>=◌, entries_of, each, object_of, number_of, link_of}
+use Rattle.plan_doc.specs.Built.{built_flags, unshared_of}
+use Rattle.plan_doc.specs.Nodes.{node_of, expr_of}
+
+-- the flags that have names, all together
+abbrev pub named_flags : ℕ
+named_flags = 262141
+
+-- a number whose bits are all named
+unfoldable pub flags_of : Data → Option ℕ
+flags_of d = do
+  n ← number_of d
+  if bit_or n named_flags == named_flags then built_flags n else None
+
+-- an array of nodes
+unfoldable pub nodes_of : Data → Option (List IR)
+nodes_of d = do
+  ds ← entries_of d
+  each node_of ds
+
+-- an array of expressions
+unfoldable pub exprs_of : Data → Option (List AExpr)
+exprs_of d = do
+  ds ← entries_of d
+  each expr_of ds
+
+-- the keys of a document
+unfoldable pub document_keys : List (List ℕ)
+document_keys = codes "exprs" ∷ codes "flags" ∷ codes "nodes" ∷ codes "root" ∷ codes "shared" ∷ codes "tables" ∷ []
+
+-- the document that a value stands for
+unfoldable pub document_of : Data → Option Document
+document_of d = do
+  o ← object_of document_keys d
+  root ← get (codes "root") o
+  r ← link_of root
+  nodes ← get (codes "nodes") o
+  ns ← nodes_of nodes
+  exprs ← get (codes "exprs") o
+  es ← exprs_of exprs
+  flags ← get (codes "flags") o
+  fs ← flags_of flags
+  shared ← get (codes "shared") o
+  s ← unshared_of shared
+  tables ← get (codes "tables") o
+  nothing ← as_null tables
+  Some (record { root = r; lp = ns; ex = es; flags = fs; shared = s })
+
+-- What bytes stand for.
+pub data Reading : Type 0 where
+  not_json : Reading
+  form : Reading
+  document : Document → Reading
+
+-- a document, or a fault of form
+abbrev pub form_or : Option Document → Reading
+form_or None = form
+form_or (Some d) = document d
+
+-- the document of a value, or no JSON
+abbrev pub json_or : Option Data → Reading
+json_or None = not_json
+json_or (Some d) = form_or (document_of d)
+
+-- the value that serde_json reads from bytes; bytes that are not UTF-8 have none, nor has a text that `read` refuses
+unfoldable pub json_of : List ℕ → Option Data
+json_of bytes = if is_utf8 bytes then read bytes else None
+
+-- the document that bytes stand for, or why they stand for none
+unfoldable pub doc_of : List ℕ → Reading
+doc_of bytes = json_or (json_of bytes)
+
+-- the answer is what the bytes stand for, or memory ran out
+abbrev pub IsReading : Result Document ReadError → Reading → Type 0
+IsReading (Ok d) reading = reading ≡ document d
+IsReading (Err errors.NotJson) reading = reading ≡ not_json
+IsReading (Err errors.Form) reading = reading ≡ form
+IsReading (Err errors.OutOfMemory) reading = Unit {0}
+
+-- the answer is the value of the bytes, or memory ran out
+abbrev pub IsJson : Result Value ReadError → Option Data → Type 0
+IsJson (Ok v) value = value ≡ Some (view v)
+IsJson (Err errors.NotJson) value = value ≡ None
+IsJson (Err errors.Form) value = ⊥
+IsJson (Err errors.OutOfMemory) value = Unit {0}

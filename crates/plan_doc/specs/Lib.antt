@@ -1,0 +1,6 @@
+pub mod Gives
+pub mod Each
+pub mod Parts
+pub mod Built
+pub mod Nodes
+pub mod Document

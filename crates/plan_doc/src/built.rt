@@ -1,0 +1,67 @@
+//! What is refused until it is built. Each test goes when its form is built.
+ghost use Rattle.std.specs.Prelude.{◌≡◌};
+ghost use Rattle.serde_json.specs.View.{view};
+ghost use Rattle.plan_doc.specs.Gives.{Gives};
+ghost use Rattle.plan_doc.specs.Built.{built_flags as built_flags_of, unshared_of, one_path as one_path_of, some_columns as some_columns_of, null_fields as null_fields_of};
+
+use crate::fault::Fault;
+use crate::parts::{field, nothing, truth};
+use plan_core::{Items, PlSmallStr, Schema};
+use serde_json::Value;
+
+// Clustering, eager collecting, fast projections, join collapse and order flags.
+const UNBUILT_FLAGS: u32 = 118792;
+
+/// Flags whose passes are built.
+pub fn built_flags(flags: u32) -> Result<u32, Fault>
+    ensures { Gives result (built_flags_of flags) }
+{
+    if flags & UNBUILT_FLAGS == 0 {
+        Ok(flags)
+    } else {
+        Err(Fault::Form)
+    }
+}
+
+/// False: the entries are not shared.
+#[tactic(auto, unfolding(crate::specs::Built::unshared_of))]
+pub fn unshared(value: &Value) -> Result<bool, Fault>
+    ensures { Gives result (unshared_of (view value.now)) }
+{
+    let shared = truth(value)?;
+    if shared { Err(Fault::Form) } else { Ok(shared) }
+}
+
+/// A single path.
+pub fn one_path(paths: Items<PlSmallStr>) -> Result<Items<PlSmallStr>, Fault>
+    ensures { Gives result (one_path_of paths) }
+{
+    if paths.len() == 1 {
+        Ok(paths)
+    } else {
+        Err(Fault::Form)
+    }
+}
+
+/// At least one column.
+pub fn some_columns(columns: Schema) -> Result<Schema, Fault>
+    ensures { Gives result (some_columns_of columns) }
+{
+    if columns.len() > 0 {
+        Ok(columns)
+    } else {
+        Err(Fault::Form)
+    }
+}
+
+/// The fields of a scan that are null.
+#[tactic(auto, unfolding(crate::specs::Built::null_fields))]
+pub fn null_fields(object: &Value) -> Result<(), Fault>
+    ensures { Gives result (null_fields_of (view object.now)) }
+{
+    nothing(field(object, "hive")?)?;
+    nothing(field(object, "path_column")?)?;
+    nothing(field(object, "predicate")?)?;
+    nothing(field(object, "row_index")?)?;
+    nothing(field(object, "slice")?)
+}

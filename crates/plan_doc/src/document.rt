@@ -1,0 +1,129 @@
+//! The reader of documents.
+ghost use Rattle.std.specs.Prelude.{◌≡◌};
+ghost use Rattle.serde_json.specs.View.{view};
+ghost use Rattle.plan_doc.specs.Gives.{Gives, Shows};
+ghost use Rattle.plan_doc.specs.Parts.{object_of};
+ghost use Rattle.plan_doc.specs.Document.{flags_of, nodes_of, exprs_of, document_keys, document_of as document_at, json_of, doc_of, IsJson, IsReading};
+
+use crate::arrays::arena_of_each;
+use crate::built::{built_flags, unshared};
+use crate::exprs::expr;
+use crate::fault::Fault;
+use crate::nodes::node;
+use crate::parts::{entries, field, link, nothing, number, object};
+use plan_core::{Arena, Node};
+use plan_ir::{AExpr, IR};
+use serde_json::Value;
+use std::alloc::Global;
+use thiserror::Error;
+
+/// A plan with what is asked of it.
+#[derive(Drop)]
+pub struct Document {
+    /// The number of the plan's topmost node.
+    pub root: Node,
+    /// The nodes, by their numbers.
+    pub lp: Arena<IR>,
+    /// The expressions, by their numbers.
+    pub ex: Arena<AExpr>,
+    /// The bits of the optimisations that are asked for.
+    pub flags: u32,
+    /// Whether equal parts of the plan are shared.
+    pub shared: bool,
+}
+
+/// Why bytes stand for no document.
+#[derive(Clone, Copy, Debug, PartialEq, Eq, Error)]
+pub enum ReadError {
+    #[error("the bytes are no JSON text")]
+    NotJson,
+    #[error("the value is no document")]
+    Form,
+    #[error("out of memory")]
+    OutOfMemory,
+}
+
+const NAMED_FLAGS: u32 = 262141;
+
+#[tactic(auto, unfolding(crate::specs::Document::flags_of))]
+fn flags(value: &Value) -> Result<u32, Fault>
+    ensures { Gives result (flags_of (view value.now)) }
+{
+    let flags = number(value)?;
+    if flags | NAMED_FLAGS == NAMED_FLAGS {
+        built_flags(flags)
+    } else {
+        Err(Fault::Form)
+    }
+}
+
+#[tactic(auto, unfolding(crate::specs::Document::nodes_of))]
+fn nodes(alloc: Global, value: &Value) -> Result<Arena<IR>, Fault>
+    ensures { Gives result (nodes_of (view value.now)) }
+{
+    let entries = entries(value)?;
+    arena_of_each(alloc, entries, |entry| node(alloc, entry))
+}
+
+#[tactic(auto, unfolding(crate::specs::Document::exprs_of))]
+fn exprs(alloc: Global, value: &Value) -> Result<Arena<AExpr>, Fault>
+    ensures { Gives result (exprs_of (view value.now)) }
+{
+    let entries = entries(value)?;
+    arena_of_each(alloc, entries, |entry| expr(alloc, entry))
+}
+
+#[tactic(auto, unfolding(crate::specs::Document::document_keys))]
+fn document_object(value: &Value) -> Result<&Value, Fault>
+    ensures { Shows (λ v. view v.now) result (object_of document_keys (view value.now)) }
+{
+    object(
+        value,
+        &["exprs", "flags", "nodes", "root", "shared", "tables"],
+    )
+}
+
+#[tactic(auto, unfolding(crate::specs::Document::document_of))]
+fn document_of(alloc: Global, value: &Value) -> Result<Document, Fault>
+    ensures { Gives result (document_at (view value.now)) }
+{
+    let object = document_object(value)?;
+    let root = link(field(object, "root")?)?;
+    let lp = nodes(alloc, field(object, "nodes")?)?;
+    let ex = exprs(alloc, field(object, "exprs")?)?;
+    let flags = flags(field(object, "flags")?)?;
+    let shared = unshared(field(object, "shared")?)?;
+    nothing(field(object, "tables")?)?;
+    Ok(Document {
+        root,
+        lp,
+        ex,
+        flags,
+        shared,
+    })
+}
+
+// The value that the bytes stand for.
+#[tactic(auto, using(crate::proofs::ReadingLemmas::utf8_or_not), unfolding(crate::specs::Document::json_of))]
+fn json(alloc: Global, bytes: &[u8]) -> Result<Value, ReadError>
+    ensures { IsJson result (json_of bytes.now) }
+{
+    match Value::from_slice(alloc, bytes) {
+        Ok(value) => Ok(value),
+        Err(error) if error.is_memory() => Err(ReadError::OutOfMemory),
+        Err(_) => Err(ReadError::NotJson),
+    }
+}
+
+/// The document that the bytes stand for, or why they stand for none.
+#[tactic(auto, unfolding(crate::specs::Document::doc_of))]
+pub fn read_document(alloc: Global, bytes: &[u8]) -> Result<Document, ReadError>
+    ensures { IsReading result (doc_of bytes.now) }
+{
+    let value = json(alloc, bytes)?;
+    match document_of(alloc, &value) {
+        Ok(document) => Ok(document),
+        Err(Fault::Form) => Err(ReadError::Form),
+        Err(Fault::Memory) => Err(ReadError::OutOfMemory),
+    }
+}

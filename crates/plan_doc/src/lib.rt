@@ -1,0 +1,14 @@
+//! The documents of plans: from bytes to the arenas of a plan.
+#![tactic(auto)]
+
+mod arrays;
+mod built;
+mod document;
+mod exprs;
+mod fault;
+mod nodes;
+mod parts;
+#[cfg(test)]
+mod tests;
+
+pub use document::{Document, ReadError, read_document};

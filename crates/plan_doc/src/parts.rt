@@ -1,0 +1,234 @@
+//! The parts that the readers of nodes and expressions are made of.
+ghost use Rattle.std.specs.Prelude.{◌≡◌, map};
+ghost use Rattle.serde_json.specs.Find.{get, as_null};
+ghost use Rattle.serde_json.specs.View.{view};
+ghost use Rattle.plan_doc.specs.Gives.{Gives, Shows};
+ghost use Rattle.plan_doc.specs.Parts.{entries_of, object_of, name_of, number_of, link_of, truth_of, integer_of, names_of, nullable, two_of, three_of, type_of, column_of, columns_of, output_of, count_of, has_keys as has_keys_of};
+
+use crate::arrays::each;
+use crate::fault::Fault;
+use plan_core::{DataType, Items, Node, PlSmallStr, Schema};
+use plan_ir::{ExprIR, OutputName};
+use serde_json::Value;
+use std::alloc::Global;
+
+/// The value under a key.
+pub fn field<'a>(value: &'a Value, key: &str) -> Result<&'a Value, Fault>
+    ensures { Shows (λ v. view v.now) result (get key.now (view value.now)) }
+{
+    value.get(key).ok_or(Fault::Form)
+}
+
+#[tactic(auto, using(crate::proofs::EntryLemmas::members_len_view))]
+fn member_count(value: &Value) -> Result<usize, Fault>
+    ensures { Gives result (count_of (view value.now)) }
+{
+    match value.as_object() {
+        Some(members) => Ok(members.len()),
+        None => Err(Fault::Form),
+    }
+}
+
+fn has_keys(value: &Value, keys: &[&str]) -> bool
+    ensures { result ≡ has_keys_of (map (λ k. k.now) keys.now) (view value.now) }
+{
+    match keys {
+        [] => true,
+        [first, rest @ ..] => value.get(*first).is_some() && has_keys(value, rest),
+    }
+}
+
+/// An object with these keys and no other.
+#[tactic(auto, unfolding(crate::specs::Parts::object_of))]
+pub fn object<'a>(value: &'a Value, keys: &[&str]) -> Result<&'a Value, Fault>
+    ensures { Shows (λ v. view v.now) result (object_of (map (λ k. k.now) keys.now) (view value.now)) }
+{
+    let count = member_count(value)?;
+    if count != keys.len() {
+        return Err(Fault::Form);
+    }
+    if !has_keys(value, keys) {
+        return Err(Fault::Form);
+    }
+    Ok(value)
+}
+
+/// Null.
+pub fn nothing(value: &Value) -> Result<(), Fault>
+    ensures { Gives result (as_null (view value.now)) }
+{
+    value.as_null().ok_or(Fault::Form)
+}
+
+/// A whole number from 0 to 4294967295.
+#[tactic(auto, unfolding(crate::specs::Parts::number_of))]
+pub fn number(value: &Value) -> Result<u32, Fault>
+    ensures { Gives result (number_of (view value.now)) }
+{
+    let number = value.as_u64().ok_or(Fault::Form)?;
+    if number > 4294967295 {
+        return Err(Fault::Form);
+    }
+    Ok(number as u32)
+}
+
+/// The entry of a number.
+#[tactic(auto, unfolding(crate::specs::Parts::link_of))]
+pub fn link(value: &Value) -> Result<Node, Fault>
+    ensures { Gives result (link_of (view value.now)) }
+{
+    let number = number(value)?;
+    Ok(Node(number as usize))
+}
+
+/// A whole number of 64 signed bits.
+#[tactic(auto, unfolding(crate::specs::Parts::integer_of))]
+pub fn integer(value: &Value) -> Result<i64, Fault>
+    ensures { Gives result (integer_of (view value.now)) }
+{
+    value.as_i64().ok_or(Fault::Form)
+}
+
+/// True or false.
+#[tactic(auto, unfolding(crate::specs::Parts::truth_of))]
+pub fn truth(value: &Value) -> Result<bool, Fault>
+    ensures { Gives result (truth_of (view value.now)) }
+{
+    value.as_bool().ok_or(Fault::Form)
+}
+
+/// A text.
+#[tactic(auto, unfolding(crate::specs::Parts::name_of))]
+pub fn text(value: &Value) -> Result<&str, Fault>
+    ensures { Shows (λ s. s.now) result (name_of (view value.now)) }
+{
+    value.as_str().ok_or(Fault::Form)
+}
+
+/// A text, as a name.
+pub fn name(alloc: Global, value: &Value) -> Result<PlSmallStr, Fault>
+    ensures { Gives result (name_of (view value.now)) }
+{
+    let text = text(value)?;
+    Ok(PlSmallStr::new(alloc, text)?)
+}
+
+/// The entries of an array.
+#[tactic(auto, using(crate::proofs::EntryLemmas::items_list_view), unfolding(crate::specs::Parts::entries_of))]
+pub fn entries(value: &Value) -> Result<&[Value], Fault>
+    ensures { Shows (λ v. map view v.now) result (entries_of (view value.now)) }
+{
+    match value.as_array() {
+        Some(entries) => Ok(entries.as_slice()),
+        None => Err(Fault::Form),
+    }
+}
+
+#[tactic(auto, unfolding(crate::specs::Parts::two_of))]
+fn two(value: &Value) -> Result<(&Value, &Value), Fault>
+    ensures { Shows (λ p. (view p.0.now, view p.1.now)) result (two_of (view value.now)) }
+{
+    match entries(value)? {
+        [first, second] => Ok((first, second)),
+        _ => Err(Fault::Form),
+    }
+}
+
+#[tactic(auto, unfolding(crate::specs::Parts::three_of))]
+fn three(value: &Value) -> Result<(&Value, &Value, &Value), Fault>
+    ensures { Shows (λ p. (view p.0.now, view p.1.now, view p.2.now)) result
+        (three_of (view value.now)) }
+{
+    match entries(value)? {
+        [first, second, third] => Ok((first, second, third)),
+        _ => Err(Fault::Form),
+    }
+}
+
+/// An array of names.
+#[tactic(auto, unfolding(crate::specs::Parts::names_of))]
+pub fn names(alloc: Global, value: &Value) -> Result<Items<PlSmallStr>, Fault>
+    ensures { Gives result (names_of (view value.now)) }
+{
+    let entries = entries(value)?;
+    each(alloc, entries, |entry| name(alloc, entry))
+}
+
+/// The name of a type.
+#[tactic(auto, unfolding(crate::specs::Parts::type_of, crate::specs::Parts::type_named))]
+pub fn data_type(value: &Value) -> Result<DataType, Fault>
+    ensures { Gives result (type_of (view value.now)) }
+{
+    match text(value)? {
+        "Int64" => Ok(DataType::Int64),
+        "String" => Ok(DataType::String),
+        "Boolean" => Ok(DataType::Boolean),
+        _ => Err(Fault::Form),
+    }
+}
+
+#[tactic(auto, unfolding(crate::specs::Parts::column_of))]
+fn column(alloc: Global, value: &Value) -> Result<(PlSmallStr, DataType), Fault>
+    ensures { Gives result (column_of (view value.now)) }
+{
+    let (name_value, type_value) = two(value)?;
+    let name = name(alloc, name_value)?;
+    let data_type = data_type(type_value)?;
+    Ok((name, data_type))
+}
+
+/// An array of names with types, no name twice.
+#[tactic(auto, unfolding(crate::specs::Parts::columns_of))]
+pub fn columns(alloc: Global, value: &Value) -> Result<Schema, Fault>
+    ensures { Gives result (columns_of (view value.now)) }
+{
+    let entries = entries(value)?;
+    let mut columns = Schema::new(alloc);
+    for entry in entries {
+        let (name, data_type) = column(alloc, entry)?;
+        if columns.with_column(name, data_type)?.is_some() {
+            return Err(Fault::Form);
+        }
+    }
+    Ok(columns)
+}
+
+/// An expression with its output name.
+#[tactic(auto, unfolding(crate::specs::Parts::output_of, crate::specs::Parts::output_name_of))]
+pub fn output(alloc: Global, value: &Value) -> Result<ExprIR, Fault>
+    ensures { Gives result (output_of (view value.now)) }
+{
+    let (link_value, kind, name_value) = three(value)?;
+    let node = link(link_value)?;
+    let kind = text(kind)?;
+    let name = name(alloc, name_value)?;
+    let output_name = match kind {
+        "col" => OutputName::ColumnLhs(name),
+        "lit" => OutputName::LiteralLhs(name),
+        "alias" => OutputName::Alias(name),
+        _ => return Err(Fault::Form),
+    };
+    Ok(ExprIR { node, output_name })
+}
+
+/// Null, or names.
+#[tactic(auto, using(crate::proofs::NullLemmas::nullable_null, crate::proofs::NullLemmas::nullable_other))]
+pub fn optional_names(alloc: Global, value: &Value) -> Result<Option<Items<PlSmallStr>>, Fault>
+    ensures { Gives result (nullable names_of (view value.now)) }
+{
+    if value.is_null() {
+        return Ok(None);
+    }
+    Ok(Some(names(alloc, value)?))
+}
+
+/// Null, or names with types.
+#[tactic(auto, using(crate::proofs::NullLemmas::nullable_null, crate::proofs::NullLemmas::nullable_other))]
+pub fn optional_columns(alloc: Global, value: &Value) -> Result<Option<Schema>, Fault>
+    ensures { Gives result (nullable columns_of (view value.now)) }
+{
+    if value.is_null() {
+        return Ok(None);
+    }
+    Ok(Some(columns(alloc, value)?))
+}
