@@ -16,8 +16,11 @@ operands_of (Literal value) = []
 operands_of (BinaryExpr left op right) = left ∷ right ∷ []
 
 -- any expression can stand in a tree
+abbrev pub is_bad_expr : AExpr → Bool
+is_bad_expr e = false
+
 abbrev pub expr_shape : Shape AExpr
-expr_shape = record { inputs = operands_of; bad = λ e. false }
+expr_shape = record { inputs = operands_of; bad = is_bad_expr }
 
 abbrev pub list_of : {A : Type 0} → Option A → List A
 list_of None = []

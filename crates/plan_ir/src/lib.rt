@@ -4,6 +4,7 @@
 mod copy;
 mod expr;
 mod ir;
+mod parts;
 mod scan;
 
 pub use copy::PlanCopy;
