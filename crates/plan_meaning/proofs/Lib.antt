@@ -1,3 +1,4 @@
 mod ExprSteps
 mod CheckLemmas
 mod ReadLemmas
+mod TreeFaultLemmas

@@ -1,3 +1,5 @@
 pub mod Exprs
 pub mod Typing
 pub mod Seen
+pub mod TreeFaults
+pub mod Typed

@@ -8,6 +8,7 @@ mod scan;
 
 
 pub use filter::check_filter;
+pub use place::at;
 pub use projection::check_projection;
 pub use scan::check_scan;
 
