@@ -28,3 +28,10 @@ module _ {P : Type 0} (S : Shape P) where
   -- the tree that stands at a number is the one that is read there
   pub tree_at-is : (lp : List P) (n : Node) (t : Trees P) → StandsOnce S lp (n ∷ []) t → tree_at S lp n ≡ t
   tree_at-is lp n t h = rw (← join-none (tree_at S lp n)) (trees_at-is lp (n ∷ []) t h)
+
+  -- where trees stand, those that are read stand
+  pub trees_at-stands : (lp : List P) (ns : List Node) (f : Trees P) → StandsOnce S lp ns f → StandsOnce S lp ns (trees_at S lp ns)
+  trees_at-stands lp ns f h = rw (trees_at-is lp ns f h) h
+
+  pub tree_at-stands : (lp : List P) (n : Node) (t : Trees P) → StandsOnce S lp (n ∷ []) t → StandsOnce S lp (n ∷ []) (tree_at S lp n)
+  tree_at-stands lp n t h = rw (tree_at-is lp n t h) h

@@ -1,3 +1,4 @@
+-- The loop of `levels_of` by its lemmas.
 use Rattle.std.proofs.Common.{◌∙◌, ap, arith}
 use Rattle.plan_tree.proofs.LevelLemmas.{Deep-init, Deep-end, turn, on_top, levels-fit}
 use Rattle.plan_tree.proofs.ReadLemmas.{trees_at-is}

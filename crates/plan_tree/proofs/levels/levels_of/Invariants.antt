@@ -1,3 +1,4 @@
+-- The loop knows trees at the pending steps, which get fewer nodes at each turn.
 use Rattle.plan_tree.proofs.LevelLemmas.{Deep, left}
 use Rattle.plan_tree.specs.Stands.{shape}
 use Rattle.plan_tree.proofs.levels.levels_of.Given as goal

@@ -1,3 +1,4 @@
+-- A step of the loop moves one number from the rest to the stack.
 use Rattle.std.proofs.Common.{◌≡◌, ◌++◌, reverse}
 use Rattle.plan_tree.specs.Walk.{steps_to}
 use Rattle.plan_tree.proofs.walking.stack_numbers.Given as goal

@@ -1,3 +1,4 @@
+-- A step of the loop moves one root from the rest to the stack.
 use Rattle.std.proofs.Common.{◌≡◌, ◌++◌, reverse}
 use Rattle.plan_tree.proofs.walking.stack_steps.Given as goal
 

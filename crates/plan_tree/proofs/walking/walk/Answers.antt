@@ -1,3 +1,4 @@
+-- The loop of `walk` by its lemmas, and what a walk says of trees.
 use Rattle.std.proofs.Common.{◌≡◌, None, Some, ℕ, length, true, false, get_or, ◌∙◌, ap, replicate}
 use Rattle.plan_tree.proofs.WalkLemmas.{Walking-init, Walking-end, Walking-fault, Walking-next, unseen-falls}
 use Rattle.plan_tree.proofs.WalkTrees.{walked-stands, walked-in_order}

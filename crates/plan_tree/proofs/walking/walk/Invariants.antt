@@ -1,3 +1,4 @@
+-- The loop goes on as `walk_on` does, and marks a number at each turn.
 use Rattle.plan_tree.proofs.WalkLemmas.{Walking, unseen}
 use Rattle.plan_tree.specs.Stands.{shape}
 use Rattle.plan_tree.proofs.walking.walk.Given as goal

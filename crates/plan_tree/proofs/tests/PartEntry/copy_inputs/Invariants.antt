@@ -1,3 +1,4 @@
+-- A step of the loop copies one input.
 use Rattle.std.proofs.Common.{◌≡◌, take, ◌++◌}
 use Rattle.plan_tree.proofs.tests.PartEntry.copy_inputs.Given as goal
 
