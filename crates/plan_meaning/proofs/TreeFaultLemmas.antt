@@ -78,3 +78,9 @@ plan_found lp ex root listed steps t order is e =
       exprs = e.0;
       stands = record { nodes = t.1; exprs = subst (λ (l : List Node). StandsOnce expr_shape ex l e.0) roots e.1 };
     }
+
+-- what is read at a place within a list doesn't depend on what is read outside
+pub read-any : {A : Type 0} (xs : List A) (i : ℕ) (d e : A) → i < length xs → get_or xs i d ≡ get_or xs i e
+read-any [] i d e lt = absurd (omega arith)
+read-any (x ∷ xs) zero d e lt = refl
+read-any (x ∷ xs) (suc i) d e lt = read-any xs i d e (omega arith)
