@@ -2,3 +2,4 @@ mod ExprSteps
 mod CheckLemmas
 mod ReadLemmas
 mod TreeFaultLemmas
+mod TypedLemmas

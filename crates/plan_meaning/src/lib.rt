@@ -3,8 +3,10 @@
 
 mod check;
 mod exprs;
+mod plan;
 mod tree;
 
 pub use exprs::{Naming, decided_name, expr_type, may_be_named, reads_only};
 pub use check::{check_filter, check_projection, check_scan};
+pub use plan::check_plan;
 pub use tree::check_tree;
