@@ -1,8 +1,9 @@
 //! The texts that are written.
-ghost use Rattle.std.specs.Prelude.{◌≡◌, IfOk, false, string_bytes};
+ghost use Rattle.std.specs.Prelude.{◌≡◌, IfOk, Some, false, string_bytes};
+ghost use Rattle.serde_json.specs.Read.{read};
 ghost use Rattle.serde_json.specs.View.{view};
 ghost use Rattle.serde_json.specs.Written.{has_float};
-ghost use Rattle.plan_text.specs.Written.{names_data, list_data, listing_data, fault_data, line_of, plan_text, listing_text, error_text};
+ghost use Rattle.plan_text.specs.Written.{names_data, list_data, listing_data, fault_data, line_of, plan_data, plan_text, listing_text, error_text};
 
 use crate::kinds::{fault_name, place};
 use crate::lists::each;
@@ -15,9 +16,14 @@ use std::alloc::{AllocError, Global};
 
 /// The text of a plan, with no line feed: the object of its `exprs`, its `nodes` and its `root`,
 /// as compact JSON with its keys in byte order.
-#[tactic(auto, using(crate::proofs::FloatLemmas::plan_plain), unfolding(crate::specs::Written::plan_text))]
+#[tactic(auto, using(crate::proofs::FloatLemmas::plan_plain, crate::proofs::DepthLemmas::plan_deep), unfolding(crate::specs::Written::plan_text))]
 pub fn write_plan(alloc: Global, plan: &PlanCopy) -> Result<String, AllocError>
-    ensures { IfOk result (λ s. string_bytes s ≡ plan_text plan.now.lp plan.now.ex plan.now.root) }
+    ensures text { IfOk result (λ s. string_bytes s
+        ≡ plan_text plan.now.lp plan.now.ex plan.now.root) }
+
+    // The text is read as the value that is written.
+    ensures reads_back { IfOk result (λ s. read (string_bytes s)
+        ≡ Some (plan_data plan.now.lp plan.now.ex plan.now.root)) }
 {
     let value = plan_value(alloc, plan)?;
     value.to_string(alloc)
