@@ -15,7 +15,7 @@ use serde_json::{Value, json};
 use std::alloc::{AllocError, Global};
 
 /// The text of a plan, with no line feed: the object of its `exprs`, its `nodes` and its `root`,
-/// as compact JSON with its keys in byte order.
+/// as compact JSON with its keys in byte order. It fails only where memory is wanting.
 #[tactic(auto, using(crate::proofs::FloatLemmas::plan_plain, crate::proofs::DepthLemmas::plan_deep), unfolding(crate::specs::Written::plan_text))]
 pub fn write_plan(alloc: Global, plan: &PlanCopy) -> Result<String, AllocError>
     ensures text { IfOk result (λ s. string_bytes s
@@ -57,7 +57,8 @@ fn listing(alloc: Global, plan: &PlanCopy, reads: &[Items<PlSmallStr>]) -> Resul
 }
 
 /// The text of a listing, with a line feed: the object of a `plan`, of the names that each of its
-/// scans `reads`, from left to right, and of its `rows`, which are null.
+/// scans `reads`, from left to right, and of its `rows`, which are null. It fails only where
+/// memory is wanting.
 #[tactic(auto, using(crate::proofs::FloatLemmas::listing_plain), unfolding(crate::specs::Written::listing_text))]
 pub fn write_listing(
     alloc: Global,
@@ -82,7 +83,7 @@ fn fault(alloc: Global, error: &PolarsError) -> Result<Value, AllocError>
 
 /// The text of an error, with a line feed: the object of an `error` with its `kind`, its `node`,
 /// which is null where it lies at none, and its `place`. `OutOfMemory` has the node null and the
-/// place 0; the program writes no text for it.
+/// place 0; the program writes no text for it. It fails only where memory is wanting.
 #[tactic(auto, using(crate::proofs::FloatLemmas::fault_plain), unfolding(crate::specs::Written::error_text))]
 pub fn write_fault(alloc: Global, error: &PolarsError) -> Result<String, AllocError>
     ensures { IfOk result (λ s. string_bytes s ≡ error_text error.now) }
