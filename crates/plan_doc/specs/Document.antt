@@ -1,5 +1,5 @@
 -- The document that bytes stand for.
-use Rattle.std.specs.Prelude.{◌≡◌, ℕ, ◌==◌, List, [], ◌∷◌, Bool, Option, Some, None, Result, Ok, Err, if◌then◌else◌, codes, bit_or}
+use Rattle.std.specs.Prelude.{◌≡◌, ℕ, ◌==◌, List, [], ◌∷◌, Option, Some, None, Result, Ok, Err, if◌then◌else◌, codes, bit_or}
 use Rattle.std.specs.Str.{is_utf8}
 use Rattle.serde_json.specs.Read.{read}
 use Rattle.serde_json.specs.Data.{Data}
@@ -15,7 +15,7 @@ use Rattle.plan_doc.specs.Parts.{◌>>=◌, entries_of, each, object_of, number_
 use Rattle.plan_doc.specs.Built.{built_flags, unshared_of}
 use Rattle.plan_doc.specs.Nodes.{node_of, expr_of}
 
--- the flags that have names, all together
+-- the flags that have names, all together: the bits below 2 ^ 18 but the bit 2
 abbrev pub named_flags : ℕ
 named_flags = 262141
 
