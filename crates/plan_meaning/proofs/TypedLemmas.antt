@@ -19,6 +19,18 @@ or_none : (e : Option PolarsError) → or_fault e None ≡ e
 or_none None = refl
 or_none (Some f) = refl
 
+first_is : (x y : Option PolarsError) (f : PolarsError) → x ≡ Some f → or_fault x y ≡ Some f
+first_is x y f e = ap (λ (o : Option PolarsError). or_fault o y) e
+
+refuses : (x y : Option PolarsError) (s : Columns) (f : PolarsError) → x ≡ Some f → schema_or (or_fault x y) s ≡ Err f
+refuses x y s f e = ap (λ (o : Option PolarsError). schema_or (or_fault o y) s) e
+
+refuses_later : (x y : Option PolarsError) (s : Columns) (f : PolarsError) → x ≡ None → y ≡ Some f → schema_or (or_fault x y) s ≡ Err f
+refuses_later x y s f e g = ap₂ (λ (o q : Option PolarsError). schema_or (or_fault o q) s) e g
+
+accepts : (x y : Option PolarsError) (s : Columns) → x ≡ None → y ≡ None → schema_or (or_fault x y) s ≡ Ok s
+accepts x y s e g = ap₂ (λ (o q : Option PolarsError). schema_or (or_fault o q) s) e g
+
 module _ (lp : List IR) (ex : List AExpr) (n : Node) (p : IR) (h : IsPlan lp ex n) (entry : slice_get lp n.0 ≡ Some p) where
   plan_faults : faults (plans_at lp ex (n ∷ [])) ≡ or_fault (faults (plans_at lp ex (inputs_of p))) (first_fault n (checks (op_at ex p) (schemas (plans_at lp ex (inputs_of p)))))
   plan_faults = ap faults (plan_open lp ex n p h entry) ∙ or_none _
@@ -29,11 +41,11 @@ module _ (lp : List IR) (ex : List AExpr) (n : Node) (p : IR) (h : IsPlan lp ex 
   -- a fault of an input is the plan's
   pub input_fault : (e : PolarsError) → IsPlanTyped (Err e) (plans_at lp ex (inputs_of p)) → IsPlanTyped (Err e) (plans_at lp ex (n ∷ []))
   input_fault OutOfMemory f = tt
-  input_fault (SchemaFieldNotFound a) f = plan_faults ∙ ap (λ (x : Option PolarsError). or_fault x _) f
-  input_fault (Duplicate a) f = plan_faults ∙ ap (λ (x : Option PolarsError). or_fault x _) f
-  input_fault (SchemaMismatch a) f = plan_faults ∙ ap (λ (x : Option PolarsError). or_fault x _) f
-  input_fault (InvalidOperation a) f = plan_faults ∙ ap (λ (x : Option PolarsError). or_fault x _) f
-  input_fault (ComputeError a) f = plan_faults ∙ ap (λ (x : Option PolarsError). or_fault x _) f
+  input_fault (SchemaFieldNotFound a) f = plan_faults ∙ first_is _ _ _ f
+  input_fault (Duplicate a) f = plan_faults ∙ first_is _ _ _ f
+  input_fault (SchemaMismatch a) f = plan_faults ∙ first_is _ _ _ f
+  input_fault (InvalidOperation a) f = plan_faults ∙ first_is _ _ _ f
+  input_fault (ComputeError a) f = plan_faults ∙ first_is _ _ _ f
 
   -- where the inputs have no fault, the node's answer is the plan's
   module _ (ss : List Columns) (good : faults (plans_at lp ex (inputs_of p)) ≡ None) (are : schemas (plans_at lp ex (inputs_of p)) ≡ ss) where
@@ -52,18 +64,18 @@ module _ (lp : List IR) (ex : List AExpr) (n : Node) (p : IR) (h : IsPlan lp ex 
 -- the answer of the walk over numbers, where it refuses
 pub tree_answer : (lp : List IR) (ex : List AExpr) (root : Node) (e : PolarsError) → Says {A = Unit {0}} (Err e) (tree_fault lp ex root) → IsTyped (Err e) (typed lp ex root)
 tree_answer lp ex root OutOfMemory f = tt
-tree_answer lp ex root (SchemaFieldNotFound a) f = ap (λ (x : Option PolarsError). schema_or (or_fault x _) _) f
-tree_answer lp ex root (Duplicate a) f = ap (λ (x : Option PolarsError). schema_or (or_fault x _) _) f
-tree_answer lp ex root (SchemaMismatch a) f = ap (λ (x : Option PolarsError). schema_or (or_fault x _) _) f
-tree_answer lp ex root (InvalidOperation a) f = ap (λ (x : Option PolarsError). schema_or (or_fault x _) _) f
-tree_answer lp ex root (ComputeError a) f = ap (λ (x : Option PolarsError). schema_or (or_fault x _) _) f
+tree_answer lp ex root (SchemaFieldNotFound a) f = refuses _ _ _ _ f
+tree_answer lp ex root (Duplicate a) f = refuses _ _ _ _ f
+tree_answer lp ex root (SchemaMismatch a) f = refuses _ _ _ _ f
+tree_answer lp ex root (InvalidOperation a) f = refuses _ _ _ _ f
+tree_answer lp ex root (ComputeError a) f = refuses _ _ _ _ f
 
 -- where the numbers lead to a plan, the answer of its nodes is the answer
 pub plan_answer : (lp : List IR) (ex : List AExpr) (root : Node) → tree_fault lp ex root ≡ None → (r : Result Columns PolarsError) → IsPlanTyped r (plans_at lp ex (root ∷ [])) → IsTyped r (typed lp ex root)
-plan_answer lp ex root good (Ok s) a = ap₂ (λ (x y : Option PolarsError). schema_or (or_fault x y) _) good a.0 ∙ ap (λ (y : List Columns). Ok (first_schema y)) a.1
+plan_answer lp ex root good (Ok s) a = accepts _ _ _ good a.0 ∙ ap (λ (y : List Columns). Ok (first_schema y)) a.1
 plan_answer lp ex root good (Err OutOfMemory) a = tt
-plan_answer lp ex root good (Err (SchemaFieldNotFound b)) a = ap₂ (λ (x y : Option PolarsError). schema_or (or_fault x y) _) good a
-plan_answer lp ex root good (Err (Duplicate b)) a = ap₂ (λ (x y : Option PolarsError). schema_or (or_fault x y) _) good a
-plan_answer lp ex root good (Err (SchemaMismatch b)) a = ap₂ (λ (x y : Option PolarsError). schema_or (or_fault x y) _) good a
-plan_answer lp ex root good (Err (InvalidOperation b)) a = ap₂ (λ (x y : Option PolarsError). schema_or (or_fault x y) _) good a
-plan_answer lp ex root good (Err (ComputeError b)) a = ap₂ (λ (x y : Option PolarsError). schema_or (or_fault x y) _) good a
+plan_answer lp ex root good (Err (SchemaFieldNotFound b)) a = refuses_later _ _ _ _ good a
+plan_answer lp ex root good (Err (Duplicate b)) a = refuses_later _ _ _ _ good a
+plan_answer lp ex root good (Err (SchemaMismatch b)) a = refuses_later _ _ _ _ good a
+plan_answer lp ex root good (Err (InvalidOperation b)) a = refuses_later _ _ _ _ good a
+plan_answer lp ex root good (Err (ComputeError b)) a = refuses_later _ _ _ _ good a
