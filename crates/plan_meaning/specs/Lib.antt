@@ -3,3 +3,4 @@ pub mod Typing
 pub mod Seen
 pub mod TreeFaults
 pub mod Typed
+pub mod Depths

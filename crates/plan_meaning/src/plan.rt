@@ -1,10 +1,11 @@
 //! The schema of a plan, or its first fault.
-ghost use Rattle.std.specs.Prelude.{◌≡◌, [], ◌∷◌, IfOk, option_map};
+ghost use Rattle.std.specs.Prelude.{◌≡◌, [], ◌∷◌, IfOk, None, option_map};
 ghost use Rattle.plan_ir.specs.Parts.{IsExpr, IsPlan};
 ghost use Rattle.plan_ir.specs.Plans.{filter, scan, simple_projection, named_at, plans_at};
 ghost use Rattle.plan_ir.specs.declared.scan.FileScan.{FileScan};
 ghost use Rattle.plan_ir.specs.declared.scan.ScanSources.{ScanSources};
 ghost use Rattle.plan_meaning.specs.Typing.{columns_or, file_columns};
+ghost use Rattle.plan_meaning.specs.TreeFaults.{tree_fault};
 ghost use Rattle.plan_meaning.specs.Typed.{typed, IsNodeTyped, IsPlanTyped, IsTyped};
 
 use crate::check::{at, check_filter, check_projection, check_scan};
@@ -111,6 +112,20 @@ fn schema_of(
     }
 }
 
+/// The columns of the plan that stands at `root`, or the first fault of its nodes, inputs before the node.
+pub fn check_nodes(
+    alloc: Global,
+    root: Node,
+    lp: &Arena<IR>,
+    ex: &Arena<AExpr>,
+) -> PolarsResult<Schema>
+    requires stands { IsPlan lp.now ex.now root }
+    requires numbers { tree_fault lp.now ex.now root ≡ None }
+    ensures { IsTyped result (typed lp.now ex.now root) }
+{
+    schema_of(alloc, root, lp, ex)
+}
+
 /// The columns of the plan at `root`, or its first fault: bad numbers in walk order, and then the faults of its nodes,
 /// inputs before the node.
 pub fn check_plan(
@@ -123,5 +138,5 @@ pub fn check_plan(
     ensures stands { IfOk result (λ _. IsPlan lp.now ex.now root) }
 {
     check_tree(alloc, root, lp, ex)?;
-    schema_of(alloc, root, lp, ex)
+    check_nodes(alloc, root, lp, ex)
 }
