@@ -1,4 +1,8 @@
 //! The types of columns.
+ghost use Rattle.std.specs.Prelude.{◌≡◌, IfOk};
+
+use crate::try_clone::TryClone;
+use std::alloc::{AllocError, Global};
 
 /// The type of a column: whole numbers of 64 bits, text, or truth values.
 #[derive(Clone, Copy, PartialEq, Eq, Hash, Debug)]
@@ -6,4 +10,13 @@ pub enum DataType {
     Int64,
     String,
     Boolean,
+}
+
+impl TryClone for DataType {
+    fn try_clone(&self, alloc: Global) -> Result<Self, AllocError>
+        ensures { IfOk result (λ r. r ≡ self.now) }
+    {
+        let _ = alloc;
+        Ok(*self)
+    }
 }

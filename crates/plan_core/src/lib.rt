@@ -9,6 +9,8 @@ mod items;
 mod options;
 mod schema;
 mod schema_iter;
+#[cfg(test)]
+mod tests;
 mod text;
 mod try_clone;
 mod unit_vec;

@@ -19,3 +19,39 @@ impl<T: TryClone> TryClone for Option<T> {
         }
     }
 }
+
+impl TryClone for bool {
+    fn try_clone(&self, alloc: Global) -> Result<Self, AllocError>
+        ensures { IfOk result (λ r. r ≡ self.now) }
+    {
+        let _ = alloc;
+        Ok(*self)
+    }
+}
+
+impl TryClone for u32 {
+    fn try_clone(&self, alloc: Global) -> Result<Self, AllocError>
+        ensures { IfOk result (λ r. r ≡ self.now) }
+    {
+        let _ = alloc;
+        Ok(*self)
+    }
+}
+
+impl TryClone for i64 {
+    fn try_clone(&self, alloc: Global) -> Result<Self, AllocError>
+        ensures { IfOk result (λ r. r ≡ self.now) }
+    {
+        let _ = alloc;
+        Ok(*self)
+    }
+}
+
+impl TryClone for usize {
+    fn try_clone(&self, alloc: Global) -> Result<Self, AllocError>
+        ensures { IfOk result (λ r. r ≡ self.now) }
+    {
+        let _ = alloc;
+        Ok(*self)
+    }
+}
