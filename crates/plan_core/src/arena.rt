@@ -52,7 +52,8 @@ impl<T> Arena<T> {
         self.items.len()
     }
 
-    /// Appends an entry and gives its number.
+    /// Appends an entry and gives its number. It refuses where memory is short, and where there
+    /// are 4294967295 entries already.
     pub fn add(&mut self, value: T) -> Result<Node, AllocError>
     where
         T: Drop,

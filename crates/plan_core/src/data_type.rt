@@ -4,11 +4,14 @@ ghost use Rattle.std.specs.Prelude.{◌≡◌, IfOk};
 use crate::try_clone::TryClone;
 use std::alloc::{AllocError, Global};
 
-/// The type of a column: whole numbers of 64 bits, text, or truth values.
+/// The type of a column.
 #[derive(Clone, Copy, PartialEq, Eq, Hash, Debug)]
 pub enum DataType {
+    /// Whole numbers of 64 bits.
     Int64,
+    /// Text.
     String,
+    /// Truth values.
     Boolean,
 }
 

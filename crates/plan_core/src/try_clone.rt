@@ -5,6 +5,7 @@ use std::alloc::{AllocError, Global};
 
 /// A copy that may want memory, and equals its source.
 pub trait TryClone: Drop {
+    /// A value that equals this one. It refuses only where memory is short.
     fn try_clone(&self, alloc: Global) -> Result<Self, AllocError>
         ensures { IfOk result (λ r. r ≡ self.now) };
 }
