@@ -1,0 +1,4 @@
+pub mod Leaves
+pub mod Pruned
+pub mod Prunes
+pub mod Scans

@@ -1,0 +1,6 @@
+//! Projection pushdown: a plan reads no columns that it doesn't put out or need.
+#![tactic(auto)]
+
+mod push_down;
+
+pub use push_down::ProjectionPushDown;
