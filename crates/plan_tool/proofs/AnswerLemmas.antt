@@ -1,6 +1,8 @@
 -- What the program says of bytes, from what it says of their document; and what it leaves in the sink.
-use Rattle.std.proofs.Common.{◌≡◌, ℕ, ◌≤◌, List, [], ◌∷◌, length, map, Bool, true, Option, Some, None, Result, Ok, Err, String, string_bytes, refl, sym, ap, ◌∙◌, subst, ◌⊎◌, inl, inr, slice_index_or, arith}
-use Rattle.std.specs.Prelude.{IfSome}
+use Rattle.std.proofs.Common.{◌≡◌, ℕ, ◌≤◌, List, [], ◌∷◌, length, map, Bool, true, false, Option, Some, None, Result, Ok, Err, String, string_bytes, refl, sym, ap, ◌∙◌, subst, ◌⊎◌, inl, inr, slice_index_or, arith}
+use Rattle.std.specs.Prelude.{IfSome, IsTrue, ◌↔◌}
+use Rattle.std.specs.Str.{bytes_eq}
+use Rattle.std.proofs.lemmas.Slice.Eq.{bytes_eq-Decides}
 use Rattle.std.specs.declared.alloc.Global.{Global}
 use Rattle.std.specs.Io.KnownBytes.{Appends, Keeps, IsAtEnd}
 use Rattle.plan_core.specs.declared.error.PolarsError.{PolarsError}
@@ -30,6 +32,17 @@ pub one_word : (words : List (String Global)) (w : String Global) → length wor
 one_word [] w one is = absurd (omega arith)
 one_word (x ∷ []) w one is = ap (λ (y : String Global). string_bytes y ∷ []) (sym is)
 one_word (x ∷ y ∷ ws) w one is = absurd (omega arith)
+
+-- whether the one word is that text
+pub same_word : (words : List (List ℕ)) (w text : List ℕ) (b : Bool) → words ≡ w ∷ [] → b ≡ bytes_eq w text → (IsTrue b ↔ (words ≡ text ∷ []))
+same_word words w text b is eq = go b refl
+  where
+    go : (d : Bool) → b ≡ d → (IsTrue b ↔ (words ≡ text ∷ []))
+    go true e = let q : w ≡ text = (bytes_eq-Decides w text).0 (sym eq ∙ e) in ((λ _. is ∙ ap (λ (x : List ℕ). x ∷ []) q), (λ _. e))
+    go false e = (
+      (λ t. let u : true ≡ false = sym t ∙ e in cc),
+      (λ h. let both : w ∷ [] ≡ text ∷ [] = sym is ∙ h in let q : w ≡ text = cc in eq ∙ (bytes_eq-Decides w text).1 q),
+    )
 
 -- the text of a fault was written, or a front of it
 pub told : (limit : ℕ) (c : Call) (bytes text : List ℕ) (fault : PolarsError) (result : Status) → IsCommand c.words → IsAtEnd c.left → IfSome c.given (λ all. bytes ≡ all) → length bytes ≤ limit → Refuses bytes fault → text ≡ error_text fault → Finishes text c.held c.holds c.clean c.write_faults c.write_faults_now answers.Refused result → Comes limit c result
