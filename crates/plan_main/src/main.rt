@@ -3,9 +3,8 @@
 
 use plan_stream::{ReadSource, WriteSink};
 use plan_tool::{Status, run};
-use std::env;
-use std::io;
 use std::process::ExitCode;
+use std::{env, io};
 
 /// The words after the program's name. Words that are no text are no command.
 fn words(rt: &HostRuntime) -> Result<Vec<String>, Status> {
