@@ -3,3 +3,8 @@ pub mod Typing
 pub mod Seen
 pub mod TreeFaults
 pub mod Typed
+pub mod Values
+pub mod Frames
+pub mod Meaning
+pub mod Contents
+pub mod Steps
