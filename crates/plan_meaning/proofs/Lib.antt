@@ -2,3 +2,8 @@ mod ExprSteps
 mod CheckLemmas
 mod ReadLemmas
 mod TreeFaultLemmas
+pub mod NameSets
+pub mod FrameLemmas
+pub mod Depends
+pub mod Sound
+pub mod CheckParts
