@@ -7,3 +7,4 @@ pub mod FrameLemmas
 pub mod Depends
 pub mod Sound
 pub mod CheckParts
+pub mod Runs

@@ -8,3 +8,5 @@ pub mod Frames
 pub mod Meaning
 pub mod Contents
 pub mod Steps
+pub mod Relating
+pub mod PlanAt
