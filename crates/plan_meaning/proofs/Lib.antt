@@ -8,3 +8,6 @@ pub mod Depends
 pub mod Sound
 pub mod CheckParts
 pub mod Runs
+pub mod Refining
+pub mod Related
+pub mod Validity

@@ -57,7 +57,7 @@ step_has c (scan sources info predicate output kind options) [] [] f good fit ha
 step_has c (simple_projection cols) (s ∷ []) (g ∷ []) f good fit has st =
     let typed = each_pass SchemaMismatch 1 (is_column s) cols (hold_back (each SchemaFieldNotFound 1 (λ (c : Name × DataType). is_known s c.0) cols) (each SchemaMismatch 1 (is_column s) cols) good.1) in
     subst (λ (x : Frame). HasSchema x cols) (sym st) (cut_schema g cols (among_hold (λ a t. Holds g (a, t)) s cols (λ a t e. schema_holds g s a t has.0 e) typed))
-step_has c op ss fs f good fit has st = absurd (first_of (search (has, st), cc))
+step_has c op ss fs f good fit has st = absurd (first_of (search st, cc))
 
 -- per node: it gives something
 step_runs : (c : Contents) (op : Op) (ss : List Columns) (fs : List Frame) → AllHold (checks op ss) → FitsAt c op → HaveSchemas fs ss → (f : Frame) × Step c op fs f
