@@ -11,3 +11,4 @@ pub mod Runs
 pub mod Refining
 pub mod Related
 pub mod Validity
+pub mod Fairness

@@ -10,3 +10,4 @@ pub mod Contents
 pub mod Steps
 pub mod Relating
 pub mod PlanAt
+pub mod Asked
