@@ -12,13 +12,8 @@ use Rattle.plan_ir.specs.declared.expr.LiteralValue.TheVariants.{Int64}
 use Rattle.plan_meaning.specs.Exprs.{Name, is_type, literal_type, both_alike, type_by, expr_type, expr_types}
 use Rattle.plan_meaning.specs.Values.{Value, null, whole, text, truth, IsOf, AllOf}
 use Rattle.plan_meaning.specs.Frames.{Frame, HasSchema, column_or}
-use Rattle.plan_meaning.specs.Meaning.{Cell, one, many, Meaning, zip_by, spread, compared, literal_value, meaning, val, vals}
+use Rattle.plan_meaning.specs.Meaning.{Cell, one, many, CellHas, Meaning, zip_by, spread, compared, literal_value, meaning, val, vals}
 use Rattle.plan_meaning.proofs.FrameLemmas.{null_of, length-map, schema_holds, holds_or}
-
--- a cell is of a type: its one value, or each of as many values as there are rows
-abbrev pub CellHas : DataType → ℕ → Cell → Type 0
-CellHas t h (one v) = IsOf t v
-CellHas t h (many vs) = (length vs ≡ h) × AllOf t vs
 
 -- over each frame with this schema a meaning is of the type, if there is one
 pub record Sound (s : Columns) (m : Meaning) (o : Option DataType) : Type 0 where

@@ -1,20 +1,26 @@
 -- What expressions mean: one value, or one value for each row of a frame.
-use Rattle.std.specs.Prelude.{ℕ, zero, suc, Bool, List, [], ◌∷◌, map, replicate, if◌then◌else◌}
+use Rattle.std.specs.Prelude.{◌≡◌, length, ℕ, zero, suc, Bool, List, [], ◌∷◌, map, replicate, if◌then◌else◌}
 use Rattle.std.specs.declared.cmp.Ordering.{Ordering}
 use Rattle.std.specs.Ordering.{is_eq, is_ne, is_lt, is_le, is_gt, is_ge}
+use Rattle.plan_core.specs.declared.data_type.DataType.{DataType}
 use Rattle.plan_tree.specs.Rose.{Rose, Roses, rose, no_roses, more}
 use Rattle.plan_ir.specs.Plans.{ExprOp, column as column_of, literal, binary, Expr}
 use Rattle.plan_ir.specs.declared.expr.LiteralValue.{LiteralValue}
 use Rattle.plan_ir.specs.declared.expr.LiteralValue.TheVariants.{Int64}
 use Rattle.plan_ir.specs.declared.expr.Operator.{Operator}
 use Rattle.plan_ir.specs.declared.expr.Operator.TheVariants.{Eq, NotEq, Lt, LtEq, Gt, GtEq}
-use Rattle.plan_meaning.specs.Values.{Value, null, whole, truth, value_cmp}
+use Rattle.plan_meaning.specs.Values.{Value, IsOf, AllOf, null, whole, truth, value_cmp}
 use Rattle.plan_meaning.specs.Frames.{Frame, column_or, row}
 
 -- one value, or one for each row
 pub data Cell : Type 0 where
   one : Value → Cell
   many : List Value → Cell
+
+-- a cell is of a type: its one value, or each of as many values as there are rows
+abbrev pub CellHas : DataType → ℕ → Cell → Type 0
+CellHas t h (one v) = IsOf t v
+CellHas t h (many vs) = (length vs ≡ h) × AllOf t vs
 
 -- what an expression is over each frame
 abbrev pub Meaning : Type 0

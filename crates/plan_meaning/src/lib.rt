@@ -3,6 +3,7 @@
 
 mod check;
 mod exprs;
+pub mod laws;
 mod tree;
 
 pub use exprs::{Naming, decided_name, expr_type, may_be_named, reads_only};
