@@ -1,18 +1,17 @@
 -- What it takes that the checks on a node hold, part by part.
-use Rattle.std.proofs.Common.{◌≡◌, ℕ, suc, Bool, true, false, cond, not, ◌&&◌, List, [], ◌∷◌, ◌++◌, length, Option, Some, None, refl, sym, ap, ◌∙◌, subst, is_some, ⊎_elim}
-use Rattle.std.specs.List.{AllByRecursion, IsDistinct}
+use Rattle.std.proofs.Common.{◌≡◌, ℕ, suc, Bool, true, List, [], ◌∷◌, ◌++◌, length, Option, sym, ap, ◌∙◌, subst, is_some, ⊎_elim}
+use Rattle.std.specs.List.{AllByRecursion}
 use Rattle.std.proofs.lemmas.Bool.{and_parts}
 use Rattle.plan_core.specs.declared.error.At.{At}
 use Rattle.plan_core.specs.declared.error.PolarsError.{PolarsError}
-use Rattle.plan_core.specs.declared.error.PolarsError.TheVariants.{SchemaFieldNotFound, Duplicate, SchemaMismatch}
-use Rattle.plan_core.specs.declared.data_type.DataType.{DataType}
+use Rattle.plan_core.specs.declared.error.PolarsError.TheVariants.{SchemaMismatch}
 use Rattle.plan_core.specs.declared.options.FileScanOptions.{FileScanOptions}
-use Rattle.plan_core.specs.Columns.{Columns, names_of, type_of, same_columns}
-use Rattle.plan_core.specs.Names.{has, AreDistinct}
+use Rattle.plan_core.specs.Columns.{Columns, type_of, same_columns}
+use Rattle.plan_core.specs.Names.{has}
 use Rattle.plan_ir.specs.declared.scan.FileInfo.{FileInfo}
 use Rattle.plan_ir.specs.Plans.{Named}
 use Rattle.plan_meaning.specs.Exprs.{Name, all_known}
-use Rattle.plan_meaning.specs.Typing.{Check, check, each, each_new, is_known, is_column, has_columns, names_or, columns_or, file_columns, all_read, put_out_checks, scan_name_checks, is_built_scan, scan_column_checks, scan_checks, AllHold}
+use Rattle.plan_meaning.specs.Typing.{Check, check, each, each_new, names_or, columns_or, file_columns, put_out_checks, scan_name_checks, is_built_scan, scan_column_checks, scan_checks, AllHold}
 use Rattle.plan_meaning.proofs.NameSets.{has_cons, has_first, has_later}
 
 pub hold_front : (xs ys : List Check) → AllHold (xs ++ ys) → AllHold xs

@@ -1,14 +1,13 @@
 -- What an expression means depends only on the height and on the columns that are its leaves.
-use Rattle.std.proofs.Common.{◌≡◌, Bool, true, List, [], ◌∷◌, ◌++◌, Option, refl, ap, ap₂, ◌∙◌}
+use Rattle.std.proofs.Common.{◌≡◌, true, List, [], ◌∷◌, Option, refl, ap, ap₂, ◌∙◌}
 use Rattle.plan_core.specs.Names.{has}
 use Rattle.plan_core.specs.Columns.{Columns, type_of}
 use Rattle.plan_core.specs.declared.data_type.DataType.{DataType}
-use Rattle.plan_tree.specs.Rose.{Rose, Roses, rose, no_roses, more}
+use Rattle.plan_tree.specs.Rose.{Roses, rose, no_roses, more}
 use Rattle.plan_ir.specs.Plans.{ExprOp, column as column_of, literal, binary, Expr}
 use Rattle.plan_meaning.specs.Exprs.{Name, own_leaves, leaves, leaves_all, type_by, expr_type, expr_types}
-use Rattle.plan_meaning.specs.Values.{Value}
 use Rattle.plan_meaning.specs.Frames.{Frame, Agree}
-use Rattle.plan_meaning.specs.Meaning.{Cell, one, many, Meaning, spread, compared, meaning, val, vals}
+use Rattle.plan_meaning.specs.Meaning.{many, Meaning, spread, compared, meaning, val, vals}
 use Rattle.plan_meaning.proofs.NameSets.{has_first, has_front, has_back}
 use Rattle.plan_meaning.proofs.FrameLemmas.{or_same}
 

@@ -1,20 +1,20 @@
 -- What a node asks can be asked of its inputs, and what a scan may read is among what it reads.
-use Rattle.std.proofs.Common.{◌≡◌, ◌&&◌, ℕ, suc, Bool, true, false, cond, not, List, [], ◌∷◌, ◌++◌, length, Option, Some, None, refl, sym, ap, ◌∙◌, subst, is_some, ⊎_elim, inl, inr}
+use Rattle.std.proofs.Common.{◌≡◌, ◌&&◌, suc, Bool, true, false, cond, List, [], ◌∷◌, ◌++◌, length, Option, Some, None, refl, sym, ap, ◌∙◌, subst, is_some, ⊎_elim}
 use Rattle.std.specs.List.{AllByRecursion}
 use Rattle.std.proofs.lemmas.Bool.{and_parts}
 use Rattle.plan_core.specs.declared.data_type.DataType.{DataType}
 use Rattle.plan_core.specs.declared.error.PolarsError.TheVariants.{SchemaFieldNotFound, SchemaMismatch}
 use Rattle.plan_core.specs.Columns.{Columns, names_of, type_of}
 use Rattle.plan_core.specs.Names.{has, with_names, AreDistinct}
-use Rattle.plan_tree.specs.Rose.{Rose, Roses, rose, no_roses, more}
-use Rattle.plan_ir.specs.Plans.{Op, filter, scan, simple_projection, invalid, Named, Plan}
-use Rattle.plan_meaning.specs.Exprs.{Name, leaves, all_known, is_type}
+use Rattle.plan_tree.specs.Rose.{Roses, rose, no_roses, more}
+use Rattle.plan_ir.specs.Plans.{Op, filter, scan, simple_projection, invalid, Plan}
+use Rattle.plan_meaning.specs.Exprs.{Name, leaves, is_type}
 use Rattle.plan_meaning.specs.Typing.{is_empty, each, is_known, is_column, has_columns, names_or, columns_or, file_columns, all_read, put_out_checks, scan_name_checks, schema_by, schemas, checks, AllHold, AllValid}
 use Rattle.plan_meaning.specs.Steps.{IsValid}
 use Rattle.plan_meaning.specs.Relating.{Asked, all, names, cached}
-use Rattle.plan_meaning.specs.Asked.{asked_names, is_asked, set_of, with_more, kept, asks_columns, asks, first_asked, rest_asked, Site, own_site, sites, sites_of, reads, allowed, Fair, IsFair, SiteFair, AllSites}
-use Rattle.plan_meaning.proofs.NameSets.{has_cons, has_first, has_later, some-type_of, keeps_names, adds_names, from_names, distinct_names, distinct_none}
-use Rattle.plan_meaning.proofs.CheckParts.{hold_front, hold_back, each_pass, known_leaf, ScanGood, scan_good}
+use Rattle.plan_meaning.specs.Asked.{asked_names, is_asked, set_of, with_more, kept, asks_columns, asks, first_asked, rest_asked, own_site, sites, reads, allowed, IsFair, SiteFair, AllSites}
+use Rattle.plan_meaning.proofs.NameSets.{has_cons, has_first, has_later, some-type_of, keeps_names, from_names, distinct_names, distinct_none}
+use Rattle.plan_meaning.proofs.CheckParts.{hold_front, each_pass, known_leaf, scan_good}
 
 -- each column of a list that passes
 pub column_passes : (P : Name → Type 0) (cs : Columns) → AllByRecursion (λ (c : Name × DataType). P c.0) cs → (a : Name) → has (names_of cs) a ≡ true → P a

@@ -1,5 +1,5 @@
 -- Frames and their columns: what rows, tables and frames one after another have.
-use Rattle.std.proofs.Common.{◌≡◌, ℕ, zero, suc, ◌+◌, Bool, true, false, cond, List, [], ◌∷◌, ◌++◌, map, length, Option, Some, None, unwrap_or, replicate, option_map, refl, sym, ap, ap₂, ◌∙◌, subst, inl, inr, ⊎_elim, length-append, arith, is_some}
+use Rattle.std.proofs.Common.{◌≡◌, ℕ, zero, suc, Bool, true, false, cond, List, [], ◌∷◌, ◌++◌, map, length, Option, Some, None, unwrap_or, replicate, option_map, refl, sym, ap, ap₂, ◌∙◌, subst, ⊎_elim, length-append, arith}
 use Rattle.std.specs.List.{AllByRecursion}
 use Rattle.std.specs.Str.{bytes_eq}
 use Rattle.plan_core.specs.declared.data_type.DataType.{DataType}

@@ -1,11 +1,11 @@
 -- The laws of refinement.
-use Rattle.std.proofs.Common.{◌≡◌, ℕ, List, [], ◌∷◌, refl, sym, ap, ap₂, ◌∙◌, subst, inl, inr, ◌⊎◌, ⊎_elim}
+use Rattle.std.proofs.Common.{◌≡◌, List, [], ◌∷◌, refl, sym, ap, ap₂, ◌∙◌, subst, inl, inr, ◌⊎◌}
 use Rattle.plan_core.specs.Columns.{Columns}
-use Rattle.plan_tree.specs.Rose.{Rose, Roses, rose, no_roses, more}
+use Rattle.plan_tree.specs.Rose.{Roses, rose, no_roses, more}
 use Rattle.plan_ir.specs.Plans.{Op, Plan}
-use Rattle.plan_meaning.specs.Typing.{schema_by, schema, schemas, checks, AllHold, AllValid}
+use Rattle.plan_meaning.specs.Typing.{schema_by, schemas, checks, AllHold, AllValid}
 use Rattle.plan_meaning.specs.Frames.{Frame}
-use Rattle.plan_meaning.specs.Contents.{Contents, FitsAll, Fits}
+use Rattle.plan_meaning.specs.Contents.{Contents, FitsAll}
 use Rattle.plan_meaning.specs.Steps.{MayAll, May, IsValid}
 use Rattle.plan_meaning.specs.Relating.{Refines, Relates, Replaced, ReplacedAll}
 use Rattle.plan_meaning.proofs.Runs.{valid_runs}

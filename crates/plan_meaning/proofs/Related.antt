@@ -1,7 +1,7 @@
 -- From nodes to plans, for any family of relations of columns and of frames.
-use Rattle.std.proofs.Common.{◌≡◌, ℕ, List, [], ◌∷◌}
+use Rattle.std.proofs.Common.{List, [], ◌∷◌}
 use Rattle.plan_core.specs.Columns.{Columns}
-use Rattle.plan_tree.specs.Rose.{Rose, Roses, rose, no_roses, more}
+use Rattle.plan_tree.specs.Rose.{Roses, rose, no_roses, more}
 use Rattle.plan_ir.specs.Plans.{Op, Plan}
 use Rattle.plan_meaning.specs.Typing.{schema_by, schema, schemas, checks, AllHold, AllValid}
 use Rattle.plan_meaning.specs.Frames.{Frame}

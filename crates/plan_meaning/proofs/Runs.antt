@@ -1,22 +1,20 @@
 -- What a node gives has its columns, and it gives something; so for plans.
-use Rattle.std.proofs.Common.{◌≡◌, ◌&&◌, ℕ, Bool, true, false, List, [], ◌∷◌, ◌++◌, map, Option, Some, None, unwrap_or, refl, sym, ap, ◌∙◌, subst}
+use Rattle.std.proofs.Common.{◌≡◌, ◌&&◌, true, List, [], ◌∷◌, map, Option, Some, None, unwrap_or, refl, sym, ap, subst}
 use Rattle.std.specs.List.{AllByRecursion}
 use Rattle.std.proofs.lemmas.Bool.{and_parts}
 use Rattle.plan_core.specs.declared.data_type.DataType.{DataType}
-use Rattle.plan_core.specs.declared.options.FileScanOptions.{FileScanOptions}
 use Rattle.plan_core.specs.declared.error.PolarsError.TheVariants.{SchemaFieldNotFound, SchemaMismatch}
 use Rattle.plan_core.specs.Columns.{Columns, names_of, type_of}
-use Rattle.plan_tree.specs.Rose.{Rose, Roses, rose, no_roses, more}
-use Rattle.plan_ir.specs.declared.scan.FileInfo.{FileInfo}
-use Rattle.plan_ir.specs.Plans.{Op, filter, scan, simple_projection, invalid, Named, Plan}
-use Rattle.plan_meaning.specs.Exprs.{Name, is_type}
-use Rattle.plan_meaning.specs.Typing.{Check, each, is_known, is_column, is_empty, columns_or, file_columns, has_columns, put_out_checks, schema_by, schema, schemas, checks, AllHold, AllValid}
-use Rattle.plan_meaning.specs.Frames.{Frame, HasSchema, Holds, HoldsAll, rows_at, cut}
+use Rattle.plan_tree.specs.Rose.{Roses, rose, no_roses, more}
+use Rattle.plan_ir.specs.Plans.{Op, filter, scan, simple_projection, Plan}
+use Rattle.plan_meaning.specs.Exprs.{Name}
+use Rattle.plan_meaning.specs.Typing.{each, is_known, is_column, columns_or, file_columns, has_columns, put_out_checks, schema_by, schema, schemas, checks, AllHold, AllValid}
+use Rattle.plan_meaning.specs.Frames.{Frame, HasSchema, Holds, HoldsAll, cut}
 use Rattle.plan_meaning.specs.Meaning.{val}
-use Rattle.plan_meaning.specs.Contents.{Contents, Source, frame_at, frame_or, no_frame, HasFrame, sources_of, frames_of, stack, FitsAt, FitsAll, Fits}
+use Rattle.plan_meaning.specs.Contents.{Contents, Source, frame_or, no_frame, HasFrame, sources_of, frames_of, stack, FitsAt, FitsAll, Fits}
 use Rattle.plan_meaning.specs.Steps.{Step, MayAll, May, IsValid, filtered, true_rows}
 use Rattle.plan_meaning.proofs.FrameLemmas.{rows_schema, schema_holds, all_hold, cut_schema, stack_has, is_type_some}
-use Rattle.plan_meaning.proofs.CheckParts.{hold_back, each_pass, ScanGood, scan_good}
+use Rattle.plan_meaning.proofs.CheckParts.{hold_back, each_pass, scan_good}
 
 -- frames have these columns, one for one
 abbrev pub HaveSchemas : List Frame → List Columns → Type 0

@@ -1,19 +1,18 @@
 -- The values of an expression that has a type are of this type, and as many as the frame has rows.
 use Rattle.std.proofs.Common.{◌≡◌, ℕ, suc, Bool, true, false, cond, List, [], ◌∷◌, map, length, Option, Some, None, refl, sym, ap, ◌∙◌, subst, arith}
-use Rattle.std.specs.List.{AllByRecursion}
 use Rattle.plan_core.specs.Columns.{Columns}
 use Rattle.plan_core.specs.declared.data_type.DataType.{DataType}
 use Rattle.plan_core.specs.declared.data_type.DataType.TheVariants as types
-use Rattle.plan_tree.specs.Rose.{Rose, Roses, rose, no_roses, more}
+use Rattle.plan_tree.specs.Rose.{Roses, rose, no_roses, more}
 use Rattle.plan_ir.specs.Plans.{ExprOp, column as column_of, literal, binary, Expr}
 use Rattle.plan_ir.specs.declared.expr.Operator.{Operator}
 use Rattle.plan_ir.specs.declared.expr.LiteralValue.{LiteralValue}
 use Rattle.plan_ir.specs.declared.expr.LiteralValue.TheVariants.{Int64}
-use Rattle.plan_meaning.specs.Exprs.{Name, is_type, literal_type, both_alike, type_by, expr_type, expr_types}
+use Rattle.plan_meaning.specs.Exprs.{is_type, literal_type, both_alike, type_by, expr_type, expr_types}
 use Rattle.plan_meaning.specs.Values.{Value, null, whole, text, truth, IsOf, AllOf}
-use Rattle.plan_meaning.specs.Frames.{Frame, HasSchema, column_or}
+use Rattle.plan_meaning.specs.Frames.{Frame, HasSchema}
 use Rattle.plan_meaning.specs.Meaning.{Cell, one, many, CellHas, Meaning, zip_by, spread, compared, literal_value, meaning, val, vals}
-use Rattle.plan_meaning.proofs.FrameLemmas.{null_of, length-map, schema_holds, holds_or}
+use Rattle.plan_meaning.proofs.FrameLemmas.{length-map, schema_holds, holds_or}
 
 -- over each frame with this schema a meaning is of the type, if there is one
 pub record Sound (s : Columns) (m : Meaning) (o : Option DataType) : Type 0 where

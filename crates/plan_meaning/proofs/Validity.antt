@@ -3,7 +3,7 @@ use Rattle.std.proofs.Common.{◌≡◌, Bool, true, false, cond, List, [], ◌�
 use Rattle.plan_core.specs.declared.arena.Node.{Node}
 use Rattle.plan_core.specs.declared.error.PolarsError.{PolarsError}
 use Rattle.plan_core.specs.Columns.{Columns}
-use Rattle.plan_tree.specs.Rose.{Rose, Roses, rose, no_roses, more}
+use Rattle.plan_tree.specs.Rose.{Roses, rose, no_roses, more}
 use Rattle.plan_ir.specs.declared.expr.AExpr.{AExpr}
 use Rattle.plan_ir.specs.declared.ir.IR.{IR}
 use Rattle.plan_ir.specs.Plans.{Op, Plan, plans_at, bare}

@@ -1,10 +1,10 @@
 -- What each node of a plan is asked from above, the scans with what they are asked, and what these may read.
-use Rattle.std.specs.Prelude.{◌≡◌, Bool, true, false, List, [], ◌∷◌, ◌++◌, map, Option, is_some}
+use Rattle.std.specs.Prelude.{◌≡◌, Bool, true, false, List, [], ◌∷◌, ◌++◌, is_some}
 use Rattle.std.specs.List.{AllByRecursion, filter as only_where}
 use Rattle.plan_core.specs.declared.data_type.DataType.{DataType}
 use Rattle.plan_core.specs.Columns.{Columns, names_of, type_of}
 use Rattle.plan_core.specs.Names.{has, with_names, AreDistinct}
-use Rattle.plan_tree.specs.Rose.{Rose, Roses, rose, no_roses, more}
+use Rattle.plan_tree.specs.Rose.{Roses, rose, no_roses, more}
 use Rattle.plan_ir.specs.Plans.{Op, filter, scan, simple_projection, invalid, Plan}
 use Rattle.plan_meaning.specs.Exprs.{Name, leaves}
 use Rattle.plan_meaning.specs.Typing.{is_empty, names_or, file_columns, schema_by, schemas}

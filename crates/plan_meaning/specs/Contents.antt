@@ -1,10 +1,10 @@
 -- Contents: what the sources of scans hold, and when they fit a plan.
 use Rattle.std.specs.Prelude.{◌≡◌, ℕ, ◌+◌, ◌==◌, Bool, false, List, [], ◌∷◌, ◌++◌, map, Option, Some, unwrap_or}
-use Rattle.std.specs.List.{AllByRecursion, fold}
+use Rattle.std.specs.List.{AllByRecursion}
 use Rattle.std.specs.Map.{lookup}
 use Rattle.std.specs.Str.{bytes_eq}
 use Rattle.plan_core.specs.Columns.{Columns}
-use Rattle.plan_tree.specs.Rose.{Rose, Roses, rose, no_roses, more}
+use Rattle.plan_tree.specs.Rose.{Roses, rose, no_roses, more}
 use Rattle.plan_ir.specs.declared.scan.ScanSources.{ScanSources}
 use Rattle.plan_ir.specs.declared.scan.ScanSources.TheVariants.{Paths}
 use Rattle.plan_ir.specs.Plans.{Op, filter, scan, simple_projection, invalid, Plan}

@@ -1,9 +1,9 @@
 -- What expressions mean: one value, or one value for each row of a frame.
-use Rattle.std.specs.Prelude.{◌≡◌, length, ℕ, zero, suc, Bool, List, [], ◌∷◌, map, replicate, if◌then◌else◌}
+use Rattle.std.specs.Prelude.{◌≡◌, length, ℕ, zero, suc, Bool, List, [], ◌∷◌, map, if◌then◌else◌}
 use Rattle.std.specs.declared.cmp.Ordering.{Ordering}
 use Rattle.std.specs.Ordering.{is_eq, is_ne, is_lt, is_le, is_gt, is_ge}
 use Rattle.plan_core.specs.declared.data_type.DataType.{DataType}
-use Rattle.plan_tree.specs.Rose.{Rose, Roses, rose, no_roses, more}
+use Rattle.plan_tree.specs.Rose.{Roses, rose, no_roses, more}
 use Rattle.plan_ir.specs.Plans.{ExprOp, column as column_of, literal, binary, Expr}
 use Rattle.plan_ir.specs.declared.expr.LiteralValue.{LiteralValue}
 use Rattle.plan_ir.specs.declared.expr.LiteralValue.TheVariants.{Int64}

@@ -1,9 +1,8 @@
 -- What a plan may give: a frame for each node, from those of its inputs.
 use Rattle.std.specs.Prelude.{◌≡◌, ℕ, List, [], ◌∷◌}
-use Rattle.plan_core.specs.Columns.{Columns, names_of}
-use Rattle.plan_tree.specs.Rose.{Rose, Roses, rose, no_roses, more}
-use Rattle.plan_ir.specs.Plans.{Op, filter, scan, simple_projection, invalid, Named, Plan, Expr}
-use Rattle.plan_meaning.specs.Exprs.{Name}
+use Rattle.plan_core.specs.Columns.{names_of}
+use Rattle.plan_tree.specs.Rose.{Roses, rose, no_roses, more}
+use Rattle.plan_ir.specs.Plans.{Op, filter, scan, simple_projection, invalid, Plan, Expr}
 use Rattle.plan_meaning.specs.Values.{is_true}
 use Rattle.plan_meaning.specs.Frames.{Frame, rows_at, cut}
 use Rattle.plan_meaning.specs.Meaning.{Cell, val, value_at, places_from}
