@@ -7,6 +7,10 @@ use Rattle.plan_core.specs.declared.flags.OptFlags.{OptFlags}
 abbrev pub bits_of : OptFlags → ℕ
 bits_of flags = flags.0
 
+-- the set of these bits
+abbrev pub flags_with : ℕ → OptFlags
+flags_with bits = record { 0 = bits }
+
 -- the bits that have a name: the lowest eighteen but 2
 abbrev pub named_bits : ℕ
 named_bits = 262141

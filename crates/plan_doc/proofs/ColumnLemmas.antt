@@ -1,9 +1,8 @@
 -- Columns that are read one after another, into a schema.
-use Rattle.std.proofs.Common.{◌≡◌, ◌≢◌, ℕ, ◌+◌, ◌<◌, ◌≤◌, Bool, true, false, ◌&&◌, ◌||◌, not, List, [], ◌∷◌, ◌++◌, length, map, take, drop, get_or, Option, Some, None, refl, sym, ap, ◌∙◌, ◌⊎◌, inl, inr, take-append-drop}
+use Rattle.std.proofs.Common.{◌≡◌, ℕ, ◌+◌, ◌<◌, Bool, true, false, ◌&&◌, ◌||◌, not, List, [], ◌∷◌, ◌++◌, length, map, take, drop, get_or, Option, Some, None, refl, sym, ap, ◌∙◌, ◌⊎◌, inl, inr, take-append-drop}
 use Rattle.std.specs.Str.{bytes_eq}
 use Rattle.std.specs.List.{list_any}
-use Rattle.std.specs.Prelude.{is_some}
-use Rattle.std.proofs.lemmas.List.{map-append, take_more, take_all, drop_more}
+use Rattle.std.proofs.lemmas.List.{map-append, take_more, drop_more}
 use Rattle.std.proofs.lemmas.List.Folds.{list_any-append}
 use Rattle.serde_json.specs.Data.{Data}
 use Rattle.serde_json.specs.View.{view}
@@ -28,14 +27,6 @@ found false r d = refl
 neither : (a : Bool) → (a && false) ≡ false
 neither true = refl
 neither false = refl
-
-some_there : {X : Type 0} (o : Option X) → is_some o ≡ true → (x : X) × (o ≡ Some x)
-some_there (Some x) e = (x, refl)
-some_there None e = absurd cc
-
-none_there : {X : Type 0} (o : Option X) → is_some o ≡ false → o ≡ None
-none_there (Some x) e = absurd cc
-none_there None e = refl
 
 -- whether a name is that of the first column
 first_or_later : (name : List ℕ) (c : List ℕ × DataType) (cs : Columns) → ((bytes_eq name c.0 ≡ true) × (type_of (c ∷ cs) name ≡ Some c.1)) ⊎ ((bytes_eq name c.0 ≡ false) × (type_of (c ∷ cs) name ≡ type_of cs name))
@@ -96,19 +87,19 @@ module _ (vs : List Value) (i : ℕ) (v : Value) (lt : i < length vs) (here : v 
 
   module _ (cs : Columns) (name : List ℕ) (t : DataType) (before : each column_of (map view (take i vs)) ≡ Some cs) (now : column_of (view v) ≡ Some (name, t)) where
     -- a column of a new name
-    pub next_column : is_some (type_of cs name) ≡ false → each column_of (map view (take (i + 1) vs)) ≡ Some (with_type cs name t)
+    pub next_column : type_of cs name ≡ None → each column_of (map view (take (i + 1) vs)) ≡ Some (with_type cs name t)
     next_column new =
         let one : each column_of (view v ∷ []) ≡ Some ((name, t) ∷ []) = rw now refl in
         let more : take (i + 1) vs ≡ take i vs ++ v ∷ [] = take_more vs i v lt ∙ ap (λ (w : Value). take i vs ++ w ∷ []) (sym here) in
-        rw (more, map-append view (take i vs) (v ∷ []), last name t cs (none_there (type_of cs name) new)) (joined column_of (map view (take i vs)) (view v ∷ []) cs ((name, t) ∷ []) before one)
+        rw (more, map-append view (take i vs) (v ∷ []), last name t cs new) (joined column_of (map view (take i vs)) (view v ∷ []) cs ((name, t) ∷ []) before one)
 
     -- the names stay distinct
-    pub next_distinct : is_some (type_of cs name) ≡ false → are_distinct (column_names cs) ≡ true → are_distinct (column_names (with_type cs name t)) ≡ true
-    next_distinct new distinct = rw (last name t cs (none_there (type_of cs name) new)) (distinct_last name t cs (none_there (type_of cs name) new) distinct)
+    pub next_distinct : type_of cs name ≡ None → are_distinct (column_names cs) ≡ true → are_distinct (column_names (with_type cs name t)) ≡ true
+    next_distinct new distinct = rw (last name t cs new) (distinct_last name t cs new distinct)
 
     -- a column of a name that is there
-    pub name_twice : is_some (type_of cs name) ≡ true → (each column_of (map view vs) >>= distinct_columns) ≡ None
-    name_twice old = ap (λ (l : List Value). each column_of (map view l) >>= distinct_columns) split ∙ rw (map-append view (take i vs) (v ∷ drop (i + 1) vs)) (by_rest (each column_of es) refl)
+    pub name_twice : (u : DataType) → type_of cs name ≡ Some u → (each column_of (map view vs) >>= distinct_columns) ≡ None
+    name_twice u old = ap (λ (l : List Value). each column_of (map view l) >>= distinct_columns) split ∙ rw (map-append view (take i vs) (v ∷ drop (i + 1) vs)) (by_rest (each column_of es) refl)
       where
         es : List Data
         es = map view (drop (i + 1) vs)
@@ -118,6 +109,5 @@ module _ (vs : List Value) (i : ℕ) (v : Value) (lt : i < length vs) (here : v 
             let none : each column_of (view v ∷ es) ≡ None = rw (now, q) refl in
             rw (late column_of (map view (take i vs)) (view v ∷ es) none) refl
         by_rest (Some rest) q =
-            let there = some_there (type_of cs name) old in
             let some : each column_of (view v ∷ es) ≡ Some ((name, t) ∷ rest) = rw (now, q) refl in
-            rw (joined column_of (map view (take i vs)) (view v ∷ es) cs ((name, t) ∷ rest) before some, distinct_twice name t cs rest there.0 there.1) refl
+            rw (joined column_of (map view (take i vs)) (view v ∷ es) cs ((name, t) ∷ rest) before some, distinct_twice name t cs rest u old) refl

@@ -6,9 +6,9 @@ use Rattle.serde_json.specs.View.{view}
 use Rattle.serde_json.specs.declared.value.Value.{Value}
 use Rattle.plan_doc.specs.declared.fault.Fault.{Fault}
 use Rattle.plan_doc.specs.declared.fault.Fault.TheVariants.{Form, Memory}
-use Rattle.plan_doc.specs.Each.{Pairs, Stops, Answers, ReadsEach}
+use Rattle.plan_doc.specs.Each.{Pairs, Answers, ReadsEach}
 use Rattle.plan_doc.specs.Gives.{Gives}
-use Rattle.plan_doc.specs.Parts.{◌>>=◌, each}
+use Rattle.plan_doc.specs.Parts.{each}
 use Rattle.plan_doc.proofs.EntryLemmas.{cut}
 
 module _ {T : Type 0} (calls : Value → Result T Fault → Type 0) where

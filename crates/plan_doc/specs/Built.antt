@@ -1,5 +1,5 @@
 -- What is refused until it is built. Each definition goes when its form is built.
-use Rattle.std.specs.Prelude.{ℕ, ◌&&◌, ◌==◌, List, length, Bool, not, Option, Some, None, if◌then◌else◌, codes, bit_and, nat_lt}
+use Rattle.std.specs.Prelude.{ℕ, ◌==◌, List, length, Bool, Option, Some, None, if◌then◌else◌, codes, bit_and, nat_lt}
 use Rattle.serde_json.specs.Data.{Data}
 use Rattle.serde_json.specs.Find.{get, as_null}
 use Rattle.plan_core.specs.Columns.{Columns}

@@ -1,6 +1,9 @@
 -- The document that bytes stand for.
-use Rattle.std.specs.Prelude.{◌≡◌, ℕ, ◌==◌, List, [], ◌∷◌, Bool, Option, Some, None, Result, Ok, Err, if◌then◌else◌, codes, bit_or}
+use Rattle.std.specs.Prelude.{◌≡◌, ℕ, ◌==◌, List, [], ◌∷◌, Option, Some, None, Result, Ok, Err, if◌then◌else◌, codes}
+use Rattle.std.specs.Int.RustNames.{bit_and}
 use Rattle.std.specs.Str.{is_utf8}
+use Rattle.plan_core.specs.declared.flags.OptFlags.{OptFlags}
+use Rattle.plan_core.specs.Flags.{flags_with, named_bits}
 use Rattle.serde_json.specs.Read.{read}
 use Rattle.serde_json.specs.Data.{Data}
 use Rattle.serde_json.specs.View.{view}
@@ -15,15 +18,16 @@ use Rattle.plan_doc.specs.Parts.{◌>>=◌, entries_of, each, object_of, number_
 use Rattle.plan_doc.specs.Built.{built_flags, unshared_of}
 use Rattle.plan_doc.specs.Nodes.{node_of, expr_of}
 
--- the flags that have names, all together
-abbrev pub named_flags : ℕ
-named_flags = 262141
+-- a number whose bits all have names, as flags
+abbrev pub named_flags : ℕ → Option OptFlags
+named_flags n = if bit_and n named_bits == n then Some (flags_with n) else None
 
--- a number whose bits are all named
-unfoldable pub flags_of : Data → Option ℕ
+-- the flags of a number, whose bits all have names and start no pass that isn't built
+unfoldable pub flags_of : Data → Option OptFlags
 flags_of d = do
   n ← number_of d
-  if bit_or n named_flags == named_flags then built_flags n else None
+  built ← built_flags n
+  named_flags built
 
 -- an array of nodes
 unfoldable pub nodes_of : Data → Option (List IR)

@@ -1,5 +1,5 @@
 -- The parts of a document: what a value stands for, or nothing.
-use Rattle.std.specs.Prelude.{ℕ, ℤ, ◌^◌, ◌&&◌, ◌==◌, List, [], ◌∷◌, length, map, Bool, true, false, not, Option, Some, None, option_map, is_some, if◌then◌else◌, nat_lt, codes, bytes_eq}
+use Rattle.std.specs.Prelude.{ℕ, ℤ, ◌^◌, ◌&&◌, ◌==◌, List, [], ◌∷◌, length, map, Bool, true, not, Option, Some, None, option_map, is_some, if◌then◌else◌, nat_lt, codes, bytes_eq}
 use Rattle.std.specs.List.{list_any}
 use Rattle.serde_json.specs.Data as json
 use Rattle.serde_json.specs.Data.{Data, Items, no_items, item}

@@ -3,7 +3,7 @@ ghost use Rattle.std.specs.Prelude.{◌≡◌};
 ghost use Rattle.serde_json.specs.View.{view};
 ghost use Rattle.plan_doc.specs.Gives.{Gives, Shows};
 ghost use Rattle.plan_doc.specs.Parts.{object_of};
-ghost use Rattle.plan_doc.specs.Document.{flags_of, nodes_of, exprs_of, document_keys, document_of as document_at, json_of, doc_of, IsJson, IsReading};
+ghost use Rattle.plan_doc.specs.Document.{flags_of, named_flags as named_flags_of, nodes_of, exprs_of, document_keys, document_of as document_at, json_of, doc_of, IsJson, IsReading};
 
 use crate::arrays::arena_of_each;
 use crate::built::{built_flags, unshared};
@@ -11,7 +11,7 @@ use crate::exprs::expr;
 use crate::fault::Fault;
 use crate::nodes::node;
 use crate::parts::{entries, field, link, nothing, number, object};
-use plan_core::{Arena, Node};
+use plan_core::{Arena, Node, OptFlags};
 use plan_ir::{AExpr, IR};
 use serde_json::Value;
 use std::alloc::Global;
@@ -26,8 +26,8 @@ pub struct Document {
     pub lp: Arena<IR>,
     /// The expressions, by their numbers.
     pub ex: Arena<AExpr>,
-    /// The bits of the optimisations that are asked for.
-    pub flags: u32,
+    /// The optimisations that are asked for.
+    pub flags: OptFlags,
     /// Whether equal parts of the plan are shared.
     pub shared: bool,
 }
@@ -43,18 +43,19 @@ pub enum ReadError {
     OutOfMemory,
 }
 
-const NAMED_FLAGS: u32 = 262141;
+/// The flags with these bits, which all have names.
+fn named_flags(bits: u32) -> Result<OptFlags, Fault>
+    ensures { Gives result (named_flags_of bits) }
+{
+    OptFlags::from_bits(bits).ok_or(Fault::Form)
+}
 
 #[tactic(auto, unfolding(crate::specs::Document::flags_of))]
-fn flags(value: &Value) -> Result<u32, Fault>
+fn flags(value: &Value) -> Result<OptFlags, Fault>
     ensures { Gives result (flags_of (view value.now)) }
 {
-    let flags = number(value)?;
-    if flags | NAMED_FLAGS == NAMED_FLAGS {
-        built_flags(flags)
-    } else {
-        Err(Fault::Form)
-    }
+    let bits = built_flags(number(value)?)?;
+    named_flags(bits)
 }
 
 #[tactic(auto, unfolding(crate::specs::Document::nodes_of))]

@@ -186,8 +186,9 @@ pub fn columns(alloc: Global, value: &Value) -> Result<Schema, Fault>
     let mut columns = Schema::new(alloc);
     for entry in entries {
         let (name, data_type) = column(alloc, entry)?;
-        if columns.with_column(name, data_type)?.is_some() {
-            return Err(Fault::Form);
+        match columns.with_column(name, data_type)? {
+            None => {}
+            Some(_) => return Err(Fault::Form),
         }
     }
     Ok(columns)

@@ -30,7 +30,7 @@ fn the_good_document_reads(rt: HostRuntime) -> Result<(), Fail> {
     assert_eq!(rt; document.root, Node(0));
     assert_eq!(rt; document.lp.len(), 3);
     assert_eq!(rt; document.ex.len(), 3);
-    assert_eq!(rt; document.flags, 1);
+    assert_eq!(rt; document.flags.bits(), 1);
     assert_eq!(rt; document.shared, false);
     Ok(())
 }

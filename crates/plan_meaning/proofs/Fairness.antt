@@ -21,11 +21,11 @@ pub column_passes : (P : Name → Type 0) (cs : Columns) → AllByRecursion (λ 
 column_passes P [] h a i = cc
 column_passes P (c ∷ cs) h a i = ⊎_elim (λ (e : a ≡ c.0). subst P (sym e) h.0) (λ (e : has (names_of cs) a ≡ true). column_passes P cs h.1 a e) (has_cons c.0 (names_of cs) a i)
 
-some_name : (wanted : List Name) (a : Name) → has wanted a ≡ true → is_empty wanted ≡ false
+pub some_name : (wanted : List Name) (a : Name) → has wanted a ≡ true → is_empty wanted ≡ false
 some_name [] a h = cc
 some_name (b ∷ wanted) a h = refl
 
-has_some : (wanted : List Name) → is_empty wanted ≡ false → (a : Name) × (has wanted a ≡ true)
+pub has_some : (wanted : List Name) → is_empty wanted ≡ false → (a : Name) × (has wanted a ≡ true)
 has_some [] e = cc
 has_some (a ∷ wanted) e = (a, has_first a wanted)
 
@@ -63,7 +63,8 @@ kept_asked a (c ∷ cs) b i = at (is_asked a c.0) refl (λ j. kept_asked a cs b 
         (has_cons c.0 (names_of (kept a cs)) b i)
     at false e r i = (has_later c.0 (names_of cs) b (r i).0, (r i).1)
 
-known_some : (s : Columns) (c : Name × DataType) → is_column s c ≡ true → is_some (type_of s c.0) ≡ true
+-- a column with its type is known
+pub known_some : (s : Columns) (c : Name × DataType) → is_column s c ≡ true → is_some (type_of s c.0) ≡ true
 known_some s c e = at (type_of s c.0) e
   where
     at : (o : Option DataType) → is_type o c.1 ≡ true → is_some o ≡ true
@@ -84,8 +85,9 @@ fair_columns cs cached s h = tt
 
 -- what can be asked of several columns, one for one
 abbrev pub FairAll : List Asked → List Columns → Type 0
-FairAll asked [] = Unit {0}
-FairAll asked (s ∷ ss) = IsFair (first_asked asked) s × FairAll (rest_asked asked) ss
+FairAll [] [] = Unit {0}
+FairAll (a ∷ asked) (s ∷ ss) = IsFair a s × FairAll asked ss
+FairAll _ _ = ⊥
 
 -- per node: what it asks can be asked of its inputs
 pub fair_asks : (op : Op) (a : Asked) (ss : List Columns) → AllHold (checks op ss) → IsFair a (schema_by op ss) → FairAll (asks op a ss) ss
@@ -156,11 +158,11 @@ all_append P (x ∷ xs) ys h k = (h.0, all_append P xs ys h.1 k)
 -- the scans of valid plans that are asked what can be asked of them
 pub sites_fair : (ts : Roses (Unit {0}) Op) (asked : List Asked) → AllValid ts → FairAll asked (schemas ts) → AllByRecursion SiteFair (sites ts asked)
 sites_fair no_roses asked v f = tt
-sites_fair (more (rose n op ts) rest) asked v f =
-    let a = first_asked asked in
+sites_fair (more (rose n op ts) rest) [] v f = absurd f
+sites_fair (more (rose n op ts) rest) (a ∷ asked) v f =
     let below = asks op a (schemas ts) in
-    all_append SiteFair (own_site op a) (sites ts below ++ sites rest (rest_asked asked)) (site_fair op a (schemas ts) v.0 f.0)
-    (all_append SiteFair (sites ts below) (sites rest (rest_asked asked)) (sites_fair ts below v.1 (fair_asks op a (schemas ts) v.0 f.0)) (sites_fair rest (rest_asked asked) v.2 f.1))
+    all_append SiteFair (own_site op a) (sites ts below ++ sites rest asked) (site_fair op a (schemas ts) v.0 f.0)
+    (all_append SiteFair (sites ts below) (sites rest asked) (sites_fair ts below v.1 (fair_asks op a (schemas ts) v.0 f.0)) (sites_fair rest asked v.2 f.1))
 
 -- in a valid plan each scan is asked names of its own, and may read for them what it reads
 pub plan_sites_fair : (p : Plan) → IsValid p → AllSites SiteFair p

@@ -2,6 +2,7 @@ mod ExprSteps
 mod CheckLemmas
 mod ReadLemmas
 mod TreeFaultLemmas
+mod TypedLemmas
 pub mod NameSets
 pub mod FrameLemmas
 pub mod Depends

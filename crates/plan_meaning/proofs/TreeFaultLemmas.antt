@@ -58,7 +58,7 @@ nodes-append : (xs ys : List (Step At)) → nodes_of (xs ++ ys) ≡ nodes_of xs 
 nodes-append xs ys = map-append (λ (s : Step At). s.node) xs ys
 
 -- the expressions of the nodes of trees are those that the trees have
-roots-are : (lp : List IR) (ns : List Node) (t : Trees IR) → Stands plan_shape lp ns t → nodes_of (marked_exprs lp (labels t)) ≡ roots_in t
+pub roots-are : (lp : List IR) (ns : List Node) (t : Trees IR) → Stands plan_shape lp ns t → nodes_of (marked_exprs lp (labels t)) ≡ roots_in t
 roots-are lp [] no_roses h = refl
 roots-are lp [] (more (rose m p kids) rest) h = absurd h
 roots-are lp (n ∷ ns) no_roses h = refl
@@ -84,3 +84,7 @@ pub read-any : {A : Type 0} (xs : List A) (i : ℕ) (d e : A) → i < length xs 
 read-any [] i d e lt = absurd (omega arith)
 read-any (x ∷ xs) zero d e lt = refl
 read-any (x ∷ xs) (suc i) d e lt = read-any xs i d e (omega arith)
+
+-- the numbers of the expressions that a walk over a plan finds are those of the plan
+pub roots_found : (lp : List IR) (root : Node) (listed : List Node) (steps : List (Step At)) → steps ≡ marked_exprs lp listed → ((t : Trees IR) → StandsOnce plan_shape lp (root ∷ []) t → listed ≡ labels t) → (numbers : List Node) → numbers ≡ nodes_of steps → (t : Trees IR) → StandsOnce plan_shape lp (root ∷ []) t → numbers ≡ roots_in t
+roots_found lp root listed steps is order numbers found t h = found ∙ ap nodes_of (is ∙ ap (marked_exprs lp) (order t h)) ∙ roots-are lp (root ∷ []) t h.stands

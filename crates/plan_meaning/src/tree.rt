@@ -40,7 +40,7 @@ fn mark_node(
 }
 
 /// The numbers of the expressions of nodes, node by node, each with its place.
-fn marked_exprs(
+pub fn marked_exprs(
     alloc: Global,
     nodes: &[Node],
     lp: &Arena<IR>,

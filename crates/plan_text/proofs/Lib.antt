@@ -1,3 +1,5 @@
+-- The lemmas of this crate.
 pub mod ListLemmas
 pub mod ObjectLemmas
 pub mod FloatLemmas
+pub mod DepthLemmas

@@ -1,3 +1,4 @@
+-- The definitions that contracts cite.
 pub mod Lists
 pub mod Kinds
 pub mod Written

@@ -57,40 +57,22 @@ fn scan(
     let schema = columns(alloc, &info.schema)?;
     let slice = optional_slice(alloc, options.slice)?;
     let sources = sources(alloc, from)?;
-    let values = vec![in alloc;
-        names,
-        Value::Null,
-        kind,
-        op,
-        output,
-        path_column,
-        predicate,
-        reader,
-        Value::Bool(options.rechunk),
-        row_index,
-        schema,
-        slice,
-        sources,
+    let entries = vec![in alloc;
+        ("columns", names),
+        ("hive", Value::Null),
+        ("kind", kind),
+        ("op", op),
+        ("output", output),
+        ("path_column", path_column),
+        ("predicate", predicate),
+        ("reader", reader),
+        ("rechunk", Value::Bool(options.rechunk)),
+        ("row_index", row_index),
+        ("schema", schema),
+        ("slice", slice),
+        ("sources", sources),
     ]?;
-    object(
-        alloc,
-        &[
-            "columns",
-            "hive",
-            "kind",
-            "op",
-            "output",
-            "path_column",
-            "predicate",
-            "reader",
-            "rechunk",
-            "row_index",
-            "schema",
-            "slice",
-            "sources",
-        ],
-        values,
-    )
+    object(alloc, entries)
 }
 
 #[tactic(auto, unfolding(crate::specs::Written::node_data))]

@@ -1,8 +1,9 @@
 //! The texts that are written.
-ghost use Rattle.std.specs.Prelude.{◌≡◌, IfOk, false, string_bytes};
+ghost use Rattle.std.specs.Prelude.{◌≡◌, IfOk, Some, false, string_bytes};
+ghost use Rattle.serde_json.specs.Read.{read};
 ghost use Rattle.serde_json.specs.View.{view};
 ghost use Rattle.serde_json.specs.Written.{has_float};
-ghost use Rattle.plan_text.specs.Written.{names_data, list_data, listing_data, fault_data, line_of, plan_text, listing_text, error_text};
+ghost use Rattle.plan_text.specs.Written.{names_data, list_data, listing_data, fault_data, line_of, plan_data, plan_text, listing_text, error_text};
 
 use crate::kinds::{fault_name, place};
 use crate::lists::each;
@@ -14,10 +15,15 @@ use serde_json::{Value, json};
 use std::alloc::{AllocError, Global};
 
 /// The text of a plan, with no line feed: the object of its `exprs`, its `nodes` and its `root`,
-/// as compact JSON with its keys in byte order.
-#[tactic(auto, using(crate::proofs::FloatLemmas::plan_plain), unfolding(crate::specs::Written::plan_text))]
+/// as compact JSON with its keys in byte order. It fails only where memory is wanting.
+#[tactic(auto, using(crate::proofs::FloatLemmas::plan_plain, crate::proofs::DepthLemmas::plan_deep), unfolding(crate::specs::Written::plan_text))]
 pub fn write_plan(alloc: Global, plan: &PlanCopy) -> Result<String, AllocError>
-    ensures { IfOk result (λ s. string_bytes s ≡ plan_text plan.now.lp plan.now.ex plan.now.root) }
+    ensures text { IfOk result (λ s. string_bytes s
+        ≡ plan_text plan.now.lp plan.now.ex plan.now.root) }
+
+    // The text is read as the value that is written.
+    ensures reads_back { IfOk result (λ s. read (string_bytes s)
+        ≡ Some (plan_data plan.now.lp plan.now.ex plan.now.root)) }
 {
     let value = plan_value(alloc, plan)?;
     value.to_string(alloc)
@@ -51,7 +57,8 @@ fn listing(alloc: Global, plan: &PlanCopy, reads: &[Items<PlSmallStr>]) -> Resul
 }
 
 /// The text of a listing, with a line feed: the object of a `plan`, of the names that each of its
-/// scans `reads`, from left to right, and of its `rows`, which are null.
+/// scans `reads`, from left to right, and of its `rows`, which are null. It fails only where
+/// memory is wanting.
 #[tactic(auto, using(crate::proofs::FloatLemmas::listing_plain), unfolding(crate::specs::Written::listing_text))]
 pub fn write_listing(
     alloc: Global,
@@ -76,7 +83,7 @@ fn fault(alloc: Global, error: &PolarsError) -> Result<Value, AllocError>
 
 /// The text of an error, with a line feed: the object of an `error` with its `kind`, its `node`,
 /// which is null where it lies at none, and its `place`. `OutOfMemory` has the node null and the
-/// place 0; the program writes no text for it.
+/// place 0; the program writes no text for it. It fails only where memory is wanting.
 #[tactic(auto, using(crate::proofs::FloatLemmas::fault_plain), unfolding(crate::specs::Written::error_text))]
 pub fn write_fault(alloc: Global, error: &PolarsError) -> Result<String, AllocError>
     ensures { IfOk result (λ s. string_bytes s ≡ error_text error.now) }

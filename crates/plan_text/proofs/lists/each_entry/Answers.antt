@@ -1,3 +1,4 @@
+-- A turn writes the next entry.
 use Rattle.std.proofs.Common.{◌<◌, length, sym, refl, Ok}
 use Rattle.std.specs.Fn.{FnReturnsAt}
 use Rattle.std.proofs.lemmas.Option.{get_or_from_slice_get, slice_get_within}

@@ -1,3 +1,4 @@
+-- What is written so far comes from the first entries.
 use Rattle.std.proofs.Common.{take}
 use Rattle.std.specs.Fn.{FnReturnsAt}
 use Rattle.plan_text.specs.Lists.{Pairs}

@@ -1,3 +1,4 @@
+-- A turn writes the next column, and the last turn found none.
 use Rattle.std.proofs.Common.{◌≡◌, length, rules}
 use Rattle.plan_text.specs.Written.{field_data}
 use Rattle.plan_text.proofs.ListLemmas.{array_is, more_written, whole_written}

@@ -1,3 +1,4 @@
+-- What is written so far comes from the first columns.
 use Rattle.std.proofs.Common.{◌≡◌, ◌-◌, length, map, take}
 use Rattle.serde_json.specs.View.{view}
 use Rattle.plan_text.specs.Written.{field_data}

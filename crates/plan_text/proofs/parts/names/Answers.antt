@@ -1,3 +1,4 @@
+-- The names, one for one.
 use Rattle.std.proofs.Common.{rules}
 use Rattle.serde_json.specs.Data.{string}
 use Rattle.plan_text.proofs.ListLemmas.{each_is_written}

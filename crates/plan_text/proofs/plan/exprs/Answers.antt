@@ -1,3 +1,4 @@
+-- The expressions, one for one.
 use Rattle.std.proofs.Common.{rules}
 use Rattle.plan_text.specs.Written.{expr_data}
 use Rattle.plan_text.proofs.ListLemmas.{each_is_written}

@@ -1,3 +1,4 @@
+-- The lists of names, one for one.
 use Rattle.std.proofs.Common.{rules}
 use Rattle.plan_text.specs.Written.{names_data}
 use Rattle.plan_text.proofs.ListLemmas.{each_is_written}

@@ -1,0 +1,6 @@
+use Rattle.plan_tree.proofs.TreeLemmas.{height_at}
+use Rattle.plan_ir.specs.Parts.{plan_shape}
+use Rattle.plan_meaning.proofs.plan.+schema_of.Given as goal
+
+abbrev pub decreases-schema_of : goal.decreases-schema_of
+decreases-schema_of l = height_at plan_shape l.lp.now l.node

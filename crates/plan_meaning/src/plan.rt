@@ -1,0 +1,142 @@
+//! The schema of a plan, or its first fault.
+ghost use Rattle.std.specs.Prelude.{◌≡◌, [], ◌∷◌, IfOk, None, option_map};
+ghost use Rattle.plan_ir.specs.Parts.{IsExpr, IsPlan};
+ghost use Rattle.plan_ir.specs.Plans.{filter, scan, simple_projection, named_at, plans_at};
+ghost use Rattle.plan_ir.specs.declared.scan.FileScan.{FileScan};
+ghost use Rattle.plan_ir.specs.declared.scan.ScanSources.{ScanSources};
+ghost use Rattle.plan_meaning.specs.Typing.{columns_or, file_columns};
+ghost use Rattle.plan_meaning.specs.TreeFaults.{tree_fault};
+ghost use Rattle.plan_meaning.specs.Typed.{typed, IsNodeTyped, IsPlanTyped, IsTyped};
+
+use crate::check::{at, check_filter, check_projection, check_scan};
+use crate::tree::check_tree;
+use plan_core::{Arena, FileScanOptions, Node, PolarsError, PolarsResult, Schema, TryClone};
+use plan_ir::{AExpr, ExprIR, FileInfo, IR};
+use std::alloc::{AllocError, Global};
+
+/// The columns of a scan: what it puts out, where it says so, else those of its files.
+fn scan_schema(
+    alloc: Global,
+    output: &Option<Schema>,
+    info: &FileInfo,
+) -> Result<Schema, AllocError>
+    ensures { IfOk result (λ s. s ≡ columns_or output.now (file_columns info.now)) }
+{
+    if let Some(output) = output {
+        return output.try_clone(alloc);
+    }
+    match &info.reader_schema {
+        Some(reader) => reader.try_clone(alloc),
+        None => Ok(Schema::new(alloc)),
+    }
+}
+
+/// The columns of a filter over those of its input, or its first fault.
+fn filter_schema(
+    node: Node,
+    predicate: &ExprIR,
+    ex: &Arena<AExpr>,
+    schema: Schema,
+) -> PolarsResult<Schema>
+    requires { IsExpr ex.now predicate.now.node }
+    ensures { IsNodeTyped result node (filter (named_at ex.now predicate.now)) (schema ∷ []) }
+{
+    check_filter(node, predicate, ex, &schema)?;
+    Ok(schema)
+}
+
+/// The columns of a simple projection over those of its input, or its first fault.
+fn projection_schema(
+    alloc: Global,
+    node: Node,
+    columns: &Schema,
+    schema: Schema,
+) -> PolarsResult<Schema>
+    ensures { IsNodeTyped result node (simple_projection columns.now) (schema ∷ []) }
+{
+    check_projection(node, columns, &schema)?;
+    Ok(columns.try_clone(alloc)?)
+}
+
+/// The columns of a scan, or its first fault.
+fn scan_typed(
+    alloc: Global,
+    node: Node,
+    predicate: &Option<ExprIR>,
+    output: &Option<Schema>,
+    info: &FileInfo,
+    options: &FileScanOptions,
+    ex: &Arena<AExpr>,
+) -> PolarsResult<Schema>
+    ensures { (sources : ScanSources) (kind : FileScan) → IsNodeTyped result node (scan sources info.now (option_map (named_at ex.now) predicate.now) output.now kind options.now) [] }
+{
+    check_scan(alloc, node, predicate, output, info, options, ex)?;
+    Ok(scan_schema(alloc, output, info)?)
+}
+
+/// The columns of the plan at a number, or the first fault among its nodes, inputs before the node.
+fn schema_of(
+    alloc: Global,
+    node: Node,
+    lp: &Arena<IR>,
+    ex: &Arena<AExpr>,
+) -> PolarsResult<Schema>
+    requires { IsPlan lp.now ex.now node }
+    ensures { IsPlanTyped result (plans_at lp.now ex.now (node ∷ [])) }
+{
+    match lp.get(node) {
+        IR::Filter { input, predicate } => {
+            let schema = schema_of(alloc, *input, lp, ex)?;
+            filter_schema(node, predicate, ex, schema)
+        }
+        IR::Scan {
+            file_info,
+            predicate,
+            output_schema,
+            file_options,
+            ..
+        } => scan_typed(
+            alloc,
+            node,
+            predicate,
+            output_schema,
+            file_info,
+            file_options,
+            ex,
+        ),
+        IR::SimpleProjection { input, columns } => {
+            let schema = schema_of(alloc, *input, lp, ex)?;
+            projection_schema(alloc, node, columns, schema)
+        }
+        IR::Invalid => Err(PolarsError::ComputeError(at(node, 0))),
+    }
+}
+
+/// The columns of the plan that stands at `root`, or the first fault of its nodes, inputs before the node.
+pub fn check_nodes(
+    alloc: Global,
+    root: Node,
+    lp: &Arena<IR>,
+    ex: &Arena<AExpr>,
+) -> PolarsResult<Schema>
+    requires stands { IsPlan lp.now ex.now root }
+    requires numbers { tree_fault lp.now ex.now root ≡ None }
+    ensures { IsTyped result (typed lp.now ex.now root) }
+{
+    schema_of(alloc, root, lp, ex)
+}
+
+/// The columns of the plan at `root`, or its first fault: bad numbers in walk order, and then the faults of its nodes,
+/// inputs before the node.
+pub fn check_plan(
+    alloc: Global,
+    root: Node,
+    lp: &Arena<IR>,
+    ex: &Arena<AExpr>,
+) -> PolarsResult<Schema>
+    ensures typed { IsTyped result (typed lp.now ex.now root) }
+    ensures stands { IfOk result (λ _. IsPlan lp.now ex.now root) }
+{
+    check_tree(alloc, root, lp, ex)?;
+    check_nodes(alloc, root, lp, ex)
+}

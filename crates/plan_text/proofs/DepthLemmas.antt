@@ -1,0 +1,84 @@
+-- A plan nests few levels, so its text reads back.
+use Rattle.std.proofs.Common.{◌≡◌, ℕ, suc, max, ◌≤◌, List, [], ◌∷◌, map, Option, Some, None, refl, arith}
+use Rattle.serde_json.specs.Data.{Data, string, depth, items_depth}
+use Rattle.serde_json.specs.Read.{max_depth}
+use Rattle.serde_json.specs.View.{items_of}
+use Rattle.plan_core.specs.Columns.{Columns}
+use Rattle.plan_core.specs.declared.arena.Node.{Node}
+use Rattle.plan_core.specs.declared.options.FileScanOptions.{FileScanOptions}
+use Rattle.plan_ir.specs.declared.expr.AExpr.{AExpr}
+use Rattle.plan_ir.specs.declared.expr.AExpr.TheVariants as exprs
+use Rattle.plan_ir.specs.declared.expr.ExprIR.{ExprIR}
+use Rattle.plan_ir.specs.declared.expr.LiteralValue.TheVariants as literals
+use Rattle.plan_ir.specs.declared.ir.IR.{IR}
+use Rattle.plan_ir.specs.declared.ir.IR.TheVariants as nodes
+use Rattle.plan_ir.specs.declared.scan.FileInfo.{FileInfo}
+use Rattle.plan_ir.specs.declared.scan.FileScan.{FileScan}
+use Rattle.plan_ir.specs.declared.scan.ScanSources.{ScanSources}
+use Rattle.plan_ir.specs.declared.scan.ScanSources.TheVariants as sources
+use Rattle.plan_text.specs.Written.{list_data, nullable_data, field_data, columns_data, names_data, output_data, slice_data, row_index_data, sources_data, expr_data, scan_data, node_data, plan_data}
+
+both : (a b k : ℕ) → a ≤ k → b ≤ k → max a b ≤ k
+both a b k p q = omega arith
+
+items_deep : {A : Type 0} (f : A → Data) (k : ℕ) (xs : List A) → ((x : A) → depth (f x) ≤ k) → items_depth (items_of (map f xs)) ≤ k
+items_deep f k [] each = omega arith
+items_deep f k (x ∷ xs) each = both _ _ k (each x) (items_deep f k xs each)
+
+list_deep : {A : Type 0} (f : A → Data) (k : ℕ) (xs : List A) → ((x : A) → depth (f x) ≤ k) → depth (list_data f xs) ≤ suc k
+unfolding list_data
+list_deep f k xs each = let below = items_deep f k xs each in omega arith
+
+nullable_deep : {A : Type 0} (f : A → Data) (k : ℕ) (o : Option A) → ((x : A) → depth (f x) ≤ k) → depth (nullable_data f o) ≤ k
+nullable_deep f k None each = omega arith
+nullable_deep f k (Some x) each = each x
+
+flat : (d : Data) (k : ℕ) → depth d ≡ 0 → depth d ≤ k
+flat d k e = omega (arith, e)
+
+names_deep : (ns : List (List ℕ)) → depth (names_data ns) ≤ 2
+names_deep ns = let below = list_deep string 0 ns (λ n. flat (string n) 0 refl) in omega arith
+
+columns_deep : (cs : Columns) → depth (columns_data cs) ≤ 2
+columns_deep cs = list_deep field_data 1 cs (λ f. omega arith)
+
+output_deep : (e : ExprIR) → depth (output_data e) ≤ 2
+unfolding output_data
+output_deep e = omega arith
+
+sources_deep : (s : ScanSources) → depth (sources_data s) ≤ 3
+sources_deep (sources.Paths ps) = let below = names_deep ps in omega arith
+
+scan_deep : (from : ScanSources) (info : FileInfo) (predicate : Option ExprIR) (output : Option Columns) (format : FileScan) (options : FileScanOptions) → depth (scan_data from info predicate output format options) ≤ 4
+unfolding scan_data
+scan_deep from info predicate output format options =
+    let read = nullable_deep names_data 2 options.with_columns names_deep in
+    let put_out = nullable_deep columns_data 2 output columns_deep in
+    let path = nullable_deep string 0 options.include_file_paths (λ n. flat (string n) 0 refl) in
+    let kept = nullable_deep output_data 2 predicate output_deep in
+    let found = nullable_deep columns_data 2 info.reader_schema columns_deep in
+    let numbered = nullable_deep row_index_data 1 options.row_index (λ r. omega arith) in
+    let all = columns_deep info.schema in
+    let some = nullable_deep slice_data 1 options.slice (λ r. omega arith) in
+    let places = sources_deep from in
+    omega arith
+
+expr_deep : (e : AExpr) → depth (expr_data e) ≤ 4
+unfolding expr_data
+expr_deep (exprs.Column s) = omega arith
+expr_deep (exprs.Literal (literals.Int64 z)) = omega arith
+expr_deep (exprs.BinaryExpr left op right) = omega arith
+
+node_deep : (n : IR) → depth (node_data n) ≤ 4
+unfolding node_data
+node_deep (nodes.Filter input predicate) = let below = output_deep predicate in omega arith
+node_deep (nodes.Scan from info predicate output format options) = scan_deep from info predicate output format options
+node_deep (nodes.SimpleProjection input columns) = let below = columns_deep columns in omega arith
+node_deep nodes.Invalid = omega arith
+
+pub plan_deep : (lp : List IR) (ex : List AExpr) (root : Node) → depth (plan_data lp ex root) ≤ max_depth
+unfolding plan_data
+plan_deep lp ex root =
+    let of_nodes = list_deep node_data 4 lp node_deep in
+    let of_exprs = list_deep expr_data 4 ex expr_deep in
+    omega arith

@@ -1,0 +1,4 @@
+pub mod Statuses
+pub mod Stops
+pub mod Limits
+pub mod Checked
