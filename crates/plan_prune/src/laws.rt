@@ -1,0 +1,1 @@
+//! Laws of pruning, as the contracts of functions that do nothing.
