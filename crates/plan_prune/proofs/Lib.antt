@@ -1,1 +1,4 @@
+pub mod ListSteps
+pub mod PruneLemmas
 mod NarrowLemmas
+mod AddedNames

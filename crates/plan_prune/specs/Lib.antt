@@ -1,2 +1,5 @@
+pub mod Leaves
 pub mod Pruned
+pub mod Prunes
+pub mod Scans
 pub mod Reads

@@ -1,54 +1,70 @@
--- A plan pruned to what is asked of it.
-use Rattle.std.specs.Prelude.{List, [], ◌∷◌, map, Option, Some, None, unwrap_or}
+-- What pruning makes of a plan. Names are asked of a node, and it asks names of its inputs; no names stand for every column.
+use Rattle.std.specs.Prelude.{Bool, true, false, List, [], ◌∷◌, Option, Some, option_map, filter as filter_list}
+use Rattle.std.specs.List.{filter_map}
+use Rattle.plan_core.specs.Columns.{Columns, names_of, type_of}
+use Rattle.plan_core.specs.Names.{has, with_names}
 use Rattle.plan_core.specs.declared.data_type.DataType.{DataType}
-use Rattle.plan_core.specs.declared.data_type.DataType.TheVariants.{Int64}
 use Rattle.plan_core.specs.declared.options.FileScanOptions.{FileScanOptions}
-use Rattle.plan_core.specs.Columns.{Columns, type_of}
-use Rattle.plan_tree.specs.Rose.{Rose, Roses, rose, no_roses, more}
-use Rattle.plan_ir.specs.Plans.{Op, filter, scan, simple_projection, invalid, Plan}
-use Rattle.plan_meaning.specs.Exprs.{Name}
-use Rattle.plan_meaning.specs.Typing.{schema_by, schemas}
-use Rattle.plan_meaning.specs.Relating.{Asked, all, names, cached}
-use Rattle.plan_meaning.specs.Asked.{kept, asks, first_asked, rest_asked}
+use Rattle.plan_tree.specs.Rose.{Roses, rose, no_roses, more}
+use Rattle.plan_ir.specs.declared.scan.FileInfo.{FileInfo}
+use Rattle.plan_ir.specs.declared.scan.FileScan.{FileScan}
+use Rattle.plan_ir.specs.declared.scan.ScanSources.{ScanSources}
+use Rattle.plan_ir.specs.Plans.{Op, filter, scan, simple_projection, invalid, Named, Plan}
+use Rattle.plan_prune.specs.Leaves.{Name, names_in}
 
--- the type of a name, whole numbers where it has none
-abbrev pub type_or : Columns → Name → DataType
-type_or s a = unwrap_or (type_of s a) Int64
+-- the asked names with more, each last unless it is there; asked nothing, nothing
+abbrev pub asked_with : List Name → List Name → List Name
+asked_with [] names = []
+asked_with (a ∷ asked) names = with_names (a ∷ asked) names
 
--- names with their types, in this order
-abbrev pub columns_at : List Name → Columns → Columns
-columns_at wanted s = map (λ (a : Name). (a, type_or s a)) wanted
+-- the asked columns, in their own order; asked nothing, all
+abbrev pub kept : List Name → Columns → Columns
+kept [] cs = cs
+kept (a ∷ asked) cs = filter_list (λ (c : Name × DataType). has (a ∷ asked) c.0) cs
 
--- options that read these names
+-- a name with its type among the columns, if it is there
+abbrev pub typed_name : Columns → Name → Option (Name × DataType)
+typed_name cs a = option_map (λ d. (a, d)) (type_of cs a)
+
+-- the names with their types among the columns, in order; a name that isn't there is left out
+abbrev pub typed_names : Columns → List Name → Columns
+typed_names cs names = filter_map (typed_name cs) names
+
+-- the options of a scan that reads these names
 abbrev pub reading : List Name → FileScanOptions → FileScanOptions
-reading wanted options = record options { with_columns = Some wanted }
+reading names options = record options { with_columns = Some names }
 
--- a scan that reads and puts out these names alone
-abbrev pub narrowed : Op → List Name → Op
-narrowed (scan sources info predicate output kind options) wanted =
-    scan sources info predicate (Some (columns_at wanted (schema_by (scan sources info predicate output kind options) []))) kind (reading wanted options)
-narrowed (filter predicate) wanted = filter predicate
-narrowed (simple_projection columns) wanted = simple_projection columns
-narrowed invalid wanted = invalid
+-- a plan with a projection on top, or without
+abbrev pub projected : Bool → Columns → Plan → Plan
+projected true columns plan = rose tt (simple_projection columns) (more plan no_roses)
+projected false columns plan = plan
 
--- a scan that is asked names reads these alone, under a projection of them
-abbrev pub scan_over : Op → Asked → Roses (Unit {0}) Op → Plan
-scan_over op all inputs = rose tt op inputs
-scan_over op (names wanted) inputs = rose tt (simple_projection (columns_at wanted (schema_by op []))) (more (rose tt (narrowed op wanted) inputs) no_roses)
-scan_over op cached inputs = rose tt op inputs
+-- a scan that reads and puts out the asked names alone, with a projection to them on top or without; asked nothing, it stays
+abbrev pub pruned_scan : Bool → List Name → ScanSources → FileInfo → Option Named → Option Columns → FileScan → FileScanOptions → Roses (Unit {0}) Op → Plan
+pruned_scan top [] sources info predicate output kind options inputs = rose tt (scan sources info predicate output kind options) inputs
+pruned_scan top (a ∷ asked) sources info predicate output kind options inputs =
+    let columns = typed_names info.schema (a ∷ asked) in
+    projected top columns (rose tt (scan sources info predicate (Some columns) kind (reading (a ∷ asked) options)) inputs)
 
--- a node that is asked something, over its pruned inputs: a filter stays, a projection keeps what is asked
-abbrev pub rebuilt : Op → Asked → List Columns → Roses (Unit {0}) Op → Plan
-rebuilt (filter predicate) a ss inputs = rose tt (filter predicate) inputs
-rebuilt (scan sources info predicate output kind options) a ss inputs = scan_over (scan sources info predicate output kind options) a inputs
-rebuilt (simple_projection columns) a ss inputs = rose tt (simple_projection (kept a columns)) inputs
-rebuilt invalid a ss inputs = rose tt invalid inputs
+-- what a node that is asked names asks its inputs
+abbrev pub asks : List Name → Op → List Name
+asks asked (filter predicate) = asked_with asked (names_in predicate.expr)
+asks asked (scan sources info predicate output kind options) = []
+asks asked (simple_projection columns) = with_names [] (names_of (kept asked columns))
+asks asked invalid = []
 
--- a plan pruned to what it is asked: its inputs are pruned to what it asks of them
+-- a node that is asked names, over its pruned inputs
+abbrev pub rebuilt : Bool → List Name → Op → Roses (Unit {0}) Op → Plan
+rebuilt top asked (filter predicate) inputs = rose tt (filter predicate) inputs
+rebuilt top asked (scan sources info predicate output kind options) inputs = pruned_scan top asked sources info predicate output kind options inputs
+rebuilt top asked (simple_projection columns) inputs = rose tt (simple_projection (kept asked columns)) inputs
+rebuilt top asked invalid inputs = rose tt invalid inputs
+
+-- a plan pruned to the asked names, with projections on top of its scans or without
 abbrev mutual
-  pub pruned : Plan → Asked → Plan
-  pruned (rose n op ts) a = rebuilt op a (schemas ts) (pruned_all ts (asks op a (schemas ts)))
+  pub pruned : Bool → List Name → Plan → Plan
+  pruned top asked (rose n op inputs) = rebuilt top asked op (pruned_all top (asks asked op) inputs)
 
-  pub pruned_all : Roses (Unit {0}) Op → List Asked → Roses (Unit {0}) Op
-  pruned_all no_roses asked = no_roses
-  pruned_all (more p rest) asked = more (pruned p (first_asked asked)) (pruned_all rest (rest_asked asked))
+  pub pruned_all : Bool → List Name → Roses (Unit {0}) Op → Roses (Unit {0}) Op
+  pruned_all top asked no_roses = no_roses
+  pruned_all top asked (more plan plans) = more (pruned top asked plan) (pruned_all top asked plans)

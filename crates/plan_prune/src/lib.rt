@@ -1,4 +1,7 @@
-//! Projection pushdown: a plan that reads only the columns that it needs.
+//! Projection pushdown: a plan reads no columns that it doesn't put out or need.
 #![tactic(auto)]
 
 pub mod laws;
+mod push_down;
+
+pub use push_down::ProjectionPushDown;

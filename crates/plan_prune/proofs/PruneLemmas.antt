@@ -1,0 +1,185 @@
+-- What pruning does at each kind of node.
+use Rattle.std.proofs.Common.{◌≡◌, ℕ, zero, suc, ◌+◌, ◌<◌, ◌≤◌, Bool, true, false, not, List, [], ◌∷◌, ◌++◌, map, length, Option, Some, None, option_map, refl, sym, ap, ap₂, ◌∙◌, inl, inr, ◌⊎◌, arith, length-set, length-append, subst, append-nil}
+use Rattle.std.specs.List.{slice_get, slice_set}
+use Rattle.std.proofs.lemmas.Option.{slice_get_within}
+use Rattle.plan_core.specs.declared.arena.Node.{Node}
+use Rattle.plan_core.specs.declared.options.FileScanOptions.{FileScanOptions}
+use Rattle.plan_core.specs.Columns.{Columns}
+use Rattle.plan_tree.specs.Rose.{Roses, rose, no_roses, more}
+use Rattle.plan_tree.specs.Stands.{Shape, Trees, Reaches, Stands, StandsOnce, Keeps, Rewrites}
+use Rattle.plan_tree.proofs.TreeLemmas.{Opened, opened, nth, height_at, Stands-nth, Stands-unique}
+use Rattle.plan_tree.proofs.ReadLemmas.{trees_at-is}
+use Rattle.plan_tree.proofs.Frames.{Rewrites-refl, Rewrites-back, Rewrites-above, Rewrites-trans, StandsOnce-set, StandsOnce-first, descend, Keeps-trans, Keeps-set, Keeps-append, slice_get-append_last}
+use Rattle.plan_ir.specs.declared.expr.AExpr.{AExpr}
+use Rattle.plan_ir.specs.declared.expr.AExpr.TheVariants as exprs
+use Rattle.plan_ir.specs.declared.expr.ExprIR.{ExprIR}
+use Rattle.plan_ir.specs.declared.expr.Operator.{Operator}
+use Rattle.plan_ir.specs.declared.expr.LiteralValue.{LiteralValue}
+use Rattle.plan_ir.specs.declared.ir.IR.{IR}
+use Rattle.plan_ir.specs.declared.ir.IR.TheVariants as nodes
+use Rattle.plan_ir.specs.declared.scan.FileInfo.{FileInfo}
+use Rattle.plan_ir.specs.declared.scan.FileScan.{FileScan}
+use Rattle.plan_ir.specs.declared.scan.ScanSources.{ScanSources}
+use Rattle.plan_ir.specs.Parts.{plan_shape, inputs_of, is_invalid, roots_of, roots_in, IsExpr, IsPlan, StandsPlan}
+use Rattle.plan_ir.specs.Plans.{Op, op_at, plans_of, plans_at, bare, expr_at, Expr}
+use Rattle.plan_ir.proofs.ExprLemmas.{expr_open}
+use Rattle.plan_ir.proofs.PlanLemmas.{plan_down}
+use Rattle.plan_core.specs.Names.{with_names, with_name}
+use Rattle.plan_prune.specs.Leaves.{Name, names_in}
+use Rattle.plan_prune.specs.Pruned.{asks, rebuilt, pruned_all, typed_names}
+use Rattle.plan_prune.specs.Prunes.{Prunes, PrunesAll}
+use Rattle.plan_prune.specs.Scans.{narrowed, output_of, with_node, with_pruned_scan}
+use Rattle.plan_prune.proofs.ListSteps.{with_names-append}
+
+-- the names of an expression are added, kind by kind
+module _ (ex : List AExpr) (n : Node) (h : IsExpr ex n) where
+  pub adds-column : (names : List Name) (a : Name) → slice_get ex n.0 ≡ Some (exprs.Column a) → with_name names a ≡ with_names names (names_in (expr_at ex n))
+  adds-column names a e = ap (λ (x : Expr). with_names names (names_in x)) (sym (expr_open ex n (exprs.Column a) h e))
+
+  pub adds-literal : (names : List Name) (v : LiteralValue) → slice_get ex n.0 ≡ Some (exprs.Literal v) → names ≡ with_names names (names_in (expr_at ex n))
+  adds-literal names v e = ap (λ (x : Expr). with_names names (names_in x)) (sym (expr_open ex n (exprs.Literal v) h e))
+
+  pub adds-binary : (names : List Name) (l r : Node) (o : Operator) → slice_get ex n.0 ≡ Some (exprs.BinaryExpr l o r) → with_names (with_names names (names_in (expr_at ex l))) (names_in (expr_at ex r)) ≡ with_names names (names_in (expr_at ex n))
+  adds-binary names l r o e =
+      let a = names_in (expr_at ex l) in
+      let b = names_in (expr_at ex r) in
+      sym (with_names-append names a b)
+      ∙ ap (λ (x : List Name). with_names names (a ++ x)) (sym (append-nil b))
+      ∙ ap (λ (x : Expr). with_names names (names_in x)) (sym (expr_open ex n (exprs.BinaryExpr l o r) h e))
+
+-- what a call on the input of a node asks, once the node is taken
+pub record Asks (a b : List IR) (ex : List AExpr) (n i : Node) : Type 0 where
+  pub falls : height_at plan_shape b i < height_at plan_shape a n
+  pub plan : IsPlan b ex i
+
+pub input_asks : (a b : List IR) (ex : List AExpr) (n i : Node) (p d : IR) (j : ℕ) → IsPlan a ex n → slice_get a n.0 ≡ Some p → b ≡ slice_set a n.0 d → slice_get (inputs_of p) j ≡ Some i → Asks a b ex n i
+input_asks a b ex n i p d j h e taken k =
+    let down = plan_down a ex n p h e j i k in
+    let plan = down.1 in
+    let o = opened plan_shape a n p h.nodes h.stands.nodes e in
+    let s = StandsOnce-first plan_shape a b n i p d h.nodes j o taken k in
+    let same : plan.nodes ≡ nth plan_shape o.kids j = Stands-unique plan_shape a (i ∷ []) plan.nodes (nth plan_shape o.kids j) plan.stands.nodes.stands (Stands-nth plan_shape a (inputs_of p) o.kids j i o.inputs.stands k) in
+    record {
+      falls = descend plan_shape a b n i p h.nodes j h.stands.nodes o s;
+      plan = record {
+        nodes = plan.nodes;
+        exprs = plan.exprs;
+        stands = record { nodes = subst (λ (t : Trees IR). StandsOnce plan_shape b (i ∷ []) t) (sym same) s; exprs = plan.stands.exprs };
+      };
+    }
+
+-- the node's entry is still there after calls that only append
+pub entry_stays : (a b c : List IR) (n : Node) (p d : IR) → slice_get a n.0 ≡ Some p → b ≡ slice_set a n.0 d → length b ≤ length c → n.0 < length c
+entry_stays a b c n p d e taken grows =
+    let small : n.0 < length a = slice_get_within a n.0 p e in
+    let long : length b ≡ length a = rw taken (length-set a n.0 d) in
+    omega arith
+
+-- from the input of a node to the node, which goes back over the same input
+pub finish : (top : Bool) (asked names : List Name) (a b c : List IR) (ex : List AExpr) (n i : Node) (p q d : IR) (t : Trees IR) → StandsOnce plan_shape a (n ∷ []) t → slice_get a n.0 ≡ Some p → b ≡ slice_set a n.0 d → inputs_of p ≡ i ∷ [] → inputs_of q ≡ inputs_of p → is_invalid q ≡ false → roots_of q ≡ roots_of p → names ≡ asks asked (op_at ex p) → ((f : Roses (Unit {0}) Op) → rose tt (op_at ex q) f ≡ rebuilt top asked (op_at ex p) f) → ((kids : Trees IR) → StandsOnce plan_shape b (i ∷ []) kids → Prunes top names b c ex i kids) → Prunes top asked a (slice_set c n.0 q) ex n t
+finish top asked names a b c ex n i p q d t h e taken one same valid roots asks_is built below =
+    let o = opened plan_shape a n p t h e in
+    let under : StandsOnce plan_shape b (inputs_of p) o.kids = rw taken (StandsOnce-set plan_shape a (inputs_of p) o.kids n.0 d o.inputs o.above) in
+    let x = below o.kids (subst (λ (ns : List Node). StandsOnce plan_shape b ns o.kids) one under) in
+    let inside : Rewrites plan_shape b c (inputs_of p) o.kids x.trees = subst (λ (ns : List Node). Rewrites plan_shape b c ns o.kids x.trees) (sym one) x.rewrites in
+    let kids : Roses (Unit {0}) Op = bare (plans_of ex o.kids) in
+    rw o.is (record {
+      trees = more (rose n q x.trees) no_roses;
+      rewrites = Rewrites-back plan_shape a b c n p q d o.kids x.trees (rw o.is at h) taken inside same valid;
+      exprs = ap₂ (λ (l m : List Node). l ++ (m ++ [])) roots x.exprs;
+      pruned =
+        ap (λ (f : Roses (Unit {0}) Op). more (rose tt (op_at ex q) f) no_roses) x.pruned
+        ∙ ap (λ (l : List Name). more (rose tt (op_at ex q) (pruned_all top l kids)) no_roses) asks_is
+        ∙ ap (λ r. more r no_roses) (built (pruned_all top (asks asked (op_at ex p)) kids));
+    })
+
+-- nothing stands over no numbers
+no_trees : (lp : List IR) (f : Trees IR) → Stands plan_shape lp [] f → f ≡ no_roses
+no_trees lp no_roses h = refl
+no_trees lp (more (rose n p kids) rest) h = absurd h
+
+-- the arena with a pruned scan, where something is asked
+pub placed-asked : (top : Bool) (asked : List Name) (lp : List IR) (n : Node) (p : IR) → (length asked ≡ 0 → ⊥) → with_pruned_scan top asked lp n p ≡ with_node top lp n (narrowed asked p)
+placed-asked top [] lp n p some = absurd (some refl)
+placed-asked top (a ∷ asked) lp n p some = refl
+
+pub placed-none : (top : Bool) (asked : List Name) (lp : List IR) (n : Node) (p : IR) → length asked ≡ 0 → with_pruned_scan top asked lp n p ≡ slice_set lp n.0 p
+placed-none top [] lp n p none = refl
+placed-none top (a ∷ asked) lp n p none = absurd (omega arith)
+
+-- a projection on top of a node that was just added
+pub placed-top : (lp c : List IR) (n m : Node) (p : IR) (cs : Columns) → c ≡ lp ++ p ∷ [] → m.0 ≡ length lp → cs ≡ output_of p → slice_set c n.0 (nodes.SimpleProjection m cs) ≡ with_node true lp n p
+placed-top lp c n m p cs added at is =
+    ap₂ (λ (l : List IR) (ds : Columns). slice_set l n.0 (nodes.SimpleProjection m ds)) added is
+    ∙ ap (λ (k : ℕ). slice_set (lp ++ p ∷ []) n.0 (nodes.SimpleProjection (record { 0 = k }) (output_of p))) at
+
+-- a scan at a number is pruned
+module _ (a b : List IR) (ex : List AExpr) (n : Node) (d : IR) (t : Trees IR) (h : StandsOnce plan_shape a (n ∷ []) t) (sources : ScanSources) (info : FileInfo) (predicate : Option ExprIR) (output : Option Columns) (kind : FileScan) (options : FileScanOptions) (e : slice_get a n.0 ≡ Some (nodes.Scan sources info predicate output kind options)) (taken : b ≡ slice_set a n.0 d) where
+  abbrev p : IR
+  p = nodes.Scan sources info predicate output kind options
+
+  -- the scan's tree has nothing below
+  alone : t ≡ more (rose n p no_roses) no_roses
+  alone =
+      let o = opened plan_shape a n p t h e in
+      o.is ∙ ap (λ (kids : Trees IR). more (rose n p kids) no_roses) (no_trees a o.kids o.inputs.stands)
+
+  -- another scan goes back to the number
+  stays : (top : Bool) (asked : List Name) (q : IR) → inputs_of q ≡ [] → is_invalid q ≡ false → roots_of q ≡ roots_of p → rose tt (op_at ex q) no_roses ≡ rebuilt top asked (op_at ex p) no_roses → Prunes top asked a (slice_set b n.0 q) ex n t
+  stays top asked q none valid roots is =
+      let under : StandsOnce plan_shape b [] no_roses = record { stands = tt; once = tt } in
+      rw alone (record {
+        trees = more (rose n q no_roses) no_roses;
+        rewrites = Rewrites-back plan_shape a b b n p q d no_roses no_roses (rw alone at h) taken (Rewrites-refl plan_shape b [] no_roses under) none valid;
+        exprs = ap (λ (l : List Node). l ++ []) roots;
+        pruned = ap (λ r. more r no_roses) is;
+      })
+
+  -- a scan goes to a new number, and a projection on top takes its number
+  goes_below : (asked : List Name) (q : IR) (cs : Columns) → inputs_of q ≡ [] → is_invalid q ≡ false → roots_of q ≡ roots_of p → rose tt (op_at ex (nodes.SimpleProjection n cs)) (more (rose tt (op_at ex q) no_roses) no_roses) ≡ rebuilt true asked (op_at ex p) no_roses → Prunes true asked a (slice_set (b ++ q ∷ []) n.0 (nodes.SimpleProjection (record { 0 = length b }) cs)) ex n t
+  goes_below asked q cs none valid roots is =
+      let m : Node = record { 0 = length b } in
+      let c : List IR = b ++ q ∷ [] in
+      let above : IR = nodes.SimpleProjection m cs in
+      let whole : Trees IR = more (rose n p no_roses) no_roses in
+      let below : Trees IR = more (rose m q no_roses) no_roses in
+      let long : length b ≡ length a = rw taken (length-set a n.0 d) in
+      let nothing : Stands plan_shape c (inputs_of q) no_roses = rw none tt in
+      let stands : StandsOnce plan_shape c (m ∷ []) below = record {
+        stands = (refl, slice_get-append_last plan_shape b q, valid, nothing, tt);
+        once = ((λ r. r), (λ r. r), (λ k u v. u), tt, tt);
+      } in
+      let keeps : Keeps a c whole = Keeps-trans plan_shape a b c whole whole (rw taken (Keeps-set plan_shape a n.0 d whole (inl refl))) (Keeps-append plan_shape b q whole) (λ k r. inl r) in
+      let new : (k : ℕ) → Reaches below k → ⊥ ⊎ (length a ≤ k) = λ k r. elim r as (λ _. ⊥ ⊎ (length a ≤ k)) [
+        | inl u ↦ inr (omega arith)
+        | inr v ↦ elim v as (λ _. ⊥ ⊎ (length a ≤ k)) [ inl w ↦ inl w | inr w ↦ inl w ]
+      ] in
+      rw alone (record {
+        trees = more (rose n above below) no_roses;
+        rewrites = Rewrites-above plan_shape a c n p above no_roses below (rw alone at h) keeps stands new refl;
+        exprs = append-nil (roots_of q ++ []) ∙ ap (λ (l : List Node). l ++ []) roots;
+        pruned = ap (λ r. more r no_roses) is;
+      })
+
+  placed : (top : Bool) (asked : List Name) → Prunes top asked a (with_pruned_scan top asked b n p) ex n t
+  placed top [] = stays top [] p refl refl refl refl
+  placed true (x ∷ asked) = goes_below (x ∷ asked) (narrowed (x ∷ asked) p) (typed_names info.schema (x ∷ asked)) refl refl refl refl
+  placed false (x ∷ asked) = stays false (x ∷ asked) (narrowed (x ∷ asked) p) refl refl refl refl
+
+  pub scan_pruned : (top : Bool) (asked : List Name) (c : List IR) → c ≡ with_pruned_scan top asked b n p → Prunes top asked a c ex n t
+  scan_pruned top asked c is = rw is (placed top asked)
+
+-- what a pruned plan is
+module _ (top : Bool) (asked : List Name) (a c : List IR) (ex : List AExpr) (n : Node) (h : IsPlan a ex n) (x : Prunes top asked a c ex n h.nodes) where
+  pub pruned_is : bare (plans_at c ex (n ∷ [])) ≡ pruned_all top asked (bare (plans_at a ex (n ∷ [])))
+  pruned_is =
+      ap (λ (t : Trees IR). bare (plans_of ex t)) (trees_at-is plan_shape c (n ∷ []) x.trees x.rewrites.stands)
+      ∙ x.pruned
+      ∙ ap (λ (t : Trees IR). pruned_all top asked (bare (plans_of ex t))) (sym (trees_at-is plan_shape a (n ∷ []) h.nodes h.stands.nodes))
+
+  pub pruned_stands : IsPlan c ex n
+  pruned_stands = record {
+    nodes = x.trees;
+    exprs = h.exprs;
+    stands = record { nodes = x.rewrites.stands; exprs = rw x.exprs h.stands.exprs };
+  }

@@ -1,0 +1,38 @@
+-- The node of a pruned scan, and its place in an arena.
+use Rattle.std.specs.Prelude.{Bool, true, false, List, [], ◌∷◌, ◌++◌, length, Option, Some, None, slice_set}
+use Rattle.plan_core.specs.declared.arena.Node.{Node}
+use Rattle.plan_core.specs.Columns.{Columns}
+use Rattle.plan_ir.specs.declared.ir.IR.{IR}
+use Rattle.plan_ir.specs.declared.ir.IR.TheVariants.{Filter, Scan, SimpleProjection, Invalid}
+use Rattle.plan_ir.specs.Parts.{list_of}
+use Rattle.plan_prune.specs.Leaves.{Name}
+use Rattle.plan_prune.specs.Pruned.{typed_names, reading}
+
+-- a scan that reads and puts out the names alone
+abbrev pub narrowed : List Name → IR → IR
+narrowed names (Scan sources file_info predicate output_schema scan_type file_options) =
+    Scan sources file_info predicate (Some (typed_names file_info.schema names)) scan_type (reading names file_options)
+narrowed names (Filter input predicate) = Filter input predicate
+narrowed names (SimpleProjection input columns) = SimpleProjection input columns
+narrowed names Invalid = Invalid
+
+abbrev pub columns_or_none : Option Columns → Columns
+columns_or_none None = []
+columns_or_none (Some cs) = cs
+
+-- what a scan says that it puts out
+abbrev pub output_of : IR → Columns
+output_of (Scan sources file_info predicate output_schema scan_type file_options) = columns_or_none output_schema
+output_of (Filter input predicate) = []
+output_of (SimpleProjection input columns) = []
+output_of Invalid = []
+
+-- the node at a number, with a projection on top that takes the number, or without
+abbrev pub with_node : Bool → List IR → Node → IR → List IR
+with_node true lp n p = slice_set (lp ++ p ∷ []) n.0 (SimpleProjection (record { 0 = length lp }) (output_of p))
+with_node false lp n p = slice_set lp n.0 p
+
+-- the arena with the pruned scan at the number
+abbrev pub with_pruned_scan : Bool → List Name → List IR → Node → IR → List IR
+with_pruned_scan top [] lp n p = slice_set lp n.0 p
+with_pruned_scan top (a ∷ asked) lp n p = with_node top lp n (narrowed (a ∷ asked) p)

@@ -1,0 +1,90 @@
+//! The pass that prunes a plan to the columns that it needs.
+//! Each node is told the names that are asked of it, and asks its inputs the names that it needs;
+//! no names stand for every column. The rule of a node kind is in a file of its own.
+ghost use Rattle.std.specs.Prelude.{◌≡◌, ◌≤◌, [], ◌∷◌, OnOk, false, length, not};
+ghost use Rattle.plan_tree.specs.Stands.{Trees, StandsOnce};
+ghost use Rattle.plan_ir.specs.declared.ir.IR.{IR};
+ghost use Rattle.plan_ir.specs.Parts.{IsPlan, plan_shape};
+ghost use Rattle.plan_ir.specs.Plans.{bare, plans_at};
+ghost use Rattle.plan_prune.specs.Pruned.{pruned_all};
+ghost use Rattle.plan_prune.specs.Prunes.{Prunes};
+
+mod filter;
+mod projection;
+mod scan;
+
+use plan_core::{Arena, Names, Node};
+use plan_ir::{AExpr, IR};
+use std::alloc::{AllocError, Global};
+
+/// Prunes plans to the columns that they need.
+#[derive(Drop)]
+pub struct ProjectionPushDown {
+    /// Whether a narrowed scan goes without a projection on top.
+    pub is_count_star: bool,
+}
+
+impl ProjectionPushDown {
+    /// A pass that puts a projection on top of each narrowed scan.
+    pub fn new() -> Self
+        ensures { result.is_count_star ≡ false }
+    {
+        ProjectionPushDown {
+            is_count_star: false,
+        }
+    }
+
+    /// Prunes the plan at `root`, of which every column is asked. Refuses for want of memory alone.
+    pub fn optimize(
+        &mut self,
+        alloc: Global,
+        root: Node,
+        lp: &mut Arena<IR>,
+        ex: &Arena<AExpr>,
+    ) -> Result<(), AllocError>
+        requires { IsPlan lp.old ex.now root }
+        ensures pruned { OnOk result (bare (plans_at lp.new ex.now (root ∷ [])) ≡ pruned_all (not self.old.is_count_star) [] (bare (plans_at lp.old ex.now (root ∷ [])))) }
+        ensures prunes { OnOk result ((t : Trees IR) → StandsOnce plan_shape lp.old (root ∷ []) t → Prunes (not self.old.is_count_star) [] lp.old lp.new ex.now root t) }
+        ensures is_plan { OnOk result (IsPlan lp.new ex.now root) }
+        ensures grows { length lp.old ≤ length lp.new }
+        ensures pass { self.new ≡ self.old }
+    {
+        self.push_down(alloc, root, Names::new(alloc), lp, ex)?;
+        Ok(())
+    }
+
+    // Prunes the plan at `node` to the asked names.
+    fn push_down(
+        &self,
+        alloc: Global,
+        node: Node,
+        asked: Names,
+        lp: &mut Arena<IR>,
+        ex: &Arena<AExpr>,
+    ) -> Result<(), AllocError>
+        requires { IsPlan lp.old ex.now node }
+        ensures prunes { OnOk result ((t : Trees IR) → StandsOnce plan_shape lp.old (node ∷ []) t → Prunes (not self.now.is_count_star) asked lp.old lp.new ex.now node t) }
+        ensures grows { length lp.old ≤ length lp.new }
+    {
+        match lp.take(node) {
+            IR::Filter { input, predicate } => {
+                let asked = filter::asks(asked, &predicate, ex)?;
+                self.push_down(alloc, input, asked, lp, ex)?;
+                lp.put(node, IR::Filter { input, predicate });
+                Ok(())
+            }
+            IR::SimpleProjection { input, columns } => {
+                let columns = projection::keep(alloc, columns, &asked)?;
+                let asked = projection::asks(alloc, &columns)?;
+                self.push_down(alloc, input, asked, lp, ex)?;
+                lp.put(node, IR::SimpleProjection { input, columns });
+                Ok(())
+            }
+            scan @ IR::Scan { .. } => {
+                scan::prune(alloc, node, scan, &asked, !self.is_count_star, lp)?;
+                Ok(())
+            }
+            IR::Invalid => Ok(()),
+        }
+    }
+}

@@ -1,0 +1,108 @@
+//! A scan that is asked something reads and puts out the asked names alone, in the asked order.
+//! It moves to a new number, and a projection to the asked names stands on top at the old one;
+//! without the projection it stays at its number. Asked nothing, a scan is unchanged.
+ghost use Rattle.std.specs.Prelude.{◌≡◌, ◌<◌, ◌≤◌, IfOk, OnOk, length};
+ghost use Rattle.plan_ir.specs.declared.ir.IR.{IR};
+ghost use Rattle.plan_prune.specs.Pruned.{typed_names};
+ghost use Rattle.plan_prune.specs.Scans.{narrowed as narrowed_to, output_of, with_pruned_scan};
+
+use plan_core::{Arena, Items, Names, Node, PlSmallStr, Schema, TryClone};
+use plan_ir::IR;
+use std::alloc::{AllocError, Global};
+
+/// The names as a list.
+fn listed(alloc: Global, names: &Names) -> Result<Items<PlSmallStr>, AllocError>
+    ensures { IfOk result (λ list. list ≡ names.now) }
+{
+    let mut list = Items::new(alloc);
+    for i in 0..names.len() {
+        if let Some(name) = names.get_at_index(i) {
+            list.push(PlSmallStr::new(alloc, name)?)?;
+        }
+    }
+    Ok(list)
+}
+
+/// The names with their types in a schema; those that it lacks are left out.
+fn typed(alloc: Global, names: &Names, schema: &Schema) -> Result<Schema, AllocError>
+    ensures { IfOk result (λ columns. columns ≡ typed_names schema.now names.now) }
+{
+    let mut columns = Schema::new(alloc);
+    for i in 0..names.len() {
+        if let Some(name) = names.get_at_index(i) {
+            if let Some(dtype) = schema.get(name) {
+                let _ = columns.with_column(PlSmallStr::new(alloc, name)?, *dtype)?;
+            }
+        }
+    }
+    Ok(columns)
+}
+
+/// The scan with the asked names alone; any other node stays.
+fn narrowed(alloc: Global, scan: IR, asked: &Names) -> Result<IR, AllocError>
+    ensures { IfOk result (λ node. node ≡ narrowed_to asked.now scan) }
+{
+    match scan {
+        IR::Scan {
+            sources,
+            file_info,
+            predicate,
+            output_schema: _,
+            scan_type,
+            mut file_options,
+        } => {
+            let columns = typed(alloc, asked, &file_info.schema)?;
+            file_options.with_columns = Some(listed(alloc, asked)?);
+            Ok(IR::Scan {
+                sources,
+                file_info,
+                predicate,
+                output_schema: Some(columns),
+                scan_type,
+                file_options,
+            })
+        }
+        other => Ok(other),
+    }
+}
+
+/// A copy of what a scan puts out; no columns where it doesn't say, and for any other node.
+fn output(alloc: Global, scan: &IR) -> Result<Schema, AllocError>
+    ensures { IfOk result (λ columns. columns ≡ output_of scan.now) }
+{
+    match scan {
+        IR::Scan {
+            output_schema: Some(columns),
+            ..
+        } => columns.try_clone(alloc),
+        _ => Ok(Schema::new(alloc)),
+    }
+}
+
+/// Puts the pruned scan at `node`, with the projection on top or without it.
+pub fn prune(
+    alloc: Global,
+    node: Node,
+    scan: IR,
+    asked: &Names,
+    on_top: bool,
+    lp: &mut Arena<IR>,
+) -> Result<(), AllocError>
+    requires { node.0 < length lp.old }
+    ensures placed { OnOk result (lp.new ≡ with_pruned_scan on_top asked.now lp.old node scan) }
+    ensures grows { length lp.old ≤ length lp.new }
+{
+    if asked.len() == 0 {
+        lp.put(node, scan);
+        return Ok(());
+    }
+    let scan = narrowed(alloc, scan, asked)?;
+    if !on_top {
+        lp.put(node, scan);
+        return Ok(());
+    }
+    let columns = output(alloc, &scan)?;
+    let input = lp.add(scan)?;
+    lp.put(node, IR::SimpleProjection { input, columns });
+    Ok(())
+}
