@@ -2,3 +2,6 @@ pub mod ListSteps
 pub mod PruneLemmas
 mod NarrowLemmas
 mod AddedNames
+mod AskedNames
+mod ProjectionNarrows
+mod ScanNarrows
