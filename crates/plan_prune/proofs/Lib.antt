@@ -5,3 +5,4 @@ mod AddedNames
 mod AskedNames
 mod ProjectionNarrows
 mod ScanNarrows
+mod PrunedNarrows

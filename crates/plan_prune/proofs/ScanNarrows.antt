@@ -135,21 +135,6 @@ both_true true y e f = f
 both_true false y e f = cc
 
 module _ (sources : ScanSources) (info : FileInfo) (predicate : Option Named) (output : Option Columns) (kind : FileScan) (options : FileScanOptions) (wanted : List Name) where
-  abbrev file : Columns
-  file = file_columns info
-
-  abbrev given : Op
-  given = scan sources info predicate output kind options
-
-  abbrev pub out : Columns
-  out = columns_or output file
-
-  abbrev pub cols : Columns
-  cols = typed_names info.schema wanted
-
-  abbrev pub left : Op
-  left = scan sources info predicate (Some cols) kind (reading wanted options)
-
   module _ (good : AllHold (checks (scan sources info predicate output kind options) [])) (fair : Fair wanted (columns_or output (file_columns info))) where
     parts : ScanGood predicate output info options
     parts = scan_good predicate output info options good
