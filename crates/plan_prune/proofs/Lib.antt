@@ -6,3 +6,4 @@ mod AskedNames
 mod ProjectionNarrows
 mod ScanNarrows
 mod PrunedNarrows
+mod PrunedReads
