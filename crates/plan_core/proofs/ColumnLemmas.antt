@@ -1,8 +1,8 @@
 -- What a map with text keys says of the list of names and types.
-use Rattle.std.proofs.Common.{◌≡◌, ℕ, zero, suc, take, Bool, true, false, cond, List, [], ◌∷◌, ◌++◌, map, Option, Some, refl, ap, sym, ◌∙◌}
+use Rattle.std.proofs.Common.{◌≡◌, ℕ, Bool, true, false, cond, List, [], ◌∷◌, ◌++◌, map, Option, Some, refl, ap, sym, ◌∙◌}
 use Rattle.std.specs.Str.{bytes_eq}
 use Rattle.std.specs.Map.{lookup, remove_entry, keys_of}
-use Rattle.std.specs.List.{IsDistinct, AllByRecursion, slice_get}
+use Rattle.std.specs.List.{IsDistinct, AllByRecursion}
 use Rattle.std.proofs.lemmas.Slice.Eq.{bytes_eq-Decides}
 use Rattle.std.specs.Prelude.{String, string_bytes}
 use Rattle.std.specs.String.{string_eq}
@@ -58,16 +58,3 @@ flip_false x y h = go (bytes_eq y x) refl
     go : (b : Bool) → bytes_eq y x ≡ b → b ≡ false
     go false e = refl
     go true e = let q : y ≡ x = (bytes_eq-Decides y x).0 e in let u : bytes_eq x y ≡ true = (bytes_eq-Decides x y).1 (sym q) in cc
-
-later_differs : (x : List ℕ) (cs : Columns) (i : ℕ) (c : List ℕ × DataType) → AllByRecursion (λ (y : List ℕ). bytes_eq x y ≡ false) (map (λ (c : List ℕ × DataType). c.0) cs) → slice_get cs i ≡ Some c → bytes_eq x c.0 ≡ false
-later_differs x [] i c h e = cc
-later_differs x (b ∷ cs) zero c h e = let q : b ≡ c = cc in rw (← q) h.0
-later_differs x (b ∷ cs) (suc i) c h e = later_differs x cs i c h.1 e
-
--- the columns before a place, with that at the place
-pub with_type-next : (cs : Columns) (i : ℕ) (name : List ℕ) (d : DataType) → HasDistinctNames cs → slice_get cs i ≡ Some (name, d) → with_type (take i cs) name d ≡ take (suc i) cs
-unfolding IsDistinct
-with_type-next [] i name d h e = cc
-with_type-next (c ∷ cs) zero name d h e = let q : c ≡ (name, d) = cc in rw q refl
-with_type-next (c ∷ cs) (suc i) name d h e =
-    rw (flip_false c.0 name (later_differs c.0 cs i (name, d) h.0 e)) (ap (λ (x : Columns). c ∷ x) (with_type-next cs i name d h.1 e))

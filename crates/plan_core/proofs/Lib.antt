@@ -4,3 +4,4 @@ pub mod PlaceLemmas
 pub mod MergeLemmas
 pub mod InsertLemmas
 pub mod SameLemmas
+pub mod CopyLemmas

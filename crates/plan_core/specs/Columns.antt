@@ -6,6 +6,7 @@ use Rattle.std.specs.Cmp.Lexicographic.{pointwise}
 use Rattle.plan_core.specs.declared.data_type.DataType.{DataType}
 use Rattle.plan_core.specs.declared.data_type.DataType.TheVariants.{Int64, String, Boolean}
 
+-- names with types, in order
 abbrev pub Columns : Type 0
 Columns = List (List ℕ × DataType)
 

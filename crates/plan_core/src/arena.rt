@@ -52,7 +52,8 @@ impl<T> Arena<T> {
         self.items.len()
     }
 
-    /// Appends an entry and gives its number.
+    /// Appends an entry and gives its number. It refuses where memory is short, and where there
+    /// are 4294967295 entries already.
     pub fn add(&mut self, value: T) -> Result<Node, AllocError>
     where
         T: Drop,
@@ -127,6 +128,15 @@ impl<T> Arena<T> {
 }
 
 impl TryClone for Node {
+    fn try_clone(&self, alloc: Global) -> Result<Self, AllocError>
+        ensures { IfOk result (λ r. r ≡ self.now) }
+    {
+        let _ = alloc;
+        Ok(*self)
+    }
+}
+
+impl TryClone for ColumnNode {
     fn try_clone(&self, alloc: Global) -> Result<Self, AllocError>
         ensures { IfOk result (λ r. r ≡ self.now) }
     {

@@ -34,7 +34,7 @@ impl<T> Items<T> {
         }
     }
 
-    /// Appends a value.
+    /// Appends a value. It refuses only where memory is short.
     pub fn push(&mut self, value: T) -> Result<(), AllocError>
     where
         T: Drop,
@@ -45,7 +45,7 @@ impl<T> Items<T> {
         Ok(())
     }
 
-    /// Takes the last value.
+    /// Takes the last value, if there is one.
     pub fn pop(&mut self) -> Option<T>
         ensures { MatchOption result (self.old ≡ [] × self.new ≡ []) (λ x. self.old ≡ self.new ++ x ∷ []) }
     {

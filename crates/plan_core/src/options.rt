@@ -13,7 +13,9 @@ pub type FileCount = u32;
 /// A column that numbers the rows of a scan: its name, and the number of the first row.
 #[derive(Drop, PartialEq, Eq, Debug)]
 pub struct RowIndex {
+    /// The name of the column.
     pub name: PlSmallStr,
+    /// The number of the first row.
     pub offset: u32,
 }
 
@@ -31,10 +33,13 @@ impl TryClone for RowIndex {
 /// How columns are read from the folders of a path.
 #[derive(Drop, PartialEq, Eq, Debug)]
 pub struct HiveOptions {
+    /// Whether folders name columns; None leaves the choice to the scan.
     pub enabled: Option<bool>,
     /// Where the folders begin in each path, in bytes.
     pub hive_start_idx: usize,
+    /// The columns that the folders name, where they are given.
     pub schema: Option<Schema>,
+    /// Whether dates are recognised in the names of folders.
     pub try_parse_dates: bool,
 }
 
@@ -45,14 +50,21 @@ pub struct FileScanOptions {
     pub slice: Option<(i64, usize)>,
     /// The names of the file columns that are read; all of them where it is absent.
     pub with_columns: Option<Items<PlSmallStr>>,
+    /// Whether what is read is kept for other scans.
     pub cache: bool,
+    /// The column that numbers the rows.
     pub row_index: Option<RowIndex>,
+    /// Whether each column is made one piece after it is read.
     pub rechunk: bool,
+    /// How many scans read these files.
     pub file_counter: FileCount,
+    /// How columns are read from the folders of a path.
     pub hive_options: HiveOptions,
+    /// Whether a path is a pattern.
     pub glob: bool,
     /// The name of a column with the path of each row.
     pub include_file_paths: Option<PlSmallStr>,
+    /// Whether a file may lack columns of the first.
     pub allow_missing_columns: bool,
 }
 

@@ -108,7 +108,7 @@ impl Schema {
     }
 
     /// Gives a column a type: a new one goes last, and one that is there keeps its place.
-    /// It gives the type that the column had.
+    /// It gives the type that the column had, and refuses only where memory is short.
     pub fn with_column(
         &mut self,
         name: PlSmallStr,
@@ -121,7 +121,8 @@ impl Schema {
         Ok(self.fields.insert(name.into_string(), dtype)?)
     }
 
-    /// Gives each column of the other, in order, its type there, as `with_column` does.
+    /// Gives each column of the other, in order, its type there, as `with_column` does. It
+    /// refuses only where memory is short.
     pub fn merge(&mut self, other: Schema) -> Result<(), AllocError>
         ensures after { OnOk result (self.new ≡ with_types self.old other) }
         ensures unchanged { OnErr result (self.new ≡ self.old) }
@@ -131,7 +132,8 @@ impl Schema {
         Ok(())
     }
 
-    /// Puts a new column at a place, and those from there on move down.
+    /// Puts a new column at a place, and those from there on move down. It refuses only where
+    /// memory is short.
     pub fn insert_at_index(
         &mut self,
         index: usize,
@@ -161,10 +163,8 @@ impl TryClone for Schema {
         ensures { IfOk result (λ r. r ≡ self.now) }
     {
         let mut copy = Schema::new(alloc);
-        for i in 0..self.len() {
-            if let Some((name, dtype)) = self.get_at_index(i) {
-                let _ = copy.with_column(PlSmallStr::new(alloc, name)?, *dtype)?;
-            }
+        for (name, dtype) in self.iter() {
+            copy.with_column(PlSmallStr::new(alloc, name)?, *dtype)?;
         }
         Ok(copy)
     }

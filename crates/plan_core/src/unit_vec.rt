@@ -53,7 +53,7 @@ impl<T> UnitVec<T> {
         }
     }
 
-    /// Appends a value.
+    /// Appends a value. It refuses only where memory is short.
     pub fn push(&mut self, value: T) -> Result<(), AllocError>
     where
         T: Drop,
@@ -75,7 +75,7 @@ impl<T> UnitVec<T> {
         Ok(())
     }
 
-    /// Takes the last value.
+    /// Takes the last value, if there is one.
     pub fn pop(&mut self) -> Option<T>
     where
         T: Drop,

@@ -1,9 +1,9 @@
 -- What stands at the number of an expression, and at those of its operands.
-use Rattle.std.proofs.Common.{◌≡◌, ℕ, zero, suc, ◌<◌, List, [], ◌∷◌, length, refl, sym, ap, ap₂, ◌∙◌, Some, None, arith}
+use Rattle.std.proofs.Common.{◌≡◌, ℕ, ◌<◌, List, [], ◌∷◌, refl, sym, ap, ap₂, ◌∙◌, Some}
 use Rattle.std.specs.List.{slice_get}
 use Rattle.plan_core.specs.declared.arena.Node.{Node}
-use Rattle.plan_tree.specs.Rose.{Rose, Roses, rose, no_roses, more}
-use Rattle.plan_tree.specs.Stands.{Shape, Trees, Reaches, Apart, IsOnce, Stands, StandsOnce}
+use Rattle.plan_tree.specs.Rose.{Roses, rose, no_roses, more}
+use Rattle.plan_tree.specs.Stands.{Trees, StandsOnce}
 use Rattle.plan_tree.specs.Read.{tree_at}
 use Rattle.plan_tree.proofs.ReadLemmas.{tree_at-is}
 use Rattle.plan_tree.proofs.TreeLemmas.{height_at, height-falls, StandsOnce-input, opened}

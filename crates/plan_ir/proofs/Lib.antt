@@ -1,2 +1,7 @@
 pub mod ExprLemmas
 pub mod PlanLemmas
+pub mod NumberingLemmas
+pub mod EntryLemmas
+pub mod MovedLemmas
+pub mod ReadLemmas
+pub mod CopyLemmas

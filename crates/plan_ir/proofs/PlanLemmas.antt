@@ -1,18 +1,17 @@
 -- What stands at the number of a plan node, at those of its inputs, and over those of its expressions.
-use Rattle.std.proofs.Common.{◌≡◌, ℕ, zero, suc, ◌<◌, List, [], ◌∷◌, ◌++◌, map, length, refl, sym, ap, ap₂, ◌∙◌, Some, None, arith, append-nil, append_assoc, subst}
+use Rattle.std.proofs.Common.{◌≡◌, ℕ, zero, suc, ◌<◌, List, [], ◌∷◌, ◌++◌, refl, sym, ap, ◌∙◌, Some, append-nil, append_assoc, subst}
 use Rattle.std.specs.List.{slice_get}
 use Rattle.plan_core.specs.declared.arena.Node.{Node}
-use Rattle.plan_tree.specs.Rose.{Rose, Roses, rose, no_roses, more, map_roses}
-use Rattle.plan_tree.specs.Stands.{Shape, Trees, Stands, StandsOnce}
+use Rattle.plan_tree.specs.Rose.{rose, no_roses, more}
+use Rattle.plan_tree.specs.Stands.{Trees, StandsOnce}
 use Rattle.plan_tree.specs.Read.{trees_at}
 use Rattle.plan_tree.proofs.ReadLemmas.{trees_at-is}
 use Rattle.plan_tree.proofs.SplitLemmas.{StandsOnce-split}
 use Rattle.plan_tree.proofs.TreeLemmas.{height_at, height-falls, StandsOnce-nth, opened, nth}
 use Rattle.plan_ir.specs.declared.expr.AExpr.{AExpr}
-use Rattle.plan_ir.specs.declared.expr.ExprIR.{ExprIR}
 use Rattle.plan_ir.specs.declared.ir.IR.{IR}
-use Rattle.plan_ir.specs.Parts.{expr_shape, plan_shape, inputs_of, exprs_of, roots_of, roots_in, IsExpr, StandsPlan, IsPlan}
-use Rattle.plan_ir.specs.Plans.{Op, op_at, plans_of, plans_at}
+use Rattle.plan_ir.specs.Parts.{expr_shape, plan_shape, inputs_of, roots_of, roots_in, IsExpr, IsPlan}
+use Rattle.plan_ir.specs.Plans.{op_at, plans_of, plans_at}
 
 -- the expression numbers of one of some trees, among those of all
 record Around (f : Trees IR) (j : ℕ) : Type 0 where
@@ -33,9 +32,9 @@ around (more (rose n p kids) rest) (suc j) =
       before = roots_of p ++ (roots_in kids ++ r.before);
       after = r.after;
       is =
-        ap (λ (l : List Node). roots_of p ++ (roots_in kids ++ l)) r.is
-        ∙ ap (λ (l : List Node). roots_of p ++ l) (sym (append_assoc (roots_in kids) r.before (roots_in (nth plan_shape rest j) ++ r.after)))
-        ∙ sym (append_assoc (roots_of p) (roots_in kids ++ r.before) (roots_in (nth plan_shape rest j) ++ r.after));
+          ap (λ (l : List Node). roots_of p ++ (roots_in kids ++ l)) r.is
+          ∙ ap (λ (l : List Node). roots_of p ++ l) (sym (append_assoc (roots_in kids) r.before (roots_in (nth plan_shape rest j) ++ r.after)))
+          ∙ sym (append_assoc (roots_of p) (roots_in kids ++ r.before) (roots_in (nth plan_shape rest j) ++ r.after));
     }
 
 -- the trees over numbers in the middle of a list
@@ -66,8 +65,7 @@ module _ (lp : List IR) (ex : List AExpr) (n : Node) (p : IR) (h : IsPlan lp ex 
       let all : StandsOnce expr_shape ex (roots_of p ++ (roots_in o.kids ++ [])) h.exprs = rw o.is at h.stands.exprs in
       let below = StandsOnce-split expr_shape ex (roots_of p) (roots_in o.kids ++ []) h.exprs all in
       let whole = subst (λ (l : List Node). StandsOnce expr_shape ex l below.right) (append-nil (roots_in o.kids) ∙ a.is) below.second in
-      let e = middle ex a.before (roots_in (nth plan_shape o.kids j)) a.after below.right whole in
-      (
+      let e = middle ex a.before (roots_in (nth plan_shape o.kids j)) a.after below.right whole in (
         height-falls plan_shape lp n i p h.nodes j h.stands.nodes entry k,
         record {
           nodes = nth plan_shape o.kids j;

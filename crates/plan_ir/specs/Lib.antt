@@ -1,2 +1,5 @@
 pub mod Parts
 pub mod Plans
+pub mod Moved
+pub mod Copies
+pub mod Reads

@@ -1,8 +1,8 @@
 -- The parts of a node and of an expression: inputs, expressions, operands.
-use Rattle.std.specs.Prelude.{Bool, true, false, List, [], ◌∷◌, ◌++◌, map, Option, Some, None}
+use Rattle.std.specs.Prelude.{Bool, true, false, List, [], ◌∷◌, ◌++◌, map, get_or, slice_get, Option, Some, None}
 use Rattle.plan_core.specs.declared.arena.Node.{Node}
 use Rattle.plan_tree.specs.Stands.{Shape, Trees, StandsOnce}
-use Rattle.plan_tree.specs.Rose.{Roses, rose, no_roses, more}
+use Rattle.plan_tree.specs.Rose.{rose, no_roses, more}
 use Rattle.plan_ir.specs.declared.expr.AExpr.{AExpr}
 use Rattle.plan_ir.specs.declared.expr.AExpr.TheVariants.{Column, Literal, BinaryExpr}
 use Rattle.plan_ir.specs.declared.expr.ExprIR.{ExprIR}
@@ -71,3 +71,16 @@ pub record IsPlan (lp : List IR) (ex : List AExpr) (n : Node) : Type 0 where
   pub nodes : Trees IR
   pub exprs : Trees AExpr
   pub stands : StandsPlan lp ex n nodes exprs
+
+-- the expression over other operands
+abbrev pub over_operands : AExpr → List Node → AExpr
+over_operands (Column name) operands = Column name
+over_operands (Literal value) operands = Literal value
+over_operands (BinaryExpr left op right) operands = BinaryExpr (get_or operands 0 left) op (get_or operands 1 right)
+
+-- the node with other expressions, over other inputs
+abbrev pub over_parts : IR → List ExprIR → List Node → IR
+over_parts (Filter input predicate) exprs inputs = Filter (get_or inputs 0 input) (get_or exprs 0 predicate)
+over_parts (Scan sources file_info predicate output_schema scan_type file_options) exprs inputs = Scan sources file_info (slice_get exprs 0) output_schema scan_type file_options
+over_parts (SimpleProjection input columns) exprs inputs = SimpleProjection (get_or inputs 0 input) columns
+over_parts Invalid exprs inputs = Invalid

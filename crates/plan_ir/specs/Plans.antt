@@ -1,10 +1,9 @@
 -- Plans and expressions as trees without numbers: what a meaning reads.
-use Rattle.std.specs.Prelude.{ℕ, List, [], ◌∷◌, map, Option, Some, None, option_map, Result}
+use Rattle.std.specs.Prelude.{ℕ, List, [], ◌∷◌, Option, option_map}
 use Rattle.plan_core.specs.declared.arena.Node.{Node}
-use Rattle.plan_core.specs.declared.data_type.DataType.{DataType}
 use Rattle.plan_core.specs.declared.options.FileScanOptions.{FileScanOptions}
 use Rattle.plan_core.specs.Columns.{Columns}
-use Rattle.plan_tree.specs.Stands.{Shape, Trees}
+use Rattle.plan_tree.specs.Stands.{Trees}
 use Rattle.plan_tree.specs.Read.{tree_at, trees_at}
 use Rattle.plan_tree.specs.Rose.{Rose, Roses, rose, no_roses, more, map_roses}
 use Rattle.plan_ir.specs.declared.expr.AExpr.{AExpr}

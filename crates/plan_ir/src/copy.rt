@@ -1,8 +1,17 @@
-//! A plan with its arenas.
+//! Copies of plans, each with arenas of its own.
+ghost use Rattle.std.specs.Prelude.{◌≡◌, ◌<◌, ◌++◌, All, length, map, IfOk, OnOk};
+ghost use Rattle.std.specs.List.{flat_map};
+ghost use Rattle.plan_tree.specs.Walk.{steps_to};
+ghost use Rattle.plan_ir.specs.Copies.{IsRenumbered, Lists};
+ghost use Rattle.plan_ir.specs.Moved.{entries_at, moved_expr, moved_named, moved_node, new_number};
+ghost use Rattle.plan_ir.specs.Parts.{exprs_of, roots_of, IsPlan};
 
-use crate::expr::AExpr;
+use crate::expr::{AExpr, ExprIR};
 use crate::ir::IR;
-use plan_core::{Arena, Node};
+use crate::numbering::Numbering;
+use plan_core::{Arena, Items, Node, TryClone};
+use plan_tree::{Entry, Step, walk};
+use std::alloc::{AllocError, Global};
 
 /// A plan of its own: the number of its root, and the arenas that its numbers name.
 #[derive(Drop)]
@@ -10,4 +19,166 @@ pub struct PlanCopy {
     pub root: Node,
     pub lp: Arena<IR>,
     pub ex: Arena<AExpr>,
+}
+
+/// Appends steps to the expressions of a node.
+fn step_to_exprs(alloc: Global, node: &IR, steps: &mut Items<Step<()>>) -> Result<(), AllocError>
+    ensures { OnOk result (steps.new ≡ steps.old ++ steps_to tt (roots_of node.now)) }
+{
+    for expr in node.exprs(alloc)?.as_slice() {
+        steps.push(Step {
+            node: expr.node,
+            mark: (),
+        })?;
+    }
+    Ok(())
+}
+
+/// Steps to the expressions of nodes, node by node.
+fn expr_steps(alloc: Global, nodes: &[Node], lp: &Arena<IR>) -> Result<Items<Step<()>>, AllocError>
+    requires { All (λ n. n.0 < length lp.now) nodes.now }
+    ensures { IfOk result (λ steps. steps ≡ steps_to tt (flat_map roots_of (entries_at lp.now nodes.now))) }
+{
+    let mut steps = Items::new(alloc);
+    for node in nodes {
+        step_to_exprs(alloc, lp.get(*node), &mut steps)?;
+    }
+    Ok(steps)
+}
+
+/// The numbers of the nodes of a plan, and of the expressions of its nodes, each in walk order.
+#[derive(Drop)]
+struct Listed {
+    nodes: Items<Node>,
+    exprs: Items<Node>,
+}
+
+/// The numbers of a plan. The walks keep stacks of their own.
+fn list_plan(
+    alloc: Global,
+    root: Node,
+    lp: &Arena<IR>,
+    ex: &Arena<AExpr>,
+) -> Result<Listed, AllocError>
+    requires { IsPlan lp.now ex.now root }
+    ensures { IfOk result (λ listed. Lists lp.now ex.now root listed) }
+{
+    let start = Step {
+        node: root,
+        mark: (),
+    };
+    let nodes = walk(alloc, lp, &[start])?.listed;
+    let steps = expr_steps(alloc, nodes.as_slice(), lp)?;
+    let exprs = walk(alloc, ex, steps.as_slice())?.listed;
+    Ok(Listed { nodes, exprs })
+}
+
+/// The new numbers of entries, in order.
+fn moved_numbers(
+    alloc: Global,
+    nodes: &[Node],
+    numbering: &Numbering,
+) -> Result<Items<Node>, AllocError>
+    ensures { IfOk result (λ moved. moved ≡ map (new_number numbering.now) nodes.now) }
+{
+    let mut moved = Items::new(alloc);
+    for node in nodes {
+        moved.push(numbering.new_number(*node))?;
+    }
+    Ok(moved)
+}
+
+/// A copy of an expression whose operands have new numbers.
+fn move_expr(alloc: Global, expr: &AExpr, exprs: &Numbering) -> Result<AExpr, AllocError>
+    ensures { IfOk result (λ moved. moved ≡ moved_expr exprs.now expr.now) }
+{
+    let mut operands = Items::new(alloc);
+    expr.copy_inputs(&mut operands)?;
+    let moved = moved_numbers(alloc, operands.as_slice(), exprs)?;
+    expr.with_operands(alloc, moved.as_slice())
+}
+
+/// Copies of the expressions of a node, each under its new number.
+fn move_named(alloc: Global, node: &IR, exprs: &Numbering) -> Result<Items<ExprIR>, AllocError>
+    ensures { IfOk result (λ moved. moved ≡ map (moved_named exprs.now) (exprs_of node.now)) }
+{
+    let mut moved = Items::new(alloc);
+    for expr in node.exprs(alloc)?.as_slice() {
+        let name = expr.output_name.try_clone(alloc)?;
+        moved.push(ExprIR::new(exprs.new_number(expr.node), name))?;
+    }
+    Ok(moved)
+}
+
+/// A copy of a node whose inputs and expressions have new numbers.
+fn move_node(
+    alloc: Global,
+    node: &IR,
+    nodes: &Numbering,
+    exprs: &Numbering,
+) -> Result<IR, AllocError>
+    ensures { IfOk result (λ moved. moved ≡ moved_node nodes.now exprs.now node.now) }
+{
+    let mut inputs = Items::new(alloc);
+    node.copy_inputs(&mut inputs)?;
+    let inputs = moved_numbers(alloc, inputs.as_slice(), nodes)?;
+    let named = move_named(alloc, node, exprs)?;
+    node.with_exprs_and_input(alloc, named, inputs)
+}
+
+/// An arena of copies of the listed expressions, in order, whose operands have new numbers.
+fn moved_exprs(
+    alloc: Global,
+    listed: &[Node],
+    ex: &Arena<AExpr>,
+    exprs: &Numbering,
+) -> Result<Arena<AExpr>, AllocError>
+    requires { All (λ n. n.0 < length ex.now) listed.now }
+    ensures { IfOk result (λ copies. copies ≡ map (moved_expr exprs.now) (entries_at ex.now listed.now)) }
+{
+    let mut copies = Arena::new(alloc);
+    for node in listed {
+        copies.add(move_expr(alloc, ex.get(*node), exprs)?)?;
+    }
+    Ok(copies)
+}
+
+/// An arena of copies of the listed nodes, in order, whose inputs and expressions have new numbers.
+fn moved_nodes(
+    alloc: Global,
+    listed: &[Node],
+    lp: &Arena<IR>,
+    nodes: &Numbering,
+    exprs: &Numbering,
+) -> Result<Arena<IR>, AllocError>
+    requires { All (λ n. n.0 < length lp.now) listed.now }
+    ensures { IfOk result (λ copies. copies ≡ map (moved_node nodes.now exprs.now) (entries_at lp.now listed.now)) }
+{
+    let mut copies = Arena::new(alloc);
+    for node in listed {
+        copies.add(move_node(alloc, lp.get(*node), nodes, exprs)?)?;
+    }
+    Ok(copies)
+}
+
+/// The plan at a root, with arenas of its own: its nodes are numbered from 0, each before its inputs and those from
+/// first to last, and so are the expressions of its nodes, node by node. It keeps no stack of calls, so that no depth
+/// exhausts the machine's. Refuses for want of memory alone.
+pub fn renumbered(
+    alloc: Global,
+    root: Node,
+    lp: &Arena<IR>,
+    ex: &Arena<AExpr>,
+) -> Result<PlanCopy, AllocError>
+    requires { IsPlan lp.now ex.now root }
+    ensures { IfOk result (λ copy. IsRenumbered lp.now ex.now root copy) }
+{
+    let listed = list_plan(alloc, root, lp, ex)?;
+    let nodes = Numbering::in_order(alloc, lp.len(), listed.nodes.as_slice())?;
+    let exprs = Numbering::in_order(alloc, ex.len(), listed.exprs.as_slice())?;
+    Ok(PlanCopy {
+        root: nodes.new_number(root),
+        lp: moved_nodes(alloc, listed.nodes.as_slice(), lp, &nodes, &exprs)?,
+        ex: moved_exprs(alloc, listed.exprs.as_slice(), ex, &exprs)?,
+    })
 }

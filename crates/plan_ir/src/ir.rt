@@ -10,7 +10,10 @@ use std::alloc::{AllocError, Global};
 #[derive(Drop)]
 pub enum IR {
     /// The rows for which the predicate is true.
-    Filter { input: Node, predicate: ExprIR },
+    Filter {
+        input: Node,
+        predicate: ExprIR,
+    },
     /// The rows of files, one source after another.
     Scan {
         sources: ScanSources,
@@ -21,7 +24,10 @@ pub enum IR {
         file_options: FileScanOptions,
     },
     /// Some columns of the input, in the order of `columns`.
-    SimpleProjection { input: Node, columns: Schema },
+    SimpleProjection {
+        input: Node,
+        columns: Schema,
+    },
     /// No node: what `take` leaves behind.
     Invalid,
 }

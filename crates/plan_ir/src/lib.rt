@@ -4,10 +4,13 @@
 mod copy;
 mod expr;
 mod ir;
+mod numbering;
 mod parts;
+mod reading;
 mod scan;
 
-pub use copy::PlanCopy;
+pub use copy::{PlanCopy, renumbered};
 pub use expr::{AExpr, ExprIR, LiteralValue, Operator, OutputName};
 pub use ir::IR;
+pub use reading::{reads, scan_reads};
 pub use scan::{FileInfo, FileScan, ScanSources};

@@ -1,6 +1,6 @@
 //! The parts of nodes and expressions: inputs, operands, and the expressions of a node.
-ghost use Rattle.std.specs.Prelude.{◌≡◌, ◌++◌, IfOk, OnOk};
-ghost use Rattle.plan_ir.specs.Parts.{exprs_of, inputs_of, is_invalid, operands_of};
+ghost use Rattle.std.specs.Prelude.{◌≡◌, ◌≤◌, ◌++◌, ◌∷◌, [], length, map, IfOk, OnOk};
+ghost use Rattle.plan_ir.specs.Parts.{exprs_of, inputs_of, list_of, operands_of, over_operands, over_parts};
 
 use crate::expr::{AExpr, ExprIR};
 use crate::ir::IR;
@@ -60,18 +60,19 @@ impl Entry for IR {
 }
 
 impl IR {
-    /// Copies of the expressions, in order: for a filter its predicate, for a scan the predicate that it may have.
-    pub fn get_exprs(&self, alloc: Global) -> Result<Items<ExprIR>, AllocError>
-        ensures { IfOk result (λ exprs. exprs ≡ exprs_of self.now) }
+    /// The expressions, in order: for a filter its predicate, for a scan the predicate that it may have. Refuses for
+    /// want of memory alone.
+    pub fn exprs(&self, alloc: Global) -> Result<Items<&ExprIR>, AllocError>
+        ensures { IfOk result (λ exprs. map (λ e. e.now) exprs ≡ exprs_of self.now) }
     {
         let mut exprs = Items::new(alloc);
         match self {
             IR::Filter { predicate, .. } => {
-                exprs.push(predicate.try_clone(alloc)?)?;
+                exprs.push(predicate)?;
             }
             IR::Scan { predicate, .. } => {
                 if let Some(predicate) = predicate {
-                    exprs.push(predicate.try_clone(alloc)?)?;
+                    exprs.push(predicate)?;
                 }
             }
             IR::SimpleProjection { .. } => {}
@@ -79,4 +80,95 @@ impl IR {
         }
         Ok(exprs)
     }
+
+    /// Copies of the expressions, in order. Refuses for want of memory alone.
+    pub fn get_exprs(&self, alloc: Global) -> Result<Items<ExprIR>, AllocError>
+        ensures { IfOk result (λ exprs. exprs ≡ exprs_of self.now) }
+    {
+        let mut copies = Items::new(alloc);
+        for expr in self.exprs(alloc)?.as_slice() {
+            copies.push(expr.try_clone(alloc)?)?;
+        }
+        Ok(copies)
+    }
+
+    /// A copy with other expressions, over other inputs: as many of each as the node has. Its other fields are as
+    /// they were. Refuses for want of memory alone.
+    pub fn with_exprs_and_input(
+        &self,
+        alloc: Global,
+        exprs: Items<ExprIR>,
+        inputs: Items<Node>,
+    ) -> Result<IR, AllocError>
+        requires exprs_fit { length exprs ≡ length (exprs_of self.now) }
+        requires inputs_fit { length inputs ≡ length (inputs_of self.now) }
+        ensures exprs { IfOk result (λ node. exprs_of node ≡ exprs) }
+        ensures inputs { IfOk result (λ node. inputs_of node ≡ inputs) }
+        ensures node { IfOk result (λ node. node ≡ over_parts self.now exprs inputs) }
+    {
+        match self {
+            IR::Filter { .. } => Ok(IR::Filter {
+                input: only(inputs),
+                predicate: only(exprs),
+            }),
+            IR::Scan {
+                sources,
+                file_info,
+                predicate: _,
+                output_schema,
+                scan_type,
+                file_options,
+            } => Ok(IR::Scan {
+                sources: sources.try_clone(alloc)?,
+                file_info: file_info.try_clone(alloc)?,
+                predicate: at_most_one(exprs),
+                output_schema: output_schema.try_clone(alloc)?,
+                scan_type: *scan_type,
+                file_options: file_options.try_clone(alloc)?,
+            }),
+            IR::SimpleProjection { columns, .. } => Ok(IR::SimpleProjection {
+                input: only(inputs),
+                columns: columns.try_clone(alloc)?,
+            }),
+            IR::Invalid => Ok(IR::Invalid),
+        }
+    }
+}
+
+impl AExpr {
+    /// A copy over other operands, as many as the expression has. Refuses for want of memory alone.
+    pub fn with_operands(&self, alloc: Global, operands: &[Node]) -> Result<AExpr, AllocError>
+        requires { length operands.now ≡ length (operands_of self.now) }
+        ensures operands { IfOk result (λ expr. operands_of expr ≡ operands.now) }
+        ensures expr { IfOk result (λ expr. expr ≡ over_operands self.now operands.now) }
+    {
+        match self {
+            AExpr::Column(name) => Ok(AExpr::Column(name.try_clone(alloc)?)),
+            AExpr::Literal(value) => Ok(AExpr::Literal(value.try_clone(alloc)?)),
+            AExpr::BinaryExpr { op, .. } => Ok(AExpr::BinaryExpr {
+                left: operands[0],
+                op: *op,
+                right: operands[1],
+            }),
+        }
+    }
+}
+
+/// The value of a list of one.
+fn only<T: Drop>(mut items: Items<T>) -> T
+    requires { length items ≡ 1 }
+    ensures { items ≡ result ∷ [] }
+{
+    match items.pop() {
+        Some(value) => value,
+        None => unreachable!(),
+    }
+}
+
+/// The value of a list of at most one, if it has one.
+fn at_most_one<T: Drop>(mut items: Items<T>) -> Option<T>
+    requires { length items ≤ 1 }
+    ensures { items ≡ list_of result }
+{
+    items.pop()
 }

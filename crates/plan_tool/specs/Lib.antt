@@ -2,3 +2,5 @@ pub mod Statuses
 pub mod Stops
 pub mod Limits
 pub mod Checked
+pub mod Listings
+pub mod Causes

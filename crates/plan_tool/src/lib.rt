@@ -2,7 +2,10 @@
 #![tactic(auto)]
 
 mod check;
+mod listings;
+mod command;
 mod status;
 mod stop;
 
+pub use command::{LIMIT, run};
 pub use status::Status;

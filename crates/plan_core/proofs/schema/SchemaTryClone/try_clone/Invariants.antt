@@ -1,5 +1,6 @@
-use Rattle.std.proofs.Common.{◌≡◌, take}
+use Rattle.std.proofs.Common.{◌≡◌, ◌++◌}
 use Rattle.plan_core.proofs.schema.SchemaTryClone.try_clone.Given as goal
 
-abbrev pub invariant-loop-i : goal.invariant-loop-i
-invariant-loop-i l = l.copy ≡ take l.i l.self
+-- what is copied, and then what is left, is the schema
+abbrev pub invariant-loop-name : goal.invariant-loop-name
+invariant-loop-name l = l.copy ++ l.name-iterator ≡ l.self

@@ -1,0 +1,222 @@
+-- Copies of the nodes and expressions of a plan, in walk order and numbered so, are that plan.
+use Rattle.std.proofs.Common.{◌≡◌, ℕ, ◌<◌, All, List, [], ◌∷◌, ◌++◌, length, map, nat_eq, Some, None, refl, sym, ap, ap₂, ◌∙◌}
+use Rattle.std.specs.List.{AllByRecursion, IsDistinct, flat_map, range_with_len, slice_get}
+use Rattle.std.proofs.lemmas.Grind.{flat_map-append}
+use Rattle.std.proofs.lemmas.List.{length-map, map-append}
+use Rattle.std.proofs.lemmas.List.Elements.{All-from_recursion}
+use Rattle.std.proofs.lemmas.Option.{slice_get_within}
+use Rattle.plan_core.specs.declared.arena.Node.{Node}
+use Rattle.plan_tree.proofs.Numbers.{IsDistinct-labels, length-items, length-labels}
+use Rattle.plan_tree.proofs.WalkTrees.{nodes-steps}
+use Rattle.plan_tree.proofs.ReadLemmas.{trees_at-is}
+use Rattle.plan_tree.specs.declared.walking.Step.{Step}
+use Rattle.plan_tree.specs.Rose.{Rose, Roses, rose, no_roses, more, labels, items, map_roses}
+use Rattle.plan_tree.specs.Stands.{Shape, Trees, numbers, Stands, StandsOnce}
+use Rattle.plan_tree.specs.Walk.{nodes_of, steps_to}
+use Rattle.plan_ir.specs.declared.copy.Listed.{Listed}
+use Rattle.plan_ir.specs.declared.copy.PlanCopy.{PlanCopy}
+use Rattle.plan_ir.specs.declared.expr.AExpr.{AExpr}
+use Rattle.plan_ir.specs.declared.expr.AExpr.TheVariants.{Column, Literal, BinaryExpr}
+use Rattle.plan_ir.specs.declared.expr.ExprIR.{ExprIR}
+use Rattle.plan_ir.specs.declared.ir.IR.{IR}
+use Rattle.plan_ir.specs.declared.ir.IR.TheVariants.{Filter, Scan, SimpleProjection, Invalid}
+use Rattle.plan_ir.specs.Copies.{IsRenumbered, Lists}
+use Rattle.plan_ir.specs.Moved.{entries_at, moved_expr, moved_named, moved_node, new_number}
+use Rattle.plan_ir.specs.Parts.{expr_shape, plan_shape, operands_of, inputs_of, is_invalid, roots_of, roots_in, StandsPlan, IsPlan}
+use Rattle.plan_ir.specs.Plans.{Expr, Named, Op, filter, scan, expr_op, expr_at, exprs_at, named_at, op_at, plans_of, bare}
+use Rattle.plan_ir.proofs.EntryLemmas.{entries_at-labels}
+use Rattle.plan_ir.proofs.ExprLemmas.{exprs_at-is}
+use Rattle.plan_ir.proofs.MovedLemmas.{labels-map_roses, StandsOnce-moved}
+
+all_append : {A : Type 0} (P : A → Type 0) (xs ys : List A) → AllByRecursion P xs → AllByRecursion P ys → AllByRecursion P (xs ++ ys)
+all_append P [] ys a b = b
+all_append P (x ∷ xs) ys a b = (a.0, all_append P xs ys a.1 b)
+
+all_first : {A : Type 0} (P : A → Type 0) (xs ys : List A) → AllByRecursion P (xs ++ ys) → AllByRecursion P xs
+all_first P [] ys a = tt
+all_first P (x ∷ xs) ys a = (a.0, all_first P xs ys a.1)
+
+all_second : {A : Type 0} (P : A → Type 0) (xs ys : List A) → AllByRecursion P (xs ++ ys) → AllByRecursion P ys
+all_second P [] ys a = a
+all_second P (x ∷ xs) ys a = all_second P xs ys a.1
+
+-- each label of trees has an entry
+labels-entered : {P : Type 0} (S : Shape P) (lp : List P) (ns : List Node) (f : Trees P) → Stands S lp ns f → AllByRecursion (λ (n : Node). n.0 < length lp) (labels f)
+labels-entered S lp [] no_roses s = tt
+labels-entered S lp [] (more (rose m p kids) rest) s = absurd s
+labels-entered S lp (n ∷ ns) no_roses s = absurd s
+labels-entered S lp (n ∷ ns) (more (rose m p kids) rest) s = (
+  slice_get_within lp m.0 p (ap (λ (x : Node). slice_get lp x.0) (sym s.0) ∙ s.1),
+  all_append (λ (k : Node). k.0 < length lp) (labels kids) (labels rest) (labels-entered S lp (S.inputs p) kids s.3) (labels-entered S lp ns rest s.4),
+)
+
+pub labels-within : {P : Type 0} (S : Shape P) (lp : List P) (ns : List Node) (f : Trees P) → StandsOnce S lp ns f → (size : ℕ) → size ≡ length lp → (listed : List Node) → listed ≡ labels f → All (λ (n : Node). n.0 < size) listed
+labels-within S lp ns f h size long listed is = rw (long, is) (All-from_recursion (λ (n : Node). n.0 < length lp) (labels f) (labels-entered S lp ns f h.stands))
+
+labels-distinct : {P : Type 0} (S : Shape P) (lp : List P) (ns : List Node) (f : Trees P) → StandsOnce S lp ns f → (listed : List Node) → listed ≡ labels f → IsDistinct nat_eq (numbers listed)
+labels-distinct S lp ns f h listed is = rw is (IsDistinct-labels f h.once)
+
+-- the expressions of the nodes of trees, node by node
+pub roots-items : (t : Trees IR) → flat_map roots_of (items t) ≡ roots_in t
+roots-items no_roses = refl
+roots-items (more (rose n p kids) rest) =
+    ap (λ (l : List Node). roots_of p ++ l) (flat_map-append roots_of (items kids) (items rest) ∙ ap₂ (λ (x y : List Node). x ++ y) (roots-items kids) (roots-items rest))
+
+-- trees with other labels and items, and then without labels
+module _ {N P Q : Type 0} (f : N → N) (g : P → P) (h : P → Q) (same : (p : P) → h (g p) ≡ h p) where
+  abbrev bared : Roses N P → Roses (Unit {0}) Q
+  bared t = map_roses (λ _. tt) h t
+
+  bared-moved : (t : Roses N P) → bared (map_roses f g t) ≡ bared t
+  bared-moved no_roses = refl
+  bared-moved (more (rose n p kids) rest) =
+      ap₂ (λ (r : Rose (Unit {0}) Q) (rs : Roses (Unit {0}) Q). more r rs)
+      (ap₂ (λ (q : Q) (rs : Roses (Unit {0}) Q). rose tt q rs) (same p) (bared-moved kids))
+      (bared-moved rest)
+
+module _ (table : List Node) where
+  pub operands-moved : (e : AExpr) → operands_of (moved_expr table e) ≡ map (new_number table) (operands_of e)
+  operands-moved (Column name) = refl
+  operands-moved (Literal value) = refl
+  operands-moved (BinaryExpr left op right) = refl
+
+  op-moved : (e : AExpr) → expr_op (moved_expr table e) ≡ expr_op e
+  op-moved (Column name) = refl
+  op-moved (Literal value) = refl
+  op-moved (BinaryExpr left op right) = refl
+
+module _ (nodes exprs : List Node) where
+  pub inputs-moved : (p : IR) → inputs_of (moved_node nodes exprs p) ≡ map (new_number nodes) (inputs_of p)
+  inputs-moved (Filter input predicate) = refl
+  inputs-moved (Scan sources file_info predicate output_schema scan_type file_options) = refl
+  inputs-moved (SimpleProjection input columns) = refl
+  inputs-moved Invalid = refl
+
+  pub invalid-moved : (p : IR) → is_invalid (moved_node nodes exprs p) ≡ is_invalid p
+  invalid-moved (Filter input predicate) = refl
+  invalid-moved (Scan sources file_info predicate output_schema scan_type file_options) = refl
+  invalid-moved (SimpleProjection input columns) = refl
+  invalid-moved Invalid = refl
+
+  roots-moved : (p : IR) → roots_of (moved_node nodes exprs p) ≡ map (new_number exprs) (roots_of p)
+  roots-moved (Filter input predicate) = refl
+  roots-moved (Scan sources file_info None output_schema scan_type file_options) = refl
+  roots-moved (Scan sources file_info (Some predicate) output_schema scan_type file_options) = refl
+  roots-moved (SimpleProjection input columns) = refl
+  roots-moved Invalid = refl
+
+  roots_in-moved : (t : Trees IR) → roots_in (map_roses (new_number nodes) (moved_node nodes exprs) t) ≡ map (new_number exprs) (roots_in t)
+  roots_in-moved no_roses = refl
+  roots_in-moved (more (rose n p kids) rest) =
+      ap₂ (λ (x y : List Node). x ++ y) (roots-moved p) (ap₂ (λ (x y : List Node). x ++ y) (roots_in-moved kids) (roots_in-moved rest) ∙ sym (map-append (new_number exprs) (roots_in kids) (roots_in rest)))
+      ∙ sym (map-append (new_number exprs) (roots_of p) (roots_in kids ++ roots_in rest))
+
+module _ (ex ex' : List AExpr) (nodes exprs : List Node) where
+  -- the same expression stands at the new number
+  abbrev Same : Node → Type 0
+  Same n = expr_at ex' (new_number exprs n) ≡ expr_at ex n
+
+  same_each : (ns : List Node) → exprs_at ex' (map (new_number exprs) ns) ≡ exprs_at ex ns → AllByRecursion Same ns
+  same_each [] e = tt
+  same_each (n ∷ ns) e = ((cc), same_each ns (cc))
+
+  named-moved : (e : ExprIR) → Same e.node → named_at ex' (moved_named exprs e) ≡ named_at ex e
+  named-moved e same = ap (λ (x : Expr). let n : Named = record { name = e.output_name; expr = x } in n) same
+
+  op_at-moved : (p : IR) → AllByRecursion Same (roots_of p) → op_at ex' (moved_node nodes exprs p) ≡ op_at ex p
+  op_at-moved (Filter input predicate) same = ap filter (named-moved predicate same.0)
+  op_at-moved (Scan sources file_info None output_schema scan_type file_options) same = refl
+  op_at-moved (Scan sources file_info (Some predicate) output_schema scan_type file_options) same = ap (λ (n : Named). scan sources file_info (Some n) output_schema scan_type file_options) (named-moved predicate same.0)
+  op_at-moved (SimpleProjection input columns) same = refl
+  op_at-moved Invalid same = refl
+
+  bare-moved : (t : Trees IR) → AllByRecursion Same (roots_in t) → bare (plans_of ex' (map_roses (new_number nodes) (moved_node nodes exprs) t)) ≡ bare (plans_of ex t)
+  bare-moved no_roses same = refl
+  bare-moved (more (rose n p kids) rest) same =
+      let below = all_second Same (roots_of p) (roots_in kids ++ roots_in rest) same in
+      ap₂ (λ (r : Rose (Unit {0}) Op) (rs : Roses (Unit {0}) Op). more r rs)
+      (ap₂ (λ (o : Op) (rs : Roses (Unit {0}) Op). rose tt o rs)
+      (op_at-moved p (all_first Same (roots_of p) (roots_in kids ++ roots_in rest) same))
+      (bare-moved kids (all_first Same (roots_in kids) (roots_in rest) below)))
+      (bare-moved rest (all_second Same (roots_in kids) (roots_in rest) below))
+
+first : (lp : List IR) (root : Node) (to : Node → Node) (t : Trees IR) → Stands plan_shape lp (root ∷ []) t → numbers (map to (labels t)) ≡ range_with_len 0 (length (labels t)) → (to root).0 ≡ 0
+first lp root to no_roses s e = absurd s
+first lp root to (more (rose n p kids) rest) s e = ap (λ (x : Node). (to x).0) s.0 ∙ cc
+
+in_order : {P : Type 0} (to : Node → Node) (g : P → P) (f : Trees P) → numbers (map to (labels f)) ≡ range_with_len 0 (length (labels f)) → numbers (labels (map_roses to g f)) ≡ range_with_len 0 (length (map g (items f)))
+in_order to g f e =
+    ap numbers (labels-map_roses to g f) ∙ e
+    ∙ ap (range_with_len 0) (length-labels f ∙ sym (length-items f) ∙ sym (length-map (items f) g))
+
+-- steps to the expressions of the listed nodes
+pub steps-roots : (lp : List IR) (root : Node) (t : Trees IR) (listed : List Node) (steps : List (Step (Unit {0}))) → StandsOnce plan_shape lp (root ∷ []) t → listed ≡ labels t → steps ≡ steps_to tt (flat_map roots_of (entries_at lp listed)) → nodes_of steps ≡ roots_in t
+steps-roots lp root t listed steps h listed_is steps_are =
+    ap nodes_of steps_are
+    ∙ nodes-steps tt (flat_map roots_of (entries_at lp listed))
+    ∙ ap (flat_map roots_of) (ap (entries_at lp) listed_is ∙ entries_at-labels plan_shape lp (root ∷ []) t h.stands)
+    ∙ roots-items t
+
+pub lists : (lp : List IR) (ex : List AExpr) (root : Node) (nodes exprs : List Node) (steps : List (Step (Unit {0}))) → IsPlan lp ex root → ((t : Trees IR) → StandsOnce plan_shape lp (root ∷ []) t → nodes ≡ labels t) → steps ≡ steps_to tt (flat_map roots_of (entries_at lp nodes)) → ((e : Trees AExpr) → StandsOnce expr_shape ex (nodes_of steps) e → exprs ≡ labels e) → Lists lp ex root (record { nodes = nodes; exprs = exprs })
+lists lp ex root nodes exprs steps h order steps_are order_exprs =
+    let nodes_are = order h.nodes h.stands.nodes in
+    record {
+      nodes = h.nodes;
+      exprs = h.exprs;
+      stands = h.stands;
+      nodes_in_order = nodes_are;
+      exprs_in_order = order_exprs h.exprs (rw (steps-roots lp root h.nodes nodes steps h.stands.nodes nodes_are steps_are) h.stands.exprs);
+    }
+
+-- the copy that two tables give
+abbrev pub copy_of : List Node → List Node → Node → Trees IR → Trees AExpr → PlanCopy
+copy_of nodes exprs root t e = record { root = new_number nodes root; lp = map (moved_node nodes exprs) (items t); ex = map (moved_expr exprs) (items e) }
+
+pub copy_is : (lp : List IR) (ex : List AExpr) (root : Node) (nodes exprs : List Node) (t : Trees IR) (e : Trees AExpr) → StandsPlan lp ex root t e → numbers (map (new_number nodes) (labels t)) ≡ range_with_len 0 (length (labels t)) → numbers (map (new_number exprs) (labels e)) ≡ range_with_len 0 (length (labels e)) → IsRenumbered lp ex root (copy_of nodes exprs root t e)
+copy_is lp ex root nodes exprs t e h node_numbers expr_numbers =
+    let lp' : List IR = map (moved_node nodes exprs) (items t) in
+    let ex' : List AExpr = map (moved_expr exprs) (items e) in
+    let t' : Trees IR = map_roses (new_number nodes) (moved_node nodes exprs) t in
+    let e' : Trees AExpr = map_roses (new_number exprs) (moved_expr exprs) e in
+    let over : StandsOnce plan_shape lp' (new_number nodes root ∷ []) t' = StandsOnce-moved plan_shape nodes (moved_node nodes exprs) (inputs-moved nodes exprs) (invalid-moved nodes exprs) lp (root ∷ []) t h.nodes node_numbers in
+    let under : StandsOnce expr_shape ex' (map (new_number exprs) (roots_in t)) e' = StandsOnce-moved expr_shape exprs (moved_expr exprs) (operands-moved exprs) (λ x. refl) ex (roots_in t) e h.exprs expr_numbers in
+    let alike : exprs_at ex' (map (new_number exprs) (roots_in t)) ≡ exprs_at ex (roots_in t) =
+    exprs_at-is ex' (map (new_number exprs) (roots_in t)) e' under
+    ∙ bared-moved (new_number exprs) (moved_expr exprs) expr_op (op-moved exprs) e
+    ∙ sym (exprs_at-is ex (roots_in t) e h.exprs) in
+    record {
+      nodes = t';
+      exprs = e';
+      stands = record { nodes = over; exprs = rw (roots_in-moved nodes exprs t) under };
+      same =
+          ap (λ (x : Trees IR). bare (plans_of ex' x)) (trees_at-is plan_shape lp' (new_number nodes root ∷ []) t' over)
+          ∙ bare-moved ex ex' nodes exprs t (same_each ex ex' nodes exprs (roots_in t) alike)
+          ∙ sym (ap (λ (x : Trees IR). bare (plans_of ex x)) (trees_at-is plan_shape lp (root ∷ []) t h.nodes));
+      first = first lp root (new_number nodes) t h.nodes.stands node_numbers;
+      nodes_in_order = in_order (new_number nodes) (moved_node nodes exprs) t node_numbers;
+      exprs_in_order = in_order (new_number exprs) (moved_expr exprs) e expr_numbers;
+    }
+
+-- copies of what is listed are the plan
+pub copied : (lp : List IR) (ex : List AExpr) (root : Node) (listed : Listed) (nodes exprs : List Node) → Lists lp ex root listed → numbers (map (new_number nodes) listed.nodes) ≡ range_with_len 0 (length listed.nodes) → numbers (map (new_number exprs) listed.exprs) ≡ range_with_len 0 (length listed.exprs) → IsRenumbered lp ex root (record { root = new_number nodes root; lp = map (moved_node nodes exprs) (entries_at lp listed.nodes); ex = map (moved_expr exprs) (entries_at ex listed.exprs) })
+copied lp ex root listed nodes exprs h node_numbers expr_numbers =
+    rw (
+      h.nodes_in_order,
+      h.exprs_in_order,
+      entries_at-labels plan_shape lp (root ∷ []) h.nodes h.stands.nodes.stands,
+      entries_at-labels expr_shape ex (roots_in h.nodes) h.exprs h.stands.exprs.stands,
+    ) (copy_is lp ex root nodes exprs h.nodes h.exprs h.stands (rw (← h.nodes_in_order) node_numbers) (rw (← h.exprs_in_order) expr_numbers))
+
+-- what is listed has entries, and none twice
+module _ (lp : List IR) (ex : List AExpr) (root : Node) (listed : Listed) (h : Lists lp ex root listed) where
+  pub nodes-within : (size : ℕ) → size ≡ length lp → (ns : List Node) → ns ≡ listed.nodes → All (λ (n : Node). n.0 < size) ns
+  nodes-within size long ns is = labels-within plan_shape lp (root ∷ []) h.nodes h.stands.nodes size long ns (is ∙ h.nodes_in_order)
+
+  pub nodes-distinct : (ns : List Node) → ns ≡ listed.nodes → IsDistinct nat_eq (numbers ns)
+  nodes-distinct ns is = labels-distinct plan_shape lp (root ∷ []) h.nodes h.stands.nodes ns (is ∙ h.nodes_in_order)
+
+  pub exprs-within : (size : ℕ) → size ≡ length ex → (ns : List Node) → ns ≡ listed.exprs → All (λ (n : Node). n.0 < size) ns
+  exprs-within size long ns is = labels-within expr_shape ex (roots_in h.nodes) h.exprs h.stands.exprs size long ns (is ∙ h.exprs_in_order)
+
+  pub exprs-distinct : (ns : List Node) → ns ≡ listed.exprs → IsDistinct nat_eq (numbers ns)
+  exprs-distinct ns is = labels-distinct expr_shape ex (roots_in h.nodes) h.exprs h.stands.exprs ns (is ∙ h.exprs_in_order)

@@ -1,0 +1,31 @@
+-- Copies of plans, numbered from 0.
+use Rattle.std.specs.Prelude.{◌≡◌, List, [], ◌∷◌, length}
+use Rattle.std.specs.List.{range_with_len}
+use Rattle.plan_core.specs.declared.arena.Node.{Node}
+use Rattle.plan_tree.specs.Rose.{labels}
+use Rattle.plan_tree.specs.Stands.{Trees, numbers}
+use Rattle.plan_ir.specs.declared.copy.Listed.{Listed}
+use Rattle.plan_ir.specs.declared.copy.PlanCopy.{PlanCopy}
+use Rattle.plan_ir.specs.declared.expr.AExpr.{AExpr}
+use Rattle.plan_ir.specs.declared.ir.IR.{IR}
+use Rattle.plan_ir.specs.Parts.{StandsPlan}
+use Rattle.plan_ir.specs.Plans.{plans_at, bare}
+
+-- the same plan on its own: its nodes, and the expressions of its nodes, are numbered from 0 in walk order, and its
+-- arenas hold nothing else
+pub record IsRenumbered (lp : List IR) (ex : List AExpr) (root : Node) (copy : PlanCopy) : Type 0 where
+  pub nodes : Trees IR
+  pub exprs : Trees AExpr
+  pub stands : StandsPlan copy.lp copy.ex copy.root nodes exprs
+  pub same : bare (plans_at copy.lp copy.ex (copy.root ∷ [])) ≡ bare (plans_at lp ex (root ∷ []))
+  pub first : copy.root.0 ≡ 0
+  pub nodes_in_order : numbers (labels nodes) ≡ range_with_len 0 (length copy.lp)
+  pub exprs_in_order : numbers (labels exprs) ≡ range_with_len 0 (length copy.ex)
+
+-- numbers listed in walk order: those of the nodes of a plan, and those of the expressions of its nodes
+pub record Lists (lp : List IR) (ex : List AExpr) (root : Node) (listed : Listed) : Type 0 where
+  pub nodes : Trees IR
+  pub exprs : Trees AExpr
+  pub stands : StandsPlan lp ex root nodes exprs
+  pub nodes_in_order : listed.nodes ≡ labels nodes
+  pub exprs_in_order : listed.exprs ≡ labels exprs

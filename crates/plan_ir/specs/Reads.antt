@@ -1,0 +1,38 @@
+-- What scans read.
+use Rattle.std.specs.Prelude.{ℕ, Bool, true, false, List, [], map, filter, Option}
+use Rattle.std.specs.Option.{option_map_or}
+use Rattle.plan_core.specs.Columns.{Columns, names_of}
+use Rattle.plan_core.specs.Names.{with_names}
+use Rattle.plan_core.specs.declared.options.FileScanOptions.{FileScanOptions}
+use Rattle.plan_ir.specs.declared.scan.FileInfo.{FileInfo}
+use Rattle.plan_ir.specs.declared.ir.IR.{IR}
+use Rattle.plan_ir.specs.declared.ir.IR.TheVariants.{Filter, Scan, SimpleProjection, Invalid}
+
+abbrev pub is_scan : IR → Bool
+is_scan (Filter input predicate) = false
+is_scan (Scan sources file_info predicate output_schema scan_type file_options) = true
+is_scan (SimpleProjection input columns) = false
+is_scan Invalid = false
+
+-- the names, each once, in the order in which they first come
+abbrev pub once : List (List ℕ) → List (List ℕ)
+once names = with_names [] names
+
+-- the names of the columns that a reader finds, if it is known what it finds
+abbrev pub reader_names : Option Columns → List (List ℕ)
+reader_names schema = option_map_or names_of schema []
+
+-- the names that are asked for, each once, or else all that a reader finds
+abbrev pub read_names : FileInfo → FileScanOptions → List (List ℕ)
+read_names info options = option_map_or once options.with_columns (reader_names info.reader_schema)
+
+-- the names of the columns that a scan reads from its files; other nodes read nothing
+abbrev pub reads_of : IR → List (List ℕ)
+reads_of (Filter input predicate) = []
+reads_of (Scan sources file_info predicate output_schema scan_type file_options) = read_names file_info file_options
+reads_of (SimpleProjection input columns) = []
+reads_of Invalid = []
+
+-- what each scan among nodes reads
+abbrev pub scan_reads_of : List IR → List (List (List ℕ))
+scan_reads_of nodes = map reads_of (filter is_scan nodes)

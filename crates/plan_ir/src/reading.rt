@@ -1,0 +1,79 @@
+//! What scans read from their files.
+ghost use Rattle.std.specs.Prelude.{◌≡◌, IfOk, IsTrue};
+ghost use Rattle.plan_core.specs.Columns.{names_of};
+ghost use Rattle.plan_ir.specs.Reads.{is_scan, once, reads_of, scan_reads_of};
+
+use crate::copy::PlanCopy;
+use crate::ir::IR;
+use plan_core::{Items, Names, Node, PlSmallStr, Schema};
+use std::alloc::{AllocError, Global};
+
+impl IR {
+    /// Whether the node is a scan.
+    pub fn is_scan(&self) -> bool
+        ensures { result ≡ is_scan self.now }
+    {
+        matches!(self, IR::Scan { .. })
+    }
+}
+
+/// The names, each once, in the order in which they first come.
+fn each_once(alloc: Global, names: &[PlSmallStr]) -> Result<Items<PlSmallStr>, AllocError>
+    ensures { IfOk result (λ kept. kept ≡ once names.now) }
+{
+    let mut met = Names::new(alloc);
+    let mut kept = Items::new(alloc);
+    for name in names {
+        if met.add(name.as_str())? {
+            kept.push(PlSmallStr::new(alloc, name.as_str())?)?;
+        }
+    }
+    Ok(kept)
+}
+
+/// The names of the columns, in order.
+fn column_names(alloc: Global, schema: &Schema) -> Result<Items<PlSmallStr>, AllocError>
+    ensures { IfOk result (λ names. names ≡ names_of schema.now) }
+{
+    let mut names = Items::new(alloc);
+    for (name, _) in schema.iter() {
+        names.push(PlSmallStr::new(alloc, name)?)?;
+    }
+    Ok(names)
+}
+
+/// The names of the columns that a scan reads from its files, each once: those that `with_columns` asks for, in its
+/// order, or else all that a reader finds. Refuses for want of memory alone.
+pub fn reads(alloc: Global, ir: &IR) -> Result<Items<PlSmallStr>, AllocError>
+    requires { IsTrue (is_scan ir.now) }
+    ensures { IfOk result (λ names. names ≡ reads_of ir.now) }
+{
+    let IR::Scan {
+        file_info,
+        file_options,
+        ..
+    } = ir
+    else {
+        unreachable!()
+    };
+    match (&file_options.with_columns, &file_info.reader_schema) {
+        (Some(names), _) => each_once(alloc, names.as_slice()),
+        (None, Some(schema)) => column_names(alloc, schema),
+        (None, None) => Ok(Items::new(alloc)),
+    }
+}
+
+/// What each scan of a plan reads, in the order of its nodes. In a plan that is numbered in walk order that is from
+/// left to right. Refuses for want of memory alone.
+pub fn scan_reads(alloc: Global, plan: &PlanCopy) -> Result<Items<Items<PlSmallStr>>, AllocError>
+    ensures { IfOk result (λ lists. lists ≡ scan_reads_of plan.now.lp) }
+{
+    let mut lists = Items::new(alloc);
+    for i in 0..plan.lp.len() {
+        let node = plan.lp.get(Node(i));
+        if node.is_scan() {
+            lists.push(reads(alloc, node)?)?;
+        }
+    }
+    Ok(lists)
+}

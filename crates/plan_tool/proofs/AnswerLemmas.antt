@@ -1,0 +1,75 @@
+-- What the program says of bytes, from what it says of their document; and what it leaves in the sink.
+use Rattle.std.proofs.Common.{◌≡◌, ℕ, ◌≤◌, List, [], ◌∷◌, length, map, Bool, true, false, Option, Some, None, Result, Ok, Err, String, string_bytes, refl, sym, ap, ◌∙◌, subst, ◌⊎◌, inl, inr, slice_index_or, arith}
+use Rattle.std.specs.Prelude.{IfSome, IsTrue, ◌↔◌}
+use Rattle.std.specs.Str.{bytes_eq}
+use Rattle.std.proofs.lemmas.Slice.Eq.{bytes_eq-Decides}
+use Rattle.std.specs.declared.alloc.Global.{Global}
+use Rattle.std.specs.Io.KnownBytes.{Appends, Keeps, IsAtEnd}
+use Rattle.plan_core.specs.declared.error.PolarsError.{PolarsError}
+use Rattle.plan_doc.specs.declared.document.Document.{Document}
+use Rattle.plan_doc.specs.Document.{doc_of, document}
+use Rattle.plan_stream.specs.Causes.{Rose}
+use Rattle.plan_stream.specs.Texts.{GrowsByFront}
+use Rattle.plan_text.specs.Written.{error_text}
+use Rattle.plan_tool.specs.declared.stop.Stop.{Stop}
+use Rattle.plan_tool.specs.declared.stop.Stop.TheVariants.{NotJson, Form, Limit, Fault, OutOfMemory}
+use Rattle.plan_tool.specs.declared.status.Status.{Status}
+use Rattle.plan_tool.specs.declared.status.Status.TheVariants as answers
+use Rattle.plan_tool.specs.Listings.{SaysOf, SaysOfDocument, Lists, Refuses}
+use Rattle.plan_tool.specs.Causes.{Call, Comes, IsCommand, Finished, Broke, Finishes, Listed, Told, Cut}
+
+-- what is said of a document is said of its bytes
+pub said : (d : Document) (bytes : List ℕ) (r : Result (String Global) Stop) → doc_of bytes ≡ document d → SaysOfDocument r d → SaysOf r bytes
+said d bytes (Ok text) is a = record { asked = d; read = is; answers = a }
+said d bytes (Err NotJson) is a = absurd a
+said d bytes (Err Form) is a = absurd a
+said d bytes (Err Limit) is a = record { asked = d; read = is; deep = a }
+said d bytes (Err (Fault fault)) is a = record { asked = d; read = is; refused = a }
+said d bytes (Err OutOfMemory) is a = tt
+
+-- a list of one word is the list of what stands at its front
+pub one_word : (words : List (String Global)) (w : String Global) → length words ≡ 1 → w ≡ slice_index_or words 0 w → map string_bytes words ≡ string_bytes w ∷ []
+one_word [] w one is = absurd (omega arith)
+one_word (x ∷ []) w one is = ap (λ (y : String Global). string_bytes y ∷ []) (sym is)
+one_word (x ∷ y ∷ ws) w one is = absurd (omega arith)
+
+-- whether the one word is that text
+pub same_word : (words : List (List ℕ)) (w text : List ℕ) (b : Bool) → words ≡ w ∷ [] → b ≡ bytes_eq w text → (IsTrue b ↔ (words ≡ text ∷ []))
+same_word words w text b is eq = go b refl
+  where
+    go : (d : Bool) → b ≡ d → (IsTrue b ↔ (words ≡ text ∷ []))
+    go true e = let q : w ≡ text = (bytes_eq-Decides w text).0 (sym eq ∙ e) in ((λ _. is ∙ ap (λ (x : List ℕ). x ∷ []) q), (λ _. e))
+    go false e = (
+      (λ t. let u : true ≡ false = sym t ∙ e in cc),
+      (λ h. let both : w ∷ [] ≡ text ∷ [] = sym is ∙ h in let q : w ≡ text = cc in eq ∙ (bytes_eq-Decides w text).1 q),
+    )
+
+-- the text of a fault was written, or a front of it
+pub told : (limit : ℕ) (c : Call) (bytes text : List ℕ) (fault : PolarsError) (result : Status) → IsCommand c.words → IsAtEnd c.left → IfSome c.given (λ all. bytes ≡ all) → length bytes ≤ limit → Refuses bytes fault → text ≡ error_text fault → Finishes text c.held c.holds c.clean c.write_faults c.write_faults_now answers.Refused result → Comes limit c result
+told limit c bytes text fault result command end whole small refuses is (inl f) =
+    subst (Comes limit c) (sym f.is) (command, f.flushed, end, some c.given whole)
+  where
+    some : (o : Option (List ℕ)) → IfSome o (λ all. bytes ≡ all) → IfSome o (Told limit c)
+    some None h = tt
+    some (Some all) h = subst (Told limit c) h (record { small = small; fault = fault; refuses = refuses; written = subst (Appends c.held c.holds) is f.written })
+told limit c bytes text fault result command end whole small refuses is (inr b) =
+    subst (Comes limit c) (sym b.is) (command, b.cause, end, some c.given whole)
+  where
+    some : (o : Option (List ℕ)) → IfSome o (λ all. bytes ≡ all) → IfSome o (Cut limit c)
+    some None h = tt
+    some (Some all) h = subst (Cut limit c) h (record { small = small; text = text; says = inr (fault, refuses, is); written = b.written })
+
+-- a listing was written, or a front of it
+pub listed : (limit : ℕ) (c : Call) (bytes text : List ℕ) (result : Status) → IsCommand c.words → IsAtEnd c.left → IfSome c.given (λ all. bytes ≡ all) → length bytes ≤ limit → Lists bytes text → Finishes text c.held c.holds c.clean c.write_faults c.write_faults_now answers.Done result → Comes limit c result
+listed limit c bytes text result command end whole small lists (inl f) =
+    subst (Comes limit c) (sym f.is) (command, f.flushed, end, some c.given whole)
+  where
+    some : (o : Option (List ℕ)) → IfSome o (λ all. bytes ≡ all) → IfSome o (Listed limit c)
+    some None h = tt
+    some (Some all) h = subst (Listed limit c) h (record { small = small; text = text; lists = lists; written = f.written })
+listed limit c bytes text result command end whole small lists (inr b) =
+    subst (Comes limit c) (sym b.is) (command, b.cause, end, some c.given whole)
+  where
+    some : (o : Option (List ℕ)) → IfSome o (λ all. bytes ≡ all) → IfSome o (Cut limit c)
+    some None h = tt
+    some (Some all) h = subst (Cut limit c) h (record { small = small; text = text; says = inl lists; written = b.written })

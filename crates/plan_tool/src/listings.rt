@@ -1,0 +1,73 @@
+//! From the bytes of a document to the text that lists its plan.
+ghost use Rattle.std.specs.Prelude.{◌≡◌, [], ◌∷◌, IfOk, string_bytes};
+ghost use Rattle.plan_ir.specs.Parts.{IsPlan};
+ghost use Rattle.plan_ir.specs.Plans.{bare, plans_at};
+ghost use Rattle.plan_tool.specs.Listings.{answered, IsListOf, SaysOf, SaysOfDocument};
+
+use crate::check::check;
+use crate::stop::Stop;
+use plan_core::{Arena, Node, OptFlags};
+use plan_doc::{Document, read_document};
+use plan_ir::{AExpr, IR, renumbered, scan_reads};
+use plan_prune::ProjectionPushDown;
+use plan_text::write_listing;
+use std::alloc::{AllocError, Global};
+
+/// The nodes of a plan after the passes that the flags start.
+fn optimized(
+    alloc: Global,
+    root: Node,
+    flags: OptFlags,
+    mut lp: Arena<IR>,
+    ex: &Arena<AExpr>,
+) -> Result<Arena<IR>, AllocError>
+    requires { IsPlan lp ex.now root }
+    ensures stands { IfOk result (λ nodes. IsPlan nodes ex.now root) }
+    ensures answers { IfOk result (λ nodes. bare (plans_at nodes ex.now (root ∷ [])) ≡ answered flags (bare (plans_at lp ex.now (root ∷ [])))) }
+{
+    if flags.projection_pushdown() {
+        ProjectionPushDown::new().optimize(alloc, root, &mut lp, ex)?;
+    }
+    Ok(lp)
+}
+
+/// The text that lists a plan, and what its scans read.
+fn list(
+    alloc: Global,
+    root: Node,
+    lp: &Arena<IR>,
+    ex: &Arena<AExpr>,
+) -> Result<String, AllocError>
+    requires { IsPlan lp.now ex.now root }
+    ensures { IfOk result (λ text. IsListOf lp.now ex.now root (string_bytes text)) }
+{
+    let plan = renumbered(alloc, root, lp, ex)?;
+    let reads = scan_reads(alloc, &plan)?;
+    Ok(write_listing(alloc, &plan, reads.as_slice())?)
+}
+
+/// The text that lists the optimised plan of a document, or why there is none.
+fn answer(alloc: Global, document: Document) -> Result<String, Stop>
+    ensures { SaysOfDocument result document }
+{
+    let Document {
+        root,
+        lp,
+        ex,
+        flags,
+        shared,
+    } = document;
+    let _ = shared;
+    check(alloc, root, &lp, &ex)?;
+    let lp = optimized(alloc, root, flags, lp, &ex)?;
+    Ok(list(alloc, root, &lp, &ex)?)
+}
+
+/// The text that lists the optimised plan of the document that the bytes stand for, or why there is none.
+#[tactic(auto, using(crate::proofs::AnswerLemmas::said))]
+pub fn listing(alloc: Global, bytes: &[u8]) -> Result<String, Stop>
+    ensures { SaysOf result bytes.now }
+{
+    let document = read_document(alloc, bytes)?;
+    answer(alloc, document)
+}
