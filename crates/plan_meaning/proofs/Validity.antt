@@ -6,7 +6,11 @@ use Rattle.plan_core.specs.Columns.{Columns}
 use Rattle.plan_tree.specs.Rose.{Roses, rose, no_roses, more}
 use Rattle.plan_ir.specs.declared.expr.AExpr.{AExpr}
 use Rattle.plan_ir.specs.declared.ir.IR.{IR}
-use Rattle.plan_ir.specs.Plans.{Op, Plan, plans_at, bare}
+use Rattle.plan_tree.specs.Stands.{Trees, Stands}
+use Rattle.plan_tree.specs.Read.{trees_at}
+use Rattle.plan_tree.proofs.ReadLemmas.{trees_at-is}
+use Rattle.plan_ir.specs.Parts.{plan_shape, IsPlan}
+use Rattle.plan_ir.specs.Plans.{Op, Plan, op_at, plans_of, plans_at, bare}
 use Rattle.plan_meaning.specs.Typing.{Check, at, first_fault, or_fault, faults, schema_by, schema, schemas, first_schema, checks, AllHold, AllValid}
 use Rattle.plan_meaning.specs.TreeFaults.{tree_fault}
 use Rattle.plan_meaning.specs.Typed.{typed, schema_or}
@@ -66,11 +70,43 @@ one_valid ts n op kids is v =
     let b = valid-bare (more (rose n op kids) no_roses) w in
     ((b.0, b.1), ap (schema_by op) (schemas-bare kids) ∙ ap (λ (x : Roses Node Op). first_schema (schemas x)) (sym is))
 
--- a plan that `typed` accepts is valid, with the columns that it tells
-pub typed_valid : (lp : List IR) (ex : List AExpr) (root : Node) (s : Columns) (n : Node) (op : Op) (kids : Roses Node Op) → plans_at lp ex (root ∷ []) ≡ more (rose n op kids) no_roses → typed lp ex root ≡ Ok s → IsValid (plan_at lp ex root) × (schema (plan_at lp ex root) ≡ s)
-typed_valid lp ex root s n op kids is e =
-    let a = schema_found (or_fault (tree_fault lp ex root) (faults (plans_at lp ex (root ∷ [])))) (first_schema (schemas (plans_at lp ex (root ∷ [])))) s e in
-    let b = both_none (tree_fault lp ex root) (faults (plans_at lp ex (root ∷ []))) a.0 in
-    let v = one_valid (plans_at lp ex (root ∷ [])) n op kids is (valid_unless (plans_at lp ex (root ∷ [])) b.1) in
-    let here : plan_at lp ex root ≡ rose tt op (bare kids) = ap (λ (x : Roses Node Op). one_plan (bare x)) is in
-    (subst (λ (x : Plan). IsValid x) (sym here) v.0, ap schema here ∙ v.1 ∙ a.1)
+-- what stands at one number is one tree
+one_tree : (lp : List IR) (root : Node) (t : Trees IR) → Stands plan_shape lp (root ∷ []) t → (m : Node) × (p : IR) × (kids : Trees IR) × (t ≡ more (rose m p kids) no_roses)
+one_tree lp root no_roses h = absurd h
+one_tree lp root (more (rose m p kids) no_roses) h = (m, p, kids, refl)
+one_tree lp root (more (rose m p kids) (more (rose m' p' kids') rest)) h = absurd h.4
+
+-- a plan that stands at a number is one plan
+one_stands : (lp : List IR) (ex : List AExpr) (root : Node) → IsPlan lp ex root → (n : Node) × (op : Op) × (kids : Roses Node Op) × (plans_at lp ex (root ∷ []) ≡ more (rose n op kids) no_roses)
+one_stands lp ex root h =
+    let t = one_tree lp root h.nodes h.stands.nodes.stands in
+    let is : trees_at plan_shape lp (root ∷ []) ≡ more (rose t.0 t.1 t.2) no_roses = trees_at-is plan_shape lp (root ∷ []) h.nodes h.stands.nodes ∙ t.3 in
+    (t.0, op_at ex t.1, plans_of ex t.2, ap (plans_of ex) is)
+
+module _ (lp : List IR) (ex : List AExpr) (root : Node) (h : IsPlan lp ex root) where
+  abbrev ps : Roses Node Op
+  ps = plans_at lp ex (root ∷ [])
+
+  -- the plan at a number, by what stands there
+  here : plan_at lp ex root ≡ rose tt (one_stands lp ex root h).1 (bare (one_stands lp ex root h).2)
+  here = ap (λ (x : Roses Node Op). one_plan (bare x)) (one_stands lp ex root h).3
+
+  -- a plan that `typed` accepts is valid, with the columns that it tells
+  pub typed_valid : (s : Columns) → typed lp ex root ≡ Ok s → IsValid (plan_at lp ex root) × (schema (plan_at lp ex root) ≡ s)
+  typed_valid s e =
+      let t = one_stands lp ex root h in
+      let a = schema_found (or_fault (tree_fault lp ex root) (faults ps)) (first_schema (schemas ps)) s e in
+      let b = both_none (tree_fault lp ex root) (faults ps) a.0 in
+      let v = one_valid ps t.0 t.1 t.2 t.3 (valid_unless ps b.1) in
+      (subst IsValid (sym here) v.0, ap schema here ∙ v.1 ∙ a.1)
+
+  -- a valid plan whose numbers are good is accepted
+  pub valid_typed : tree_fault lp ex root ≡ None → IsValid (plan_at lp ex root) → typed lp ex root ≡ Ok (schema (plan_at lp ex root))
+  valid_typed good v =
+      let t = one_stands lp ex root h in
+      let w : IsValid (rose tt t.1 (bare t.2)) = subst IsValid here v in
+      let all : AllValid (more (rose t.0 t.1 t.2) no_roses) = bare-valid (more (rose t.0 t.1 t.2) no_roses) (w.0, w.1, tt) in
+      let none : faults ps ≡ None = no_faults ps (subst (λ (x : Roses Node Op). AllValid x) (sym t.3) all) in
+      let told : first_schema (schemas ps) ≡ schema (plan_at lp ex root) =
+          ap (λ (x : Roses Node Op). first_schema (schemas x)) t.3 ∙ ap (schema_by t.1) (sym (schemas-bare t.2)) ∙ sym (ap schema here) in
+      ap₂ (λ (o : Option PolarsError) (x : Columns). schema_or o x) (ap₂ or_fault good none) told

@@ -1,10 +1,17 @@
 //! Laws of what plans mean, as the contracts of functions that do nothing.
-ghost use Rattle.std.specs.Prelude.{◌≡◌, List, Ok, Some};
+ghost use Rattle.std.specs.Prelude.{◌≡◌, List, None, Ok, Some};
+ghost use Rattle.plan_core.specs.declared.arena.Node.{Node};
 ghost use Rattle.plan_core.specs.Columns.{Columns};
 ghost use Rattle.plan_core.specs.declared.data_type.DataType.{DataType};
+ghost use Rattle.plan_ir.specs.declared.expr.AExpr.{AExpr};
+ghost use Rattle.plan_ir.specs.declared.ir.IR.{IR};
+ghost use Rattle.plan_ir.specs.Parts.{IsPlan};
 ghost use Rattle.plan_ir.specs.Plans.{Expr, Plan};
 ghost use Rattle.plan_meaning.specs.Exprs.{leaves, expr_type};
 ghost use Rattle.plan_meaning.specs.Typing.{schema};
+ghost use Rattle.plan_meaning.specs.TreeFaults.{tree_fault};
+ghost use Rattle.plan_meaning.specs.Typed.{typed};
+ghost use Rattle.plan_meaning.specs.PlanAt.{plan_at};
 ghost use Rattle.plan_meaning.specs.Frames.{Frame, HasSchema, Agree};
 ghost use Rattle.plan_meaning.specs.Meaning.{val, CellHas};
 ghost use Rattle.plan_meaning.specs.Contents.{Contents, Fits};
@@ -50,4 +57,11 @@ pub fn refines_where_a_subplan_does()
 /// In a valid plan the names that a scan is asked are among its output names, and it reads what it may read for them.
 pub fn scans_are_asked_what_they_hold()
     ensures { (p : Plan) → IsValid p → AllSites SiteFair p }
+{}
+
+/// A plan in two arenas is accepted, where its numbers are good, exactly if it is valid, and then with its columns.
+pub fn accepted_plans_are_valid()
+    ensures valid { (lp : List IR) (ex : List AExpr) (root : Node) (s : Columns) → IsPlan lp ex root → typed lp ex root ≡ Ok s → IsValid (plan_at lp ex root) }
+    ensures schema { (lp : List IR) (ex : List AExpr) (root : Node) (s : Columns) → IsPlan lp ex root → typed lp ex root ≡ Ok s → schema (plan_at lp ex root) ≡ s }
+    ensures accepted { (lp : List IR) (ex : List AExpr) (root : Node) → IsPlan lp ex root → tree_fault lp ex root ≡ None → IsValid (plan_at lp ex root) → typed lp ex root ≡ Ok (schema (plan_at lp ex root)) }
 {}
