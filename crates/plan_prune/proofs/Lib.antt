@@ -7,3 +7,4 @@ mod ProjectionNarrows
 mod ScanNarrows
 mod PrunedNarrows
 mod PrunedReads
+mod PlanPruned
