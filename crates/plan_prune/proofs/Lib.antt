@@ -8,3 +8,4 @@ mod ScanNarrows
 mod PrunedNarrows
 mod PrunedReads
 mod PlanPruned
+mod Example
