@@ -3,3 +3,13 @@ mod CheckLemmas
 mod ReadLemmas
 mod TreeFaultLemmas
 mod TypedLemmas
+pub mod NameSets
+pub mod FrameLemmas
+pub mod Depends
+pub mod Sound
+pub mod CheckParts
+pub mod Runs
+pub mod Refining
+pub mod Related
+pub mod Validity
+pub mod Fairness

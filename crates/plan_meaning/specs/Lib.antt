@@ -4,3 +4,11 @@ pub mod Seen
 pub mod TreeFaults
 pub mod Typed
 pub mod Depths
+pub mod Values
+pub mod Frames
+pub mod Meaning
+pub mod Contents
+pub mod Steps
+pub mod Relating
+pub mod PlanAt
+pub mod Asked

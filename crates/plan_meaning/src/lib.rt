@@ -4,6 +4,7 @@
 mod check;
 mod depth;
 mod exprs;
+pub mod laws;
 mod plan;
 mod tree;
 

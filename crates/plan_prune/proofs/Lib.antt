@@ -1,2 +1,11 @@
 pub mod ListSteps
 pub mod PruneLemmas
+mod NarrowLemmas
+mod AddedNames
+mod AskedNames
+mod ProjectionNarrows
+mod ScanNarrows
+mod PrunedNarrows
+mod PrunedReads
+mod PlanPruned
+mod Example

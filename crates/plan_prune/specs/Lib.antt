@@ -2,3 +2,4 @@ pub mod Leaves
 pub mod Pruned
 pub mod Prunes
 pub mod Scans
+pub mod Reads

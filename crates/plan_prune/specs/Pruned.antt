@@ -50,7 +50,7 @@ pruned_scan top (a ∷ asked) sources info predicate output kind options inputs 
 abbrev pub asks : List Name → Op → List Name
 asks asked (filter predicate) = asked_with asked (names_in predicate.expr)
 asks asked (scan sources info predicate output kind options) = []
-asks asked (simple_projection columns) = names_of (kept asked columns)
+asks asked (simple_projection columns) = with_names [] (names_of (kept asked columns))
 asks asked invalid = []
 
 -- a node that is asked names, over its pruned inputs

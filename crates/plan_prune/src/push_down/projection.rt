@@ -1,7 +1,8 @@
 //! A simple projection keeps its asked columns, in its own order; asked nothing, it keeps them all.
 //! It asks its input the names that it keeps.
-ghost use Rattle.std.specs.Prelude.{◌≡◌, IfOk};
+ghost use Rattle.std.specs.Prelude.{◌≡◌, [], IfOk};
 ghost use Rattle.plan_core.specs.Columns.{names_of};
+ghost use Rattle.plan_core.specs.Names.{with_names};
 ghost use Rattle.plan_prune.specs.Pruned.{kept as kept_of};
 
 use plan_core::{Names, PlSmallStr, Schema};
@@ -27,7 +28,7 @@ pub fn keep(alloc: Global, columns: Schema, asked: &Names) -> Result<Schema, All
 
 /// What a projection asks its input.
 pub fn asks(alloc: Global, columns: &Schema) -> Result<Names, AllocError>
-    ensures { IfOk result (λ names. names ≡ names_of columns.now) }
+    ensures { IfOk result (λ names. names ≡ with_names [] (names_of columns.now)) }
 {
     let mut names = Names::new(alloc);
     for i in 0..columns.len() {

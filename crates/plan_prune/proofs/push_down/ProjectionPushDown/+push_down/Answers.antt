@@ -1,8 +1,9 @@
-use Rattle.std.proofs.Common.{◌≡◌, ◌∙◌, ap, sym, refl, arith, not, Some}
+use Rattle.std.proofs.Common.{◌≡◌, ◌∙◌, ap, sym, refl, arith, not, Some, []}
 use Rattle.plan_ir.specs.declared.ir.IR.{IR}
 use Rattle.plan_ir.specs.declared.ir.IR.TheVariants.{Filter, SimpleProjection}
 use Rattle.plan_ir.proofs.PlanLemmas.{plan_expr}
 use Rattle.plan_core.specs.Columns.{Columns, names_of}
+use Rattle.plan_core.specs.Names.{with_names}
 use Rattle.plan_tree.specs.Rose.{rose}
 use Rattle.plan_ir.specs.Plans.{simple_projection}
 use Rattle.plan_prune.specs.Scans.{with_pruned_scan}
@@ -47,7 +48,7 @@ returns-in_ok-push_down-in-SimpleProjection-clause-prunes t c = λ t' h.
     let q : IR = SimpleProjection c.in-SimpleProjection.input c.in_ok-columns-in-SimpleProjection.columns in
     rw c.put-in-SimpleProjection.ensures (finish (not c.args.self.now.is_count_star) c.args.asked c.in_ok-asked-in-SimpleProjection.asked c.args.lp.now c.take.new.self c.push_down-in-SimpleProjection.new.lp c.args.ex.now c.args.node c.in-SimpleProjection.input p q c.take.ensures.after.0 t' h
     (c.take.ensures.given ∙ ap Some c.in-SimpleProjection.is) c.take.ensures.after.2 refl refl refl refl
-    (c.in_ok-asked-in-SimpleProjection.ensures ∙ ap names_of c.in_ok-columns-in-SimpleProjection.ensures)
+    (c.in_ok-asked-in-SimpleProjection.ensures ∙ ap (λ (cs : Columns). with_names [] (names_of cs)) c.in_ok-columns-in-SimpleProjection.ensures)
     (λ f. ap (λ (cs : Columns). rose tt (simple_projection cs) f) c.in_ok-columns-in-SimpleProjection.ensures)
     c.in_ok-push_down-in-SimpleProjection.ensures.prunes)
 

@@ -1,7 +1,9 @@
-use Rattle.std.proofs.Common.{not, subst, List, []}
+use Rattle.std.proofs.Common.{not, subst, List, [], ◌∷◌}
+use Rattle.plan_ir.specs.Plans.{bare, plans_at}
 use Rattle.plan_prune.specs.Leaves.{Name}
 use Rattle.plan_prune.specs.Prunes.{Prunes}
 use Rattle.plan_prune.proofs.PruneLemmas.{pruned_is, pruned_stands}
+use Rattle.plan_prune.proofs.PlanPruned.{refines_at, reads_at, nodes_at}
 use Rattle.plan_prune.proofs.push_down.ProjectionPushDown.optimize.Goals as goal
 
 pub returns-clause-pruned : goal.returns-clause-pruned
@@ -15,3 +17,12 @@ returns-clause-is_plan c =
     let top = not c.args.self.now.is_count_star in
     pruned_stands top [] c.args.lp.now c.push_down.new.lp c.args.ex.now c.args.root c.requires
     (subst (λ (l : List Name). Prunes top l c.args.lp.now c.push_down.new.lp c.args.ex.now c.args.root c.requires.nodes) c.new.ensures (c.in_ok-push_down.ensures.prunes c.requires.nodes c.requires.stands.nodes))
+
+pub returns-clause-refines : goal.returns-clause-refines
+returns-clause-refines c = λ v. refines_at (not c.args.self.now.is_count_star) (bare (plans_at c.args.lp.now c.args.ex.now (c.args.root ∷ []))) (bare (plans_at c.push_down.new.lp c.args.ex.now (c.args.root ∷ []))) (returns-clause-pruned c) v
+
+pub returns-clause-reads : goal.returns-clause-reads
+returns-clause-reads c = λ v. reads_at (not c.args.self.now.is_count_star) (bare (plans_at c.args.lp.now c.args.ex.now (c.args.root ∷ []))) (bare (plans_at c.push_down.new.lp c.args.ex.now (c.args.root ∷ []))) (returns-clause-pruned c) v
+
+pub returns-clause-nodes : goal.returns-clause-nodes
+returns-clause-nodes c = λ v. nodes_at (not c.args.self.now.is_count_star) (bare (plans_at c.args.lp.now c.args.ex.now (c.args.root ∷ []))) (bare (plans_at c.push_down.new.lp c.args.ex.now (c.args.root ∷ []))) (returns-clause-pruned c) v

@@ -1,0 +1,83 @@
+-- What it takes that the checks on a node hold, part by part.
+use Rattle.std.proofs.Common.{◌≡◌, ℕ, suc, Bool, true, List, [], ◌∷◌, ◌++◌, length, Option, sym, ap, ◌∙◌, subst, is_some, ⊎_elim}
+use Rattle.std.specs.List.{AllByRecursion}
+use Rattle.std.proofs.lemmas.Bool.{and_parts}
+use Rattle.plan_core.specs.declared.error.At.{At}
+use Rattle.plan_core.specs.declared.error.PolarsError.{PolarsError}
+use Rattle.plan_core.specs.declared.error.PolarsError.TheVariants.{SchemaMismatch}
+use Rattle.plan_core.specs.declared.options.FileScanOptions.{FileScanOptions}
+use Rattle.plan_core.specs.Columns.{Columns, type_of, same_columns}
+use Rattle.plan_core.specs.Names.{has}
+use Rattle.plan_ir.specs.declared.scan.FileInfo.{FileInfo}
+use Rattle.plan_ir.specs.Plans.{Named}
+use Rattle.plan_meaning.specs.Exprs.{Name, all_known}
+use Rattle.plan_meaning.specs.Typing.{Check, check, each, each_new, names_or, columns_or, file_columns, put_out_checks, scan_name_checks, is_built_scan, scan_column_checks, scan_checks, AllHold}
+use Rattle.plan_meaning.proofs.NameSets.{has_cons, has_first, has_later}
+
+pub hold_front : (xs ys : List Check) → AllHold (xs ++ ys) → AllHold xs
+hold_front [] ys h = tt
+hold_front (x ∷ xs) ys h = (h.0, hold_front xs ys h.1)
+
+pub hold_back : (xs ys : List Check) → AllHold (xs ++ ys) → AllHold ys
+hold_back [] ys h = h
+hold_back (x ∷ xs) ys h = hold_back xs ys h.1
+
+pub hold_join : (xs ys : List Check) → AllHold xs → AllHold ys → AllHold (xs ++ ys)
+hold_join [] ys h k = k
+hold_join (x ∷ xs) ys h k = (h.0, hold_join xs ys h.1 k)
+
+-- checks on items hold exactly where each item passes
+pub each_pass : {A : Type 0} (fault : At → PolarsError) (k : ℕ) (holds : A → Bool) (xs : List A) → AllHold (each fault k holds xs) → AllByRecursion (λ (x : A). holds x ≡ true) xs
+each_pass fault k holds [] h = tt
+each_pass fault k holds (x ∷ xs) h = (h.0, each_pass fault (suc k) holds xs h.1)
+
+pub pass_each : {A : Type 0} (fault : At → PolarsError) (k : ℕ) (holds : A → Bool) (xs : List A) → AllByRecursion (λ (x : A). holds x ≡ true) xs → AllHold (each fault k holds xs)
+pass_each fault k holds [] h = tt
+pass_each fault k holds (x ∷ xs) h = (h.0, pass_each fault (suc k) holds xs h.1)
+
+-- each name of a list that passes
+pub name_passes : (P : Name → Type 0) (names : List Name) → AllByRecursion P names → (a : Name) → has names a ≡ true → P a
+name_passes P [] h a i = cc
+name_passes P (b ∷ names) h a i = ⊎_elim (λ (e : a ≡ b). subst P (sym e) h.0) (λ (e : has names a ≡ true). name_passes P names h.1 a e) (has_cons b names a i)
+
+pub pass_names : (P : Name → Type 0) (names : List Name) → ((a : Name) → has names a ≡ true → P a) → AllByRecursion P names
+pass_names P [] h = tt
+pass_names P (b ∷ names) h = (h b (has_first b names), pass_names P names (λ a i. h a (has_later b names a i)))
+
+-- the leaves of an expression that is known are columns
+pub known_leaf : (names : List Name) (s : Columns) (a : Name) → all_known names s ≡ true → has names a ≡ true → is_some (type_of s a) ≡ true
+known_leaf [] s a h i = cc
+known_leaf (b ∷ names) s a h i =
+    let p = and_parts (is_some (type_of s b)) (all_known names s) h in
+    ⊎_elim (λ (e : a ≡ b). ap (λ (x : Name). is_some (type_of s x)) e ∙ p.0) (λ (e : has names a ≡ true). known_leaf names s a p.1 e) (has_cons b names a i)
+
+-- scans
+
+-- what the checks on a scan say, part by part
+pub record ScanGood (predicate : Option Named) (output : Option Columns) (info : FileInfo) (options : FileScanOptions) : Type 0 where
+  pub built : is_built_scan predicate info options ≡ true
+  pub known : AllHold (scan_name_checks (columns_or output []) (names_or options.with_columns []) (file_columns info))
+  pub put_out : AllHold (put_out_checks output options.with_columns (file_columns info))
+  pub once : AllHold (each_new (suc (length (columns_or output []))) [] (names_or options.with_columns []))
+  pub stored : same_columns info.schema (file_columns info) ≡ true
+
+pub scan_good : (predicate : Option Named) (output : Option Columns) (info : FileInfo) (options : FileScanOptions) → AllHold (scan_checks predicate output info options) → ScanGood predicate output info options
+unfolding scan_column_checks
+scan_good predicate output info options h =
+    let a = scan_name_checks (columns_or output []) (names_or options.with_columns []) (file_columns info) in
+    let b = put_out_checks output options.with_columns (file_columns info) in
+    let c = each_new (suc (length (columns_or output []))) [] (names_or options.with_columns []) in
+    let d = check SchemaMismatch 0 (same_columns info.schema (file_columns info)) ∷ [] in
+    let bcd = hold_back a (b ++ (c ++ d)) h.1 in
+    let cd = hold_back b (c ++ d) bcd in
+    let last = hold_back c d cd in
+    record { built = h.0; known = hold_front a (b ++ (c ++ d)) h.1; put_out = hold_front b (c ++ d) bcd; once = hold_front c d cd; stored = last.0 }
+
+pub good_scan : (predicate : Option Named) (output : Option Columns) (info : FileInfo) (options : FileScanOptions) → ScanGood predicate output info options → AllHold (scan_checks predicate output info options)
+unfolding scan_column_checks
+good_scan predicate output info options g =
+    let a = scan_name_checks (columns_or output []) (names_or options.with_columns []) (file_columns info) in
+    let b = put_out_checks output options.with_columns (file_columns info) in
+    let c = each_new (suc (length (columns_or output []))) [] (names_or options.with_columns []) in
+    let d = check SchemaMismatch 0 (same_columns info.schema (file_columns info)) ∷ [] in
+    (g.built, hold_join a (b ++ (c ++ d)) g.known (hold_join b (c ++ d) g.put_out (hold_join c d g.once (g.stored, tt))))

@@ -1,0 +1,169 @@
+-- What a node asks can be asked of its inputs, and what a scan may read is among what it reads.
+use Rattle.std.proofs.Common.{◌≡◌, ◌&&◌, suc, Bool, true, false, cond, List, [], ◌∷◌, ◌++◌, length, Option, Some, None, refl, sym, ap, ◌∙◌, subst, is_some, ⊎_elim}
+use Rattle.std.specs.List.{AllByRecursion}
+use Rattle.std.proofs.lemmas.Bool.{and_parts}
+use Rattle.plan_core.specs.declared.data_type.DataType.{DataType}
+use Rattle.plan_core.specs.declared.error.PolarsError.TheVariants.{SchemaFieldNotFound, SchemaMismatch}
+use Rattle.plan_core.specs.Columns.{Columns, names_of, type_of}
+use Rattle.plan_core.specs.Names.{has, with_names, AreDistinct}
+use Rattle.plan_tree.specs.Rose.{Roses, rose, no_roses, more}
+use Rattle.plan_ir.specs.Plans.{Op, filter, scan, simple_projection, invalid, Plan}
+use Rattle.plan_meaning.specs.Exprs.{Name, leaves, is_type}
+use Rattle.plan_meaning.specs.Typing.{is_empty, each, is_known, is_column, has_columns, names_or, columns_or, file_columns, all_read, put_out_checks, scan_name_checks, schema_by, schemas, checks, AllHold, AllValid}
+use Rattle.plan_meaning.specs.Steps.{IsValid}
+use Rattle.plan_meaning.specs.Relating.{Asked, all, names, cached}
+use Rattle.plan_meaning.specs.Asked.{asked_names, is_asked, set_of, with_more, kept, asks_columns, asks, first_asked, rest_asked, own_site, sites, reads, allowed, IsFair, SiteFair, AllSites}
+use Rattle.plan_meaning.proofs.NameSets.{has_cons, has_first, has_later, some-type_of, keeps_names, from_names, distinct_names, distinct_none}
+use Rattle.plan_meaning.proofs.CheckParts.{hold_front, each_pass, known_leaf, scan_good}
+
+-- each column of a list that passes
+pub column_passes : (P : Name → Type 0) (cs : Columns) → AllByRecursion (λ (c : Name × DataType). P c.0) cs → (a : Name) → has (names_of cs) a ≡ true → P a
+column_passes P [] h a i = cc
+column_passes P (c ∷ cs) h a i = ⊎_elim (λ (e : a ≡ c.0). subst P (sym e) h.0) (λ (e : has (names_of cs) a ≡ true). column_passes P cs h.1 a e) (has_cons c.0 (names_of cs) a i)
+
+pub some_name : (wanted : List Name) (a : Name) → has wanted a ≡ true → is_empty wanted ≡ false
+some_name [] a h = cc
+some_name (b ∷ wanted) a h = refl
+
+pub has_some : (wanted : List Name) → is_empty wanted ≡ false → (a : Name) × (has wanted a ≡ true)
+has_some [] e = cc
+has_some (a ∷ wanted) e = (a, has_first a wanted)
+
+pub fair_set : (wanted : List Name) (s : Columns) → AreDistinct wanted → ((a : Name) → has wanted a ≡ true → is_some (type_of s a) ≡ true) → IsFair (set_of wanted) s
+fair_set [] s once known = tt
+fair_set (a ∷ wanted) s once known = record { some = refl; once = once; known = known }
+
+-- with the leaves of an expression over the columns, what is asked can be asked of them
+pub fair_more : (others : List Name) (a : Asked) (s : Columns) → ((b : Name) → has others b ≡ true → is_some (type_of s b) ≡ true) → IsFair a s → IsFair (with_more others a) s
+fair_more others all s known f = tt
+fair_more others cached s known f = tt
+fair_more others (names wanted) s known f =
+    let first = has_some wanted f.some in
+    record {
+      some = some_name (with_names wanted others) first.0 (keeps_names wanted others first.0 first.1);
+      once = distinct_names wanted others f.once;
+      known = λ b i. ⊎_elim (λ e. f.known b e) (λ e. known b e) (from_names wanted others b i);
+    }
+
+-- what is kept of columns
+
+kept_at : (P : Columns → Type 0) (c : Name × DataType) (cs : Columns) (t : Bool) → (t ≡ true → P (c ∷ cs)) → (t ≡ false → P cs) → P (cond t (c ∷ cs) cs)
+kept_at P c cs true p q = p refl
+kept_at P c cs false p q = q refl
+
+-- a kept column is a column, and asked
+pub kept_asked : (a : Asked) (cs : Columns) (b : Name) → has (names_of (kept a cs)) b ≡ true → (has (names_of cs) b ≡ true) × (is_asked a b ≡ true)
+kept_asked a [] b i = cc
+kept_asked a (c ∷ cs) b i = at (is_asked a c.0) refl (λ j. kept_asked a cs b j) i
+  where
+    at : (t : Bool) → is_asked a c.0 ≡ t → (has (names_of (kept a cs)) b ≡ true → (has (names_of cs) b ≡ true) × (is_asked a b ≡ true)) → has (names_of (cond t (c ∷ kept a cs) (kept a cs))) b ≡ true → (has (names_of (c ∷ cs)) b ≡ true) × (is_asked a b ≡ true)
+    at true e r i = ⊎_elim
+        (λ (q : b ≡ c.0). (subst (λ (x : Name). has (names_of (c ∷ cs)) x ≡ true) (sym q) (has_first c.0 (names_of cs)), ap (is_asked a) q ∙ e))
+        (λ (q : has (names_of (kept a cs)) b ≡ true). (has_later c.0 (names_of cs) b (r q).0, (r q).1))
+        (has_cons c.0 (names_of (kept a cs)) b i)
+    at false e r i = (has_later c.0 (names_of cs) b (r i).0, (r i).1)
+
+-- a column with its type is known
+pub known_some : (s : Columns) (c : Name × DataType) → is_column s c ≡ true → is_some (type_of s c.0) ≡ true
+known_some s c e = at (type_of s c.0) e
+  where
+    at : (o : Option DataType) → is_type o c.1 ≡ true → is_some o ≡ true
+    at None e = cc
+    at (Some t) e = refl
+
+kept_names_known : (a : Asked) (cs s : Columns) → AllByRecursion (λ (c : Name × DataType). is_known s c.0 ≡ true) cs → (b : Name) → has (with_names [] (names_of (kept a cs))) b ≡ true → is_some (type_of s b) ≡ true
+kept_names_known a cs s h b i =
+    column_passes (λ (x : Name). is_some (type_of s x) ≡ true) cs h b (kept_asked a cs b (⊎_elim (λ e. none e) (λ e. e) (from_names [] (names_of (kept a cs)) b i))).0
+  where
+    none : false ≡ true → has (names_of (kept a cs)) b ≡ true
+    none e = cc
+
+pub fair_columns : (cs : Columns) (a : Asked) (s : Columns) → AllByRecursion (λ (c : Name × DataType). is_known s c.0 ≡ true) cs → IsFair (asks_columns cs a) s
+fair_columns cs all s h = fair_set (with_names [] (names_of (kept all cs))) s (distinct_names [] (names_of (kept all cs)) distinct_none) (kept_names_known all cs s h)
+fair_columns cs (names wanted) s h = fair_set (with_names [] (names_of (kept (names wanted) cs))) s (distinct_names [] (names_of (kept (names wanted) cs)) distinct_none) (kept_names_known (names wanted) cs s h)
+fair_columns cs cached s h = tt
+
+-- what can be asked of several columns, one for one
+abbrev pub FairAll : List Asked → List Columns → Type 0
+FairAll [] [] = Unit {0}
+FairAll (a ∷ asked) (s ∷ ss) = IsFair a s × FairAll asked ss
+FairAll _ _ = ⊥
+
+-- per node: what it asks can be asked of its inputs
+pub fair_asks : (op : Op) (a : Asked) (ss : List Columns) → AllHold (checks op ss) → IsFair a (schema_by op ss) → FairAll (asks op a ss) ss
+fair_asks (filter predicate) a (s ∷ []) good f = (fair_more (leaves predicate.expr) a s (λ b i. known_leaf (leaves predicate.expr) s b good.0 i) f, tt)
+fair_asks (scan sources info predicate output kind options) a [] good f = tt
+fair_asks (simple_projection cols) a (s ∷ []) good f =
+    let known = each_pass SchemaFieldNotFound 1 (λ (c : Name × DataType). is_known s c.0) cols (hold_front (each SchemaFieldNotFound 1 (λ (c : Name × DataType). is_known s c.0) cols) (each SchemaMismatch 1 (is_column s) cols) good.1) in
+    (fair_columns cols a s known, tt)
+fair_asks op a ss good f = absurd (cc)
+
+-- scans
+
+all_read_each : (given : Option (List Name)) (cs : Columns) → all_read given cs ≡ true → AllByRecursion (λ (c : Name × DataType). has_columns given c.0 ≡ true) cs
+all_read_each given [] h = tt
+all_read_each given (c ∷ cs) h = let p = and_parts (has_columns given c.0) (all_read given cs) h in (p.0, all_read_each given cs p.1)
+
+read_of : (given : Option (List Name)) (file : Columns) (a : Name) → has_columns given a ≡ true → has (names_of file) a ≡ true → has (names_or given (names_of file)) a ≡ true
+read_of None file a h k = k
+read_of (Some ws) file a h k = h
+
+second_parts : (file : Columns) (given : Option (List Name)) (cs : Columns) → AllByRecursion (λ (c : Name × DataType). (is_column file c && has_columns given c.0) ≡ true) cs → AllByRecursion (λ (c : Name × DataType). has_columns given c.0 ≡ true) cs
+second_parts file given [] h = tt
+second_parts file given (c ∷ cs) h = ((and_parts (is_column file c) (has_columns given c.0) h.0).1, second_parts file given cs h.1)
+
+-- what a scan puts out is read
+pub out_read : (output : Option Columns) (given : Option (List Name)) (file : Columns) → AllHold (put_out_checks output given file) → (a : Name) → has (names_of (columns_or output file)) a ≡ true → has_columns given a ≡ true
+unfolding put_out_checks
+out_read None given file h a i = column_passes (λ (x : Name). has_columns given x ≡ true) file (all_read_each given file h.0) a i
+out_read (Some out) given file h a i = column_passes (λ (x : Name). has_columns given x ≡ true) out (second_parts file given out (each_pass SchemaMismatch 1 (λ (c : Name × DataType). is_column file c && has_columns given c.0) out h)) a i
+
+-- and is found in its files
+pub out_found : (output : Option Columns) (given : Option (List Name)) (file : Columns) → AllHold (scan_name_checks (columns_or output []) (names_or given []) file) → (a : Name) → has (names_of (columns_or output file)) a ≡ true → has (names_of file) a ≡ true
+unfolding scan_name_checks
+out_found None given file h a i = i
+out_found (Some out) given file h a i =
+    let known = each_pass SchemaFieldNotFound 1 (λ (c : Name × DataType). is_known file c.0) out (hold_front (each SchemaFieldNotFound 1 (λ (c : Name × DataType). is_known file c.0) out) (each SchemaFieldNotFound (suc (length out)) (is_known file) (names_or given [])) h) in
+    sym (some-type_of file a) ∙ column_passes (λ (x : Name). is_some (type_of file x) ≡ true) out known a i
+
+-- per scan
+site_fair : (op : Op) (a : Asked) (ss : List Columns) → AllHold (checks op ss) → IsFair a (schema_by op ss) → AllByRecursion SiteFair (own_site op a)
+site_fair (scan sources info predicate output kind options) a [] good f =
+    (record { asked = λ b i. asked a f b i; allowed = λ b i. may_read a f b i }, tt)
+  where
+    here : Op
+    here = scan sources info predicate output kind options
+
+    asked : (x : Asked) → IsFair x (schema_by here []) → (b : Name) → has (asked_names x) b ≡ true → has (names_of (schema_by here [])) b ≡ true
+    asked all f b i = cc
+    asked cached f b i = cc
+    asked (names wanted) f b i = sym (some-type_of (schema_by here []) b) ∙ f.known b i
+
+    may_read : (x : Asked) → IsFair x (schema_by here []) → (b : Name) → has (allowed here x) b ≡ true → has (reads here) b ≡ true
+    may_read all f b i = i
+    may_read cached f b i = i
+    may_read (names wanted) f b i =
+        let parts = scan_good predicate output info options good in
+        let out = asked (names wanted) f b i in
+        read_of options.with_columns (file_columns info) b (out_read output options.with_columns (file_columns info) parts.put_out b out) (out_found output options.with_columns (file_columns info) parts.known b out)
+site_fair (filter predicate) a ss good f = tt
+site_fair (simple_projection cols) a ss good f = tt
+site_fair invalid a ss good f = tt
+site_fair (scan sources info predicate output kind options) a (s ∷ ss) good f = cc
+
+pub all_append : {X : Type 0} (P : X → Type 0) (xs ys : List X) → AllByRecursion P xs → AllByRecursion P ys → AllByRecursion P (xs ++ ys)
+all_append P [] ys h k = k
+all_append P (x ∷ xs) ys h k = (h.0, all_append P xs ys h.1 k)
+
+-- the scans of valid plans that are asked what can be asked of them
+pub sites_fair : (ts : Roses (Unit {0}) Op) (asked : List Asked) → AllValid ts → FairAll asked (schemas ts) → AllByRecursion SiteFair (sites ts asked)
+sites_fair no_roses asked v f = tt
+sites_fair (more (rose n op ts) rest) [] v f = absurd f
+sites_fair (more (rose n op ts) rest) (a ∷ asked) v f =
+    let below = asks op a (schemas ts) in
+    all_append SiteFair (own_site op a) (sites ts below ++ sites rest asked) (site_fair op a (schemas ts) v.0 f.0)
+    (all_append SiteFair (sites ts below) (sites rest asked) (sites_fair ts below v.1 (fair_asks op a (schemas ts) v.0 f.0)) (sites_fair rest asked v.2 f.1))
+
+-- in a valid plan each scan is asked names of its own, and may read for them what it reads
+pub plan_sites_fair : (p : Plan) → IsValid p → AllSites SiteFair p
+plan_sites_fair (rose n op ts) v = sites_fair (more (rose n op ts) no_roses) (all ∷ []) (v.0, v.1, tt) (tt, tt)

@@ -1,0 +1,95 @@
+-- What a node gives has its columns, and it gives something; so for plans.
+use Rattle.std.proofs.Common.{◌≡◌, ◌&&◌, true, List, [], ◌∷◌, map, Option, Some, None, unwrap_or, refl, sym, ap, subst}
+use Rattle.std.specs.List.{AllByRecursion}
+use Rattle.std.proofs.lemmas.Bool.{and_parts}
+use Rattle.plan_core.specs.declared.data_type.DataType.{DataType}
+use Rattle.plan_core.specs.declared.error.PolarsError.TheVariants.{SchemaFieldNotFound, SchemaMismatch}
+use Rattle.plan_core.specs.Columns.{Columns, names_of, type_of}
+use Rattle.plan_tree.specs.Rose.{Roses, rose, no_roses, more}
+use Rattle.plan_ir.specs.Plans.{Op, filter, scan, simple_projection, Plan}
+use Rattle.plan_meaning.specs.Exprs.{Name}
+use Rattle.plan_meaning.specs.Typing.{each, is_known, is_column, columns_or, file_columns, has_columns, put_out_checks, schema_by, schema, schemas, checks, AllHold, AllValid}
+use Rattle.plan_meaning.specs.Frames.{Frame, HasSchema, Holds, HoldsAll, cut}
+use Rattle.plan_meaning.specs.Meaning.{val}
+use Rattle.plan_meaning.specs.Contents.{Contents, Source, frame_or, no_frame, HasFrame, sources_of, frames_of, stack, FitsAt, FitsAll, Fits}
+use Rattle.plan_meaning.specs.Steps.{Step, MayAll, May, IsValid, filtered, true_rows}
+use Rattle.plan_meaning.proofs.FrameLemmas.{rows_schema, schema_holds, all_hold, cut_schema, stack_has, is_type_some}
+use Rattle.plan_meaning.proofs.CheckParts.{hold_back, each_pass, scan_good}
+
+-- frames have these columns, one for one
+abbrev pub HaveSchemas : List Frame → List Columns → Type 0
+HaveSchemas [] [] = Unit {0}
+HaveSchemas (f ∷ fs) (s ∷ ss) = HasSchema f s × HaveSchemas fs ss
+HaveSchemas _ _ = ⊥
+
+-- a frame that has columns holds those that are among them
+among_hold : (holds : Name → DataType → Type 0) (s cs : Columns) → ((a : Name) (t : DataType) → type_of s a ≡ Some t → holds a t) → AllByRecursion (λ (c : Name × DataType). is_column s c ≡ true) cs → AllByRecursion (λ (c : Name × DataType). holds c.0 c.1) cs
+among_hold holds s [] by h = tt
+among_hold holds s (c ∷ cs) by h = (by c.0 c.1 (is_type_some (type_of s c.0) c.1 h.0), among_hold holds s cs by h.1)
+
+-- what a scan puts out are columns of its files
+pub out_known : (output : Option Columns) (reads : Option (List Name)) (file : Columns) → AllHold (put_out_checks output reads file) → (g : Frame) → HoldsAll g file → HoldsAll g (columns_or output file)
+unfolding put_out_checks
+out_known None reads file h g k = k
+out_known (Some out) reads file h g k = among_hold (λ a t. Holds g (a, t)) file out (λ a t e. all_hold g file a t k e) (typed out (each_pass SchemaMismatch 1 (λ (c : Name × DataType). is_column file c && has_columns reads c.0) out h))
+  where
+    typed : (cs : Columns) → AllByRecursion (λ (c : Name × DataType). (is_column file c && has_columns reads c.0) ≡ true) cs → AllByRecursion (λ (c : Name × DataType). is_column file c ≡ true) cs
+    typed [] h = tt
+    typed (c ∷ cs) h = ((and_parts (is_column file c) (has_columns reads c.0) h.0).0, typed cs h.1)
+
+frames_hold : (c : Contents) (file out : Columns) (ss : List Source) → ((g : Frame) → HoldsAll g file → HoldsAll g out) → AllByRecursion (HasFrame c file) ss → AllByRecursion (λ (g : Frame). HoldsAll g out) (map (frame_or c) ss)
+frames_hold c file out [] by h = tt
+frames_hold c file out (s ∷ ss) by h =
+    let is : frame_or c s ≡ h.0.given = ap (λ (o : Option Frame). unwrap_or o no_frame) h.0.found in
+    (subst (λ (g : Frame). HoldsAll g out) (sym is) (by h.0.given h.0.holds), frames_hold c file out ss by h.1)
+
+-- per node: what it gives has its columns
+step_has : (c : Contents) (op : Op) (ss : List Columns) (fs : List Frame) (f : Frame) → AllHold (checks op ss) → FitsAt c op → HaveSchemas fs ss → Step c op fs f → HasSchema f (schema_by op ss)
+step_has c (filter predicate) (s ∷ []) (g ∷ []) f good fit has st =
+    subst (λ (x : Frame). HasSchema x s) (sym st) (rows_schema (true_rows (val predicate.expr g) g.height) g s has.0)
+step_has c (scan sources info predicate output kind options) [] [] f good fit has st =
+    let file = file_columns info in
+    let out = columns_or output file in
+    let parts = scan_good predicate output info options good in
+    subst (λ (x : Frame). HasSchema x out) (sym st) (stack_has (frames_of c sources) out (frames_hold c file out (sources_of sources) (out_known output options.with_columns file parts.put_out) fit))
+step_has c (simple_projection cols) (s ∷ []) (g ∷ []) f good fit has st =
+    let typed = each_pass SchemaMismatch 1 (is_column s) cols (hold_back (each SchemaFieldNotFound 1 (λ (c : Name × DataType). is_known s c.0) cols) (each SchemaMismatch 1 (is_column s) cols) good.1) in
+    subst (λ (x : Frame). HasSchema x cols) (sym st) (cut_schema g cols (among_hold (λ a t. Holds g (a, t)) s cols (λ a t e. schema_holds g s a t has.0 e) typed))
+step_has c op ss fs f good fit has st = absurd (first_of (search st, cc))
+
+-- per node: it gives something
+step_runs : (c : Contents) (op : Op) (ss : List Columns) (fs : List Frame) → AllHold (checks op ss) → FitsAt c op → HaveSchemas fs ss → (f : Frame) × Step c op fs f
+step_runs c (filter predicate) (s ∷ []) (g ∷ []) good fit has = (filtered predicate.expr g, refl)
+step_runs c (scan sources info predicate output kind options) [] [] good fit has = (stack (names_of (columns_or output (file_columns info))) (frames_of c sources), refl)
+step_runs c (simple_projection cols) (s ∷ []) (g ∷ []) good fit has = (cut (names_of cols) g, refl)
+step_runs c op ss fs good fit has = absurd (first_of (search has, cc))
+
+-- what valid plans give has their columns
+pub may_have_all : (c : Contents) (ts : Roses (Unit {0}) Op) (fs : List Frame) → AllValid ts → FitsAll c ts → MayAll c ts fs → HaveSchemas fs (schemas ts)
+may_have_all c no_roses [] v fit m = tt
+may_have_all c no_roses (f ∷ fs) v fit m = absurd m
+may_have_all c (more (rose n op ts) rest) [] v fit m = absurd m
+may_have_all c (more (rose n op ts) rest) (f ∷ fs) v fit m = (
+  step_has c op (schemas ts) m.0.0 f v.0 fit.0 (may_have_all c ts m.0.0 v.1 fit.1 m.0.1) m.0.2,
+  may_have_all c rest fs v.2 fit.2 m.1,
+)
+
+-- valid plans have a run over contents that fit
+pub valid_run_all : (c : Contents) (ts : Roses (Unit {0}) Op) → AllValid ts → FitsAll c ts → (fs : List Frame) × MayAll c ts fs
+valid_run_all c no_roses v fit = ([], tt)
+valid_run_all c (more (rose n op ts) rest) v fit =
+    let below = valid_run_all c ts v.1 fit.1 in
+    let st = step_runs c op (schemas ts) below.0 v.0 fit.0 (may_have_all c ts below.0 v.1 fit.1 below.1) in
+    let others = valid_run_all c rest v.2 fit.2 in
+    (st.0 ∷ others.0, ((below.0, below.1, st.1), others.1))
+
+-- what a valid plan gives has its columns
+pub may_has : (c : Contents) (p : Plan) (f : Frame) → IsValid p → Fits c p → May c p f → HasSchema f (schema p)
+may_has c (rose n op ts) f v fit m = step_has c op (schemas ts) m.0 f v.0 fit.0 (may_have_all c ts m.0 v.1 fit.1 m.1) m.2
+
+-- a valid plan has a run over contents that fit it
+pub valid_runs : (c : Contents) (p : Plan) → IsValid p → Fits c p → (f : Frame) × May c p f
+valid_runs c (rose n op ts) v fit =
+    let below = valid_run_all c ts v.1 fit.1 in
+    let st = step_runs c op (schemas ts) below.0 v.0 fit.0 (may_have_all c ts below.0 v.1 fit.1 below.1) in
+    (st.0, (below.0, below.1, st.1))

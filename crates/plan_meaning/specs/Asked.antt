@@ -1,0 +1,115 @@
+-- What each node of a plan is asked from above, the scans with what they are asked, and what these may read.
+use Rattle.std.specs.Prelude.{◌≡◌, Bool, true, false, List, [], ◌∷◌, ◌++◌, is_some}
+use Rattle.std.specs.List.{AllByRecursion, filter as only_where}
+use Rattle.plan_core.specs.declared.data_type.DataType.{DataType}
+use Rattle.plan_core.specs.Columns.{Columns, names_of, type_of}
+use Rattle.plan_core.specs.Names.{has, with_names, AreDistinct}
+use Rattle.plan_tree.specs.Rose.{Roses, rose, no_roses, more}
+use Rattle.plan_ir.specs.Plans.{Op, filter, scan, simple_projection, invalid, Plan}
+use Rattle.plan_meaning.specs.Exprs.{Name, leaves}
+use Rattle.plan_meaning.specs.Typing.{is_empty, names_or, file_columns, schema_by, schemas}
+use Rattle.plan_meaning.specs.Relating.{Asked, all, names, cached}
+
+-- the names that are asked, where not everything is
+abbrev pub asked_names : Asked → List Name
+asked_names all = []
+asked_names (names wanted) = wanted
+asked_names cached = []
+
+-- whether a name is asked
+abbrev pub is_asked : Asked → Name → Bool
+is_asked all a = true
+is_asked (names wanted) a = has wanted a
+is_asked cached a = true
+
+-- a rule that gives no name asks for everything
+abbrev pub set_of : List Name → Asked
+set_of [] = all
+set_of (a ∷ others) = names (a ∷ others)
+
+-- what is asked, and these names
+abbrev pub with_more : List Name → Asked → Asked
+with_more others all = all
+with_more others (names wanted) = names (with_names wanted others)
+with_more others cached = cached
+
+-- the columns that are asked, in their order
+abbrev pub kept : Asked → Columns → Columns
+kept a cs = only_where (λ (c : Name × DataType). is_asked a c.0) cs
+
+-- a projection asks for the columns that it keeps
+abbrev pub asks_columns : Columns → Asked → Asked
+asks_columns cs all = set_of (with_names [] (names_of (kept all cs)))
+asks_columns cs (names wanted) = set_of (with_names [] (names_of (kept (names wanted) cs)))
+asks_columns cs cached = cached
+
+-- what a node asks of its inputs, by the columns of these
+abbrev pub asks : Op → Asked → List Columns → List Asked
+asks (filter predicate) a ss = with_more (leaves predicate.expr) a ∷ []
+asks (scan sources info predicate output kind options) a ss = []
+asks (simple_projection columns) a ss = asks_columns columns a ∷ []
+asks invalid a ss = []
+
+-- the first of what is asked, everything where there is none
+abbrev pub first_asked : List Asked → Asked
+first_asked [] = all
+first_asked (a ∷ others) = a
+
+abbrev pub rest_asked : List Asked → List Asked
+rest_asked [] = []
+rest_asked (a ∷ others) = others
+
+-- a scan with what it is asked
+pub record Site : Type 0 where
+  pub at_scan : Op
+  pub asked : Asked
+
+abbrev pub own_site : Op → Asked → List Site
+own_site (scan sources info predicate output kind options) a = record { at_scan = scan sources info predicate output kind options; asked = a } ∷ []
+own_site (filter predicate) a = []
+own_site (simple_projection columns) a = []
+own_site invalid a = []
+
+-- the scans of plans from left to right, where each plan is asked what the list says
+abbrev pub sites : Roses (Unit {0}) Op → List Asked → List Site
+sites no_roses asked = []
+sites (more (rose n op ts) rest) asked =
+    own_site op (first_asked asked) ++ (sites ts (asks op (first_asked asked) (schemas ts)) ++ sites rest (rest_asked asked))
+
+-- the scans of a plan from left to right; its root is asked everything
+abbrev pub sites_of : Plan → List Site
+sites_of p = sites (more p no_roses) (all ∷ [])
+
+-- the columns that a scan reads: those that it names, else all that a reader finds
+abbrev pub reads : Op → List Name
+reads (scan sources info predicate output kind options) = names_or options.with_columns (names_of (file_columns info))
+reads (filter predicate) = []
+reads (simple_projection columns) = []
+reads invalid = []
+
+-- what a scan may read for what it is asked
+abbrev pub allowed : Op → Asked → List Name
+allowed op all = reads op
+allowed op (names wanted) = wanted
+allowed op cached = reads op
+
+-- names that can be asked of columns: at least one, none twice, each a column's
+pub record Fair (wanted : List Name) (s : Columns) : Type 0 where
+  pub some : is_empty wanted ≡ false
+  pub once : AreDistinct wanted
+  pub known : (a : Name) → has wanted a ≡ true → is_some (type_of s a) ≡ true
+
+-- what can be asked of columns
+abbrev pub IsFair : Asked → Columns → Type 0
+IsFair all s = Unit {0}
+IsFair (names wanted) s = Fair wanted s
+IsFair cached s = Unit {0}
+
+-- names that a scan is asked are among its output names, and what it may read for them is among what it reads
+pub record SiteFair (site : Site) : Type 0 where
+  pub asked : (a : Name) → has (asked_names site.asked) a ≡ true → has (names_of (schema_by site.at_scan [])) a ≡ true
+  pub allowed : (a : Name) → has (allowed site.at_scan site.asked) a ≡ true → has (reads site.at_scan) a ≡ true
+
+-- this holds of each scan of a plan
+abbrev pub AllSites : (Site → Type 0) → Plan → Type 0
+AllSites P p = AllByRecursion P (sites_of p)

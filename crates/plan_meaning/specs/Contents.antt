@@ -1,0 +1,87 @@
+-- Contents: what the sources of scans hold, and when they fit a plan.
+use Rattle.std.specs.Prelude.{◌≡◌, ℕ, ◌+◌, ◌==◌, Bool, false, List, [], ◌∷◌, ◌++◌, map, Option, Some, unwrap_or}
+use Rattle.std.specs.List.{AllByRecursion}
+use Rattle.std.specs.Map.{lookup}
+use Rattle.std.specs.Str.{bytes_eq}
+use Rattle.plan_core.specs.Columns.{Columns}
+use Rattle.plan_tree.specs.Rose.{Roses, rose, no_roses, more}
+use Rattle.plan_ir.specs.declared.scan.ScanSources.{ScanSources}
+use Rattle.plan_ir.specs.declared.scan.ScanSources.TheVariants.{Paths}
+use Rattle.plan_ir.specs.Plans.{Op, filter, scan, simple_projection, invalid, Plan}
+use Rattle.plan_meaning.specs.Exprs.{Name}
+use Rattle.plan_meaning.specs.Values.{Value}
+use Rattle.plan_meaning.specs.Frames.{Frame, IsFrame, HoldsAll, column_or, table}
+use Rattle.plan_meaning.specs.Typing.{file_columns}
+
+-- where a frame comes from: a path, a buffer by its number, or a frame that was handed in, by its number
+pub data Source : Type 0 where
+  path : Name → Source
+  buffer : ℕ → Source
+  frame : ℕ → Source
+
+abbrev pub same_source : Source → Source → Bool
+same_source (path a) (path b) = bytes_eq a b
+same_source (buffer i) (buffer j) = i == j
+same_source (frame i) (frame j) = i == j
+same_source _ _ = false
+
+-- what sources hold: a source has the frame of the first pair that names it
+abbrev pub Contents : Type 0
+Contents = List (Source × Frame)
+
+-- the frame of a source, if it has one
+abbrev pub frame_at : Contents → Source → Option Frame
+frame_at c s = lookup (same_source s) c
+
+-- the frame without rows and columns
+abbrev pub no_frame : Frame
+no_frame = record { height = 0; columns = [] }
+
+-- the frame of a source, the empty one where it has none
+abbrev pub frame_or : Contents → Source → Frame
+frame_or c s = unwrap_or (frame_at c s) no_frame
+
+-- the sources of a scan, in order
+abbrev pub sources_of : ScanSources → List Source
+sources_of (Paths paths) = map path paths
+
+-- the frames of a scan's sources, in order
+abbrev pub frames_of : Contents → ScanSources → List Frame
+frames_of c sources = map (frame_or c) (sources_of sources)
+
+-- a source has a well-formed frame that holds these columns
+pub record HasFrame (c : Contents) (file : Columns) (s : Source) : Type 0 where
+  pub given : Frame
+  pub found : frame_at c s ≡ Some given
+  pub formed : IsFrame given
+  pub holds : HoldsAll given file
+
+-- contents fit a node: each source of a scan has a frame with the columns that its reader finds
+abbrev pub FitsAt : Contents → Op → Type 0
+FitsAt c (filter predicate) = Unit {0}
+FitsAt c (scan sources info predicate output kind options) = AllByRecursion (HasFrame c (file_columns info)) (sources_of sources)
+FitsAt c (simple_projection columns) = Unit {0}
+FitsAt c invalid = Unit {0}
+
+-- contents fit each node of each plan
+abbrev pub FitsAll : Contents → Roses (Unit {0}) Op → Type 0
+FitsAll c no_roses = Unit {0}
+FitsAll c (more (rose n op ts) rest) = FitsAt c op × FitsAll c ts × FitsAll c rest
+
+-- contents fit each node of a plan
+abbrev pub Fits : Contents → Plan → Type 0
+Fits c (rose n op ts) = FitsAt c op × FitsAll c ts
+
+-- the heights of frames, summed
+abbrev pub total_height : List Frame → ℕ
+total_height [] = 0
+total_height (f ∷ fs) = f.height + total_height fs
+
+-- the columns of one name, one frame after another
+abbrev pub stacked : List Frame → Name → List Value
+stacked [] a = []
+stacked (f ∷ fs) a = column_or f a ++ stacked fs a
+
+-- frames one after another, cut to these names
+abbrev pub stack : List Name → List Frame → Frame
+stack names fs = table (total_height fs) names (stacked fs)

@@ -1,0 +1,97 @@
+-- Frames: a height and named columns of that length; rows and columns taken from them.
+use Rattle.std.specs.Prelude.{◌≡◌, ℕ, zero, suc, true, List, [], ◌∷◌, map, length, Option, Some, None, replicate, unwrap_or, if◌then◌else◌}
+use Rattle.std.specs.List.{AllByRecursion}
+use Rattle.std.specs.Str.{bytes_eq}
+use Rattle.plan_core.specs.declared.data_type.DataType.{DataType}
+use Rattle.plan_core.specs.Columns.{Columns, HasDistinctNames}
+use Rattle.plan_core.specs.Names.{has}
+use Rattle.plan_meaning.specs.Exprs.{Name}
+use Rattle.plan_meaning.specs.Values.{Value, null, AllOf}
+
+-- a column: its name, and its values from the first row on
+pub record Column : Type 0 where
+  pub name : Name
+  pub values : List Value
+
+-- a frame: how many rows it has, and its columns in order
+pub record Frame : Type 0 where
+  pub height : ℕ
+  pub columns : List Column
+
+-- the values of the first column of that name
+abbrev pub found : List Column → Name → Option (List Value)
+found [] a = None
+found (c ∷ cs) a = if bytes_eq a c.name then Some c.values else found cs a
+
+-- the values of a frame's column of that name
+abbrev pub column : Frame → Name → Option (List Value)
+column f a = found f.columns a
+
+-- these values, or null in each row where a frame has no column of that name
+abbrev pub column_or : Frame → Name → List Value
+column_or f a = unwrap_or (column f a) (replicate f.height null)
+
+-- the names of columns, in order
+abbrev pub column_names : List Column → List Name
+column_names cs = map (λ (c : Column). c.name) cs
+
+-- columns of one height have these names and types, one for one
+abbrev pub HaveTypes : ℕ → List Column → Columns → Type 0
+HaveTypes h [] [] = Unit {0}
+HaveTypes h (c ∷ cs) (s ∷ ss) = (c.name ≡ s.0) × (length c.values ≡ h) × AllOf s.1 c.values × HaveTypes h cs ss
+HaveTypes h _ _ = ⊥
+
+-- a frame has these columns, each of its type and as long as the frame is high
+abbrev pub HasSchema : Frame → Columns → Type 0
+HasSchema f s = HaveTypes f.height f.columns s
+
+-- a frame is well formed: each column is of some type and as long as the frame is high, and no name stands twice
+abbrev pub IsFrame : Frame → Type 0
+IsFrame f = (s : Columns) × HasSchema f s × HasDistinctNames s
+
+-- a frame holds a column of this name and type, among others
+abbrev pub Holds : Frame → Name × DataType → Type 0
+Holds f c = (vs : List Value) × (column f c.0 ≡ Some vs) × (length vs ≡ f.height) × AllOf c.1 vs
+
+-- a frame holds each of these columns
+abbrev pub HoldsAll : Frame → Columns → Type 0
+HoldsAll f s = AllByRecursion (Holds f) s
+
+-- the value in a row, null where there is no such row
+abbrev pub row : List Value → ℕ → Value
+row [] i = null
+row (v ∷ vs) zero = v
+row (v ∷ vs) (suc i) = row vs i
+
+-- the values in these rows, in this order
+abbrev pub picked : List ℕ → List Value → List Value
+picked rows vs = map (row vs) rows
+
+-- the columns cut to these rows, in this order
+abbrev pub picked_columns : List ℕ → List Column → List Column
+picked_columns rows cs = map (λ (c : Column). record { name = c.name; values = picked rows c.values }) cs
+
+-- the frame of these rows of a frame, in this order
+abbrev pub rows_at : List ℕ → Frame → Frame
+rows_at rows f = record { height = length rows; columns = picked_columns rows f.columns }
+
+-- columns of these names, each with the values that a function gives it
+abbrev pub table_columns : List Name → (Name → List Value) → List Column
+table_columns names values = map (λ (a : Name). record { name = a; values = values a }) names
+
+-- the frame of these names, each with the values that a function gives it
+abbrev pub table : ℕ → List Name → (Name → List Value) → Frame
+table h names values = record { height = h; columns = table_columns names values }
+
+-- the frame cut to these names, in this order
+abbrev pub cut : List Name → Frame → Frame
+cut names f = table f.height names (column_or f)
+
+-- two frames of one height: each of these columns of the second is in the first, as it is called there
+pub record AgreeBy (now : Name → Name) (names : List Name) (f g : Frame) : Type 0 where
+  pub height : f.height ≡ g.height
+  pub same : (a : Name) → has names a ≡ true → column f (now a) ≡ column g a
+
+-- two frames of one height with the same columns of these names
+abbrev pub Agree : List Name → Frame → Frame → Type 0
+Agree names f g = AgreeBy (λ a. a) names f g

@@ -1,0 +1,67 @@
+//! Laws of what plans mean, as the contracts of functions that do nothing.
+ghost use Rattle.std.specs.Prelude.{◌≡◌, List, None, Ok, Some};
+ghost use Rattle.plan_core.specs.declared.arena.Node.{Node};
+ghost use Rattle.plan_core.specs.Columns.{Columns};
+ghost use Rattle.plan_core.specs.declared.data_type.DataType.{DataType};
+ghost use Rattle.plan_ir.specs.declared.expr.AExpr.{AExpr};
+ghost use Rattle.plan_ir.specs.declared.ir.IR.{IR};
+ghost use Rattle.plan_ir.specs.Parts.{IsPlan};
+ghost use Rattle.plan_ir.specs.Plans.{Expr, Plan};
+ghost use Rattle.plan_meaning.specs.Exprs.{leaves, expr_type};
+ghost use Rattle.plan_meaning.specs.Typing.{schema};
+ghost use Rattle.plan_meaning.specs.TreeFaults.{tree_fault};
+ghost use Rattle.plan_meaning.specs.Typed.{typed};
+ghost use Rattle.plan_meaning.specs.PlanAt.{plan_at};
+ghost use Rattle.plan_meaning.specs.Frames.{Frame, HasSchema, Agree};
+ghost use Rattle.plan_meaning.specs.Meaning.{val, CellHas};
+ghost use Rattle.plan_meaning.specs.Contents.{Contents, Fits};
+ghost use Rattle.plan_meaning.specs.Steps.{May, IsValid};
+ghost use Rattle.plan_meaning.specs.Relating.{Refines, Replaced};
+ghost use Rattle.plan_meaning.specs.Asked.{AllSites, SiteFair};
+
+/// What an expression means depends only on the height of a frame and on the columns that it reads.
+pub fn meaning_depends_on_leaves()
+    ensures { (e : Expr) (f g : Frame) → Agree (leaves e) f g → val e f ≡ val e g }
+{}
+
+/// The values of an expression that has a type are of it, and one or as many as there are rows.
+pub fn values_have_their_type()
+    ensures { (e : Expr) (s : Columns) (f : Frame) (t : DataType) → HasSchema f s → expr_type e s ≡ Some t → CellHas t f.height (val e f) }
+{}
+
+/// A frame that a valid plan may give has the plan's columns.
+pub fn frames_have_their_schema()
+    ensures { (c : Contents) (p : Plan) (f : Frame) → IsValid p → Fits c p → May c p f → HasSchema f (schema p) }
+{}
+
+/// A valid plan has a run over all contents that fit it.
+pub fn valid_plans_have_a_run()
+    ensures { (c : Contents) (p : Plan) → IsValid p → Fits c p → (f : Frame) × May c p f }
+{}
+
+/// A valid plan refines itself.
+pub fn refines_is_reflexive()
+    ensures { (p : Plan) → IsValid p → Refines p p }
+{}
+
+/// What refines a plan that refines another refines the other.
+pub fn refines_is_transitive()
+    ensures { (r q p : Plan) → Refines r q → Refines q p → Refines r p }
+{}
+
+/// A valid plan is refined by itself with a subplan replaced by one that refines it.
+pub fn refines_where_a_subplan_does()
+    ensures { (q p u t : Plan) → Refines q p → IsValid t → Replaced q p u t → Refines u t }
+{}
+
+/// In a valid plan the names that a scan is asked are among its output names, and it reads what it may read for them.
+pub fn scans_are_asked_what_they_hold()
+    ensures { (p : Plan) → IsValid p → AllSites SiteFair p }
+{}
+
+/// A plan in two arenas is accepted, where its numbers are good, exactly if it is valid, and then with its columns.
+pub fn accepted_plans_are_valid()
+    ensures valid { (lp : List IR) (ex : List AExpr) (root : Node) (s : Columns) → IsPlan lp ex root → typed lp ex root ≡ Ok s → IsValid (plan_at lp ex root) }
+    ensures schema { (lp : List IR) (ex : List AExpr) (root : Node) (s : Columns) → IsPlan lp ex root → typed lp ex root ≡ Ok s → schema (plan_at lp ex root) ≡ s }
+    ensures accepted { (lp : List IR) (ex : List AExpr) (root : Node) → IsPlan lp ex root → tree_fault lp ex root ≡ None → IsValid (plan_at lp ex root) → typed lp ex root ≡ Ok (schema (plan_at lp ex root)) }
+{}

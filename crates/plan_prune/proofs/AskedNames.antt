@@ -1,0 +1,82 @@
+-- Lists of asked names, of which none stands for everything, against what is asked.
+use Rattle.std.proofs.Common.{◌≡◌, Bool, true, false, cond, List, [], ◌∷◌, ◌++◌, Option, refl, sym, ap, ap₂, ◌∙◌, subst}
+use Rattle.std.specs.List.{filter as only_where}
+use Rattle.plan_core.specs.declared.data_type.DataType.{DataType}
+use Rattle.plan_core.specs.Columns.{Columns, names_of}
+use Rattle.plan_core.specs.Names.{has, with_names}
+use Rattle.plan_tree.specs.Rose.{Rose, Roses, rose, no_roses, more}
+use Rattle.plan_ir.specs.Plans.{ExprOp, column, literal, binary, Expr, Op, filter, scan, simple_projection, invalid, Named, Plan}
+use Rattle.plan_meaning.specs.Exprs.{own_leaves, leaves, leaves_all}
+use Rattle.plan_meaning.specs.Typing.{is_empty, schema_by, schemas, checks, AllHold}
+use Rattle.plan_meaning.specs.Relating.{Asked, all, names, cached}
+use Rattle.plan_meaning.specs.Asked.{set_of, with_more, asks_columns, asks as asks_of, IsFair} 
+use Rattle.plan_meaning.specs.Asked as asked
+use Rattle.plan_meaning.proofs.NameSets.{has_first, keeps_names}
+use Rattle.plan_meaning.proofs.Fairness.{some_name, fair_asks, FairAll}
+use Rattle.plan_prune.specs.Leaves.{Name, own_names, names_in, names_in_all}
+use Rattle.plan_prune.specs.Pruned.{asked_with, kept, asks}
+
+own-is : (op : ExprOp) → own_names op ≡ own_leaves op
+own-is (column name) = refl
+own-is (literal value) = refl
+own-is (binary op) = refl
+
+mutual
+  names_in-is : (e : Expr) → names_in e ≡ leaves e
+  names_in-is (rose n op es) = ap₂ (λ (x y : List Name). x ++ y) (own-is op) (names_in_all-is es)
+
+  names_in_all-is : (es : Roses (Unit {0}) ExprOp) → names_in_all es ≡ leaves_all es
+  names_in_all-is no_roses = refl
+  names_in_all-is (more e es) = ap₂ (λ (x y : List Name). x ++ y) (names_in-is e) (names_in_all-is es)
+
+pub set_some : (l : List Name) → is_empty l ≡ false → set_of l ≡ names l
+set_some [] e = cc
+set_some (a ∷ l) e = refl
+
+-- all columns are kept where everything is asked
+
+pub kept_all : (cs : Columns) → asked.kept all cs ≡ cs
+kept_all [] = refl
+kept_all (c ∷ cs) = ap (λ (x : Columns). c ∷ x) (kept_all cs)
+
+pub kept_cached : (cs : Columns) → asked.kept cached cs ≡ cs
+kept_cached [] = refl
+kept_cached (c ∷ cs) = ap (λ (x : Columns). c ∷ x) (kept_cached cs)
+
+pub kept-is : (l : List Name) (cs : Columns) → kept l cs ≡ asked.kept (set_of l) cs
+kept-is [] cs = sym (kept_all cs)
+kept-is (a ∷ l) cs = refl
+
+more-is : (l others : List Name) → with_more others (set_of l) ≡ set_of (asked_with l others)
+more-is [] others = refl
+more-is (a ∷ l) others = sym (set_some (with_names (a ∷ l) others) (some_name (with_names (a ∷ l) others) a (keeps_names (a ∷ l) others a (has_first a l))))
+
+-- what a filter asks
+pub filter_asks : (p : Named) (l : List Name) → with_more (leaves p.expr) (set_of l) ≡ set_of (asks l (filter p))
+filter_asks p l = more-is l (leaves p.expr) ∙ ap (λ (x : List Name). set_of (asked_with l x)) (sym (names_in-is p.expr))
+
+-- what a projection asks
+pub projection_asks : (cs : Columns) (l : List Name) → asks_columns cs (set_of l) ≡ set_of (asks l (simple_projection cs))
+projection_asks cs [] = ap (λ (x : Columns). set_of (with_names [] (names_of x))) (kept_all cs)
+projection_asks cs (a ∷ l) = refl
+
+-- the same asked of each of some plans
+abbrev pub each_asked : Asked → Roses (Unit {0}) Op → List Asked
+each_asked a no_roses = []
+each_asked a (more p rest) = a ∷ each_asked a rest
+
+-- what a node asks its inputs
+pub asks-each : (l : List Name) (op : Op) (ts : Roses (Unit {0}) Op) → AllHold (checks op (schemas ts)) → asks_of op (set_of l) (schemas ts) ≡ each_asked (set_of (asks l op)) ts
+asks-each l (filter p) (more (rose n op us) no_roses) good = ap (λ (x : Asked). x ∷ []) (filter_asks p l)
+asks-each l (filter p) (more (rose n op us) (more (rose m o vs) rest)) good = cc
+asks-each l (filter p) no_roses good = cc
+asks-each l (simple_projection cs) (more (rose n op us) no_roses) good = ap (λ (x : Asked). x ∷ []) (projection_asks cs l)
+asks-each l (simple_projection cs) (more (rose n op us) (more (rose m o vs) rest)) good = cc
+asks-each l (simple_projection cs) no_roses good = cc
+asks-each l (scan sources info predicate output kind options) no_roses good = refl
+asks-each l (scan sources info predicate output kind options) (more (rose n op us) rest) good = cc
+asks-each l invalid ts good = cc
+
+-- what a node asks can be asked of its inputs
+pub fair_each : (l : List Name) (op : Op) (ts : Roses (Unit {0}) Op) → AllHold (checks op (schemas ts)) → IsFair (set_of l) (schema_by op (schemas ts)) → FairAll (each_asked (set_of (asks l op)) ts) (schemas ts)
+fair_each l op ts good f = subst (λ (x : List Asked). FairAll x (schemas ts)) (asks-each l op ts good) (fair_asks op (set_of l) (schemas ts) good f)

@@ -1,0 +1,29 @@
+-- What is said of a pruned plan, said of what stands at a number that was pruned.
+use Rattle.std.proofs.Common.{◌≡◌, ◌≤◌, ◌+◌, ℕ, Bool, List, [], refl, ap, sym, subst, ◌∙◌}
+use Rattle.plan_tree.specs.Rose.{Rose, Roses, rose, no_roses, more}
+use Rattle.plan_ir.specs.Plans.{Op, Plan}
+use Rattle.plan_meaning.specs.Steps.{IsValid}
+use Rattle.plan_meaning.specs.Relating.{all, Refines}
+use Rattle.plan_meaning.specs.Asked.{sites_of}
+use Rattle.plan_meaning.specs.PlanAt.{one_plan}
+use Rattle.plan_prune.specs.Pruned.{pruned, pruned_all}
+use Rattle.plan_prune.specs.Reads.{ReadWithin, scans, nodes, tops}
+use Rattle.plan_prune.proofs.PrunedNarrows.{pruned_refines}
+use Rattle.plan_prune.proofs.PrunedReads.{pruned_reads, pruned_nodes}
+
+module _ (top : Bool) (old new : Roses (Unit {0}) Op) (is : new ≡ pruned_all top [] old) (v : IsValid (one_plan old)) where
+  pruned_at : (ts : Roses (Unit {0}) Op) → IsValid (one_plan ts) → one_plan (pruned_all top [] ts) ≡ pruned top [] (one_plan ts)
+  pruned_at no_roses w = cc
+  pruned_at (more p rest) w = refl
+
+  here : one_plan new ≡ pruned top [] (one_plan old)
+  here = ap one_plan is ∙ pruned_at old v
+
+  pub refines_at : Refines (one_plan new) (one_plan old)
+  refines_at = subst (λ (x : Plan). Refines x (one_plan old)) (sym here) (pruned_refines top (one_plan old) v)
+
+  pub reads_at : ReadWithin (scans (one_plan new)) (sites_of (one_plan old))
+  reads_at = subst (λ (x : Plan). ReadWithin (scans x) (sites_of (one_plan old))) (sym here) (pruned_reads top (one_plan old) v)
+
+  pub nodes_at : nodes (one_plan new) ≤ nodes (one_plan old) + tops (one_plan old) all
+  nodes_at = subst (λ (x : Plan). nodes x ≤ nodes (one_plan old) + tops (one_plan old) all) (sym here) (pruned_nodes top (one_plan old) v)

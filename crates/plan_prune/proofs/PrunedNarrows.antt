@@ -1,0 +1,130 @@
+-- A pruned plan narrows: one case for each kind of node, and one induction.
+use Rattle.std.proofs.Common.{◌≡◌, Bool, true, false, cond, List, [], ◌∷◌, Option, Some, refl, sym, ap, ◌∙◌, subst}
+use Rattle.plan_core.specs.declared.options.FileScanOptions.{FileScanOptions}
+use Rattle.plan_core.specs.Columns.{Columns, names_of}
+use Rattle.plan_core.specs.Names.{with_names}
+use Rattle.plan_tree.specs.Rose.{Rose, Roses, rose, no_roses, more}
+use Rattle.plan_ir.specs.declared.scan.FileInfo.{FileInfo}
+use Rattle.plan_ir.specs.declared.scan.FileScan.{FileScan}
+use Rattle.plan_ir.specs.declared.scan.ScanSources.{ScanSources}
+use Rattle.plan_ir.specs.Plans.{Op, filter, scan, simple_projection, invalid, Named, Plan}
+use Rattle.plan_meaning.specs.Exprs.{leaves}
+use Rattle.plan_meaning.specs.Typing.{columns_or, file_columns, schema_by, schema, schemas, checks, AllHold, AllValid}
+use Rattle.plan_meaning.specs.Frames.{Frame}
+use Rattle.plan_meaning.specs.Steps.{IsValid}
+use Rattle.plan_meaning.specs.Relating.{Refines, Asked, all, names, cached, NarrowColumns, AgreeOn, Narrows}
+use Rattle.plan_meaning.specs.Asked.{set_of, with_more, IsFair}
+use Rattle.plan_meaning.specs.Asked as asked
+use Rattle.plan_meaning.proofs.Refining.{relates_refines}
+use Rattle.plan_meaning.proofs.Related.{LocalTo, SchemasRelated, AllRelate, relates_node, relates_top}
+use Rattle.plan_meaning.proofs.Fairness.{FairAll}
+use Rattle.plan_prune.specs.Leaves.{Name}
+use Rattle.plan_prune.specs.Pruned.{asked_with, kept, typed_names, reading, projected, asks, rebuilt, pruned, pruned_all}
+use Rattle.plan_prune.proofs.AskedNames.{set_some, kept-is, filter_asks, each_asked, fair_each}
+use Rattle.plan_prune.proofs.NarrowLemmas.{Local, same_none, local_filter}
+use Rattle.plan_prune.proofs.ProjectionNarrows.{local_columns, asked_some}
+use Rattle.plan_prune.proofs.ScanNarrows.{local_scan, left_holds, top_good, top_agrees}
+
+abbrev pub NarrowSchemas : List Asked → List Columns → List Columns → Type 0
+NarrowSchemas = SchemasRelated Asked NarrowColumns AgreeOn
+
+-- plans narrow others, one for one
+abbrev pub AllNarrow : List Asked → Roses (Unit {0}) Op → Roses (Unit {0}) Op → Type 0
+AllNarrow = AllRelate Asked NarrowColumns AgreeOn
+
+one_here : (o op : Op) (a b : Asked) (s : Columns) (rs : List Columns) → NarrowSchemas (a ∷ []) rs (s ∷ []) → ((r : Columns) → NarrowColumns a r s → Local o op (a ∷ []) b (r ∷ []) (s ∷ [])) → Local o op (a ∷ []) b rs (s ∷ [])
+one_here o op a b s (r ∷ []) h by = by r h.0
+one_here o op a b s [] h by = absurd h
+one_here o op a b s (r ∷ r' ∷ rs) h by = absurd h.1
+
+none_here : (o op : Op) (b : Asked) (rs : List Columns) → NarrowSchemas [] rs [] → Local o op [] b [] [] → Local o op [] b rs []
+none_here o op b [] h l = l
+none_here o op b (r ∷ rs) h l = absurd h
+
+-- filters
+
+filter_narrows : (p : Named) (l : List Name) (rs : Roses (Unit {0}) Op) (t : Plan) (s : Columns) → schemas (more t no_roses) ≡ s ∷ [] → IsValid (rose tt (filter p) (more t no_roses)) → AllNarrow (set_of (asks l (filter p)) ∷ []) rs (more t no_roses) → Narrows (rose tt (filter p) rs) (rose tt (filter p) (more t no_roses)) (set_of l)
+filter_narrows p l rs t s is v h =
+    let a = set_of (asks l (filter p)) in
+    let good : AllHold (checks (filter p) (s ∷ [])) = subst (λ (ss : List Columns). AllHold (checks (filter p) ss)) is v.0 in
+    relates_node Asked NarrowColumns AgreeOn (filter p) (filter p) (a ∷ []) (set_of l) rs (more t no_roses) v h (λ k.
+    subst (λ (ss : List Columns). Local (filter p) (filter p) (a ∷ []) (set_of l) (schemas rs) ss) (sym is)
+    (one_here (filter p) (filter p) a (set_of l) s (schemas rs) (subst (λ (ss : List Columns). NarrowSchemas (a ∷ []) (schemas rs) ss) is k) (λ r q.
+    subst (λ (x : Asked). Local (filter p) (filter p) (x ∷ []) (set_of l) (r ∷ []) (s ∷ [])) (filter_asks p l)
+    (local_filter p (set_of l) r s good (subst (λ (x : Asked). NarrowColumns x r s) (sym (filter_asks p l)) q)))))
+
+-- projections
+
+local_kept : (cs : Columns) (l : List Name) (r s : Columns) → AllHold (checks (simple_projection cs) (s ∷ [])) → IsFair (set_of l) cs → NarrowColumns (set_of (asks l (simple_projection cs))) r s → Local (simple_projection (kept l cs)) (simple_projection cs) (set_of (asks l (simple_projection cs)) ∷ []) (set_of l) (r ∷ []) (s ∷ [])
+local_kept cs l r s good fair h =
+    let ks = asked.kept (set_of l) cs in
+    let is : set_of (asks l (simple_projection cs)) ≡ names (with_names [] (names_of ks)) =
+        ap (λ (x : Columns). set_of (with_names [] (names_of x))) (kept-is l cs) ∙ set_some (with_names [] (names_of ks)) (asked_some cs (set_of l) s good fair) in
+    subst (λ (x : Asked). Local (simple_projection (kept l cs)) (simple_projection cs) (x ∷ []) (set_of l) (r ∷ []) (s ∷ [])) (sym is)
+    (subst (λ (x : Columns). Local (simple_projection x) (simple_projection cs) (names (with_names [] (names_of ks)) ∷ []) (set_of l) (r ∷ []) (s ∷ [])) (sym (kept-is l cs))
+    (local_columns cs (set_of l) r s good fair (subst (λ (x : Asked). NarrowColumns x r s) is h)))
+
+projection_narrows : (cs : Columns) (l : List Name) (rs : Roses (Unit {0}) Op) (t : Plan) (s : Columns) → schemas (more t no_roses) ≡ s ∷ [] → IsValid (rose tt (simple_projection cs) (more t no_roses)) → IsFair (set_of l) cs → AllNarrow (set_of (asks l (simple_projection cs)) ∷ []) rs (more t no_roses) → Narrows (rose tt (simple_projection (kept l cs)) rs) (rose tt (simple_projection cs) (more t no_roses)) (set_of l)
+projection_narrows cs l rs t s is v fair h =
+    let o = simple_projection (kept l cs) in
+    let op = simple_projection cs in
+    let a = set_of (asks l op) in
+    let good : AllHold (checks op (s ∷ [])) = subst (λ (ss : List Columns). AllHold (checks op ss)) is v.0 in
+    relates_node Asked NarrowColumns AgreeOn o op (a ∷ []) (set_of l) rs (more t no_roses) v h (λ k.
+    subst (λ (ss : List Columns). Local o op (a ∷ []) (set_of l) (schemas rs) ss) (sym is)
+    (one_here o op a (set_of l) s (schemas rs) (subst (λ (ss : List Columns). NarrowSchemas (a ∷ []) (schemas rs) ss) is k) (λ r q. local_kept cs l r s good fair q)))
+
+-- scans
+
+module _ (sources : ScanSources) (info : FileInfo) (predicate : Option Named) (output : Option Columns) (kind : FileScan) (options : FileScanOptions) (rs : Roses (Unit {0}) Op) (v : IsValid (rose tt (scan sources info predicate output kind options) no_roses)) (h : AllNarrow [] rs no_roses) where
+  abbrev given : Op
+  given = scan sources info predicate output kind options
+
+  whole_scan : Narrows (rose tt (scan sources info predicate output kind options) rs) (rose tt (scan sources info predicate output kind options) no_roses) all
+  whole_scan = relates_node Asked NarrowColumns AgreeOn given given [] all rs no_roses v h (λ k. none_here given given all (schemas rs) k (same_none given v.0))
+
+  module _ (wanted : List Name) (fair : IsFair (names wanted) (columns_or output (file_columns info))) where
+    abbrev left : Op
+    left = scan sources info predicate (Some (typed_names info.schema wanted)) kind (reading wanted options)
+
+    bare_scan : Narrows (rose tt (scan sources info predicate (Some (typed_names info.schema wanted)) kind (reading wanted options)) rs) (rose tt (scan sources info predicate output kind options) no_roses) (names wanted)
+    bare_scan = relates_node Asked NarrowColumns AgreeOn left given [] (names wanted) rs no_roses v h (λ k. none_here left given (names wanted) (schemas rs) k (local_scan sources info predicate output kind options wanted v.0 fair))
+
+    top_scan : (top : Bool) → Narrows (projected top (typed_names info.schema wanted) (rose tt (scan sources info predicate (Some (typed_names info.schema wanted)) kind (reading wanted options)) rs)) (rose tt (scan sources info predicate output kind options) no_roses) (names wanted)
+    top_scan false = bare_scan
+    top_scan true =
+        relates_top Asked NarrowColumns AgreeOn (simple_projection (typed_names info.schema wanted)) (names wanted) (names wanted) (rose tt left rs) (rose tt given no_roses)
+        (top_good sources info predicate output kind options wanted v.0 fair) (left_holds sources info predicate output kind options wanted v.0 fair) (λ c. tt)
+        (λ c f g x has ag st. top_agrees sources info predicate output kind options wanted v.0 fair f g x has.0 ag st) v bare_scan
+
+scan_narrows : (top : Bool) (l : List Name) (sources : ScanSources) (info : FileInfo) (predicate : Option Named) (output : Option Columns) (kind : FileScan) (options : FileScanOptions) (rs : Roses (Unit {0}) Op) → IsValid (rose tt (scan sources info predicate output kind options) no_roses) → IsFair (set_of l) (columns_or output (file_columns info)) → AllNarrow [] rs no_roses → Narrows (rebuilt top l (scan sources info predicate output kind options) rs) (rose tt (scan sources info predicate output kind options) no_roses) (set_of l)
+scan_narrows top [] sources info predicate output kind options rs v fair h = whole_scan sources info predicate output kind options rs v h
+scan_narrows top (a ∷ l) sources info predicate output kind options rs v fair h = top_scan sources info predicate output kind options rs v h (a ∷ l) fair top
+
+-- a node that is rebuilt over inputs that narrow at what it asks narrows at what it is asked
+rebuilt_narrows : (top : Bool) (l : List Name) (op : Op) (rs ts : Roses (Unit {0}) Op) → IsValid (rose tt op ts) → IsFair (set_of l) (schema_by op (schemas ts)) → AllNarrow (each_asked (set_of (asks l op)) ts) rs ts → Narrows (rebuilt top l op rs) (rose tt op ts) (set_of l)
+rebuilt_narrows top l (filter p) rs (more (rose n o us) no_roses) v fair h = filter_narrows p l rs (rose n o us) (schema_by o (schemas us)) refl v h
+rebuilt_narrows top l (filter p) rs (more (rose n o us) (more (rose m o' us') rest)) v fair h = cc
+rebuilt_narrows top l (filter p) rs no_roses v fair h = cc
+rebuilt_narrows top l (simple_projection cs) rs (more (rose n o us) no_roses) v fair h = projection_narrows cs l rs (rose n o us) (schema_by o (schemas us)) refl v fair h
+rebuilt_narrows top l (simple_projection cs) rs (more (rose n o us) (more (rose m o' us') rest)) v fair h = cc
+rebuilt_narrows top l (simple_projection cs) rs no_roses v fair h = cc
+rebuilt_narrows top l (scan sources info predicate output kind options) rs no_roses v fair h = scan_narrows top l sources info predicate output kind options rs v fair h
+rebuilt_narrows top l (scan sources info predicate output kind options) rs (more (rose n o us) rest) v fair h = cc
+rebuilt_narrows top l invalid rs ts v fair h = cc
+
+-- pruned plans narrow at what they are asked
+pub all_narrow : (top : Bool) (l : List Name) (ts : Roses (Unit {0}) Op) → AllValid ts → FairAll (each_asked (set_of l) ts) (schemas ts) → AllNarrow (each_asked (set_of l) ts) (pruned_all top l ts) ts
+all_narrow top l no_roses v f = tt
+all_narrow top l (more (rose n op ts) rest) v f = (
+  rebuilt_narrows top l op (pruned_all top (asks l op) ts) ts (v.0, v.1) f.0 (all_narrow top (asks l op) ts v.1 (fair_each l op ts v.0 f.0)),
+  all_narrow top l rest v.2 f.1,
+)
+
+-- a pruned plan narrows at what it is asked
+pub pruned_narrows : (top : Bool) (l : List Name) (p : Plan) → IsValid p → IsFair (set_of l) (schema p) → Narrows (pruned top l p) p (set_of l)
+pruned_narrows top l (rose n op ts) v f = (all_narrow top l (more (rose n op ts) no_roses) (v.0, v.1, tt) (f, tt)).0
+
+-- a plan that is pruned to everything refines
+pub pruned_refines : (top : Bool) (p : Plan) → IsValid p → Refines (pruned top [] p) p
+pruned_refines top p v = relates_refines (pruned top [] p) p (pruned_narrows top [] p v tt)

@@ -1,0 +1,76 @@
+-- A pruned plan scans the same sources, reads only what is asked, and has few nodes more.
+use Rattle.std.proofs.Common.{◌≡◌, ℕ, suc, ◌+◌, ◌≤◌, Bool, true, false, List, [], ◌∷◌, ◌++◌, refl, sym, ap, ◌∙◌, subst, append-nil, append_assoc, arith}
+use Rattle.plan_core.specs.Columns.{Columns}
+use Rattle.plan_core.specs.Names.{has}
+use Rattle.plan_tree.specs.Rose.{Rose, Roses, rose, no_roses, more, size}
+use Rattle.plan_ir.specs.Plans.{Op, filter, scan, simple_projection, invalid, Plan}
+use Rattle.plan_meaning.specs.Typing.{schemas, AllValid}
+use Rattle.plan_meaning.specs.Steps.{IsValid}
+use Rattle.plan_meaning.specs.Relating.{Asked, all, names, cached}
+use Rattle.plan_meaning.specs.Asked.{set_of, asks as asks_of, Site, own_site, sites, sites_of}
+use Rattle.plan_prune.specs.Leaves.{Name}
+use Rattle.plan_prune.specs.Pruned.{asks, rebuilt, pruned, pruned_all}
+use Rattle.plan_prune.specs.Reads.{own_scan, scans, scans_in, ReadWithin, nodes, own_tops, tops_in, tops}
+use Rattle.plan_prune.proofs.AskedNames.{each_asked, asks-each}
+
+reads_append : (os us : List Op) (ss zs : List Site) → ReadWithin os ss → ReadWithin us zs → ReadWithin (os ++ us) (ss ++ zs)
+reads_append [] us [] zs h k = k
+reads_append (o ∷ os) us (s ∷ ss) zs h k = (h.0, h.1, reads_append os us ss zs h.2 k)
+reads_append [] us (s ∷ ss) zs h k = absurd h
+reads_append (o ∷ os) us [] zs h k = absurd h
+
+-- per node: what it scans
+rebuilt_reads : (top : Bool) (l : List Name) (op : Op) (rs : Roses (Unit {0}) Op) (zs : List Site) → ReadWithin (scans_in rs) zs → ReadWithin (scans (rebuilt top l op rs)) (own_site op (set_of l) ++ zs)
+rebuilt_reads top l (filter p) rs zs h = h
+rebuilt_reads top l (simple_projection cs) rs zs h = h
+rebuilt_reads top l invalid rs zs h = h
+rebuilt_reads top [] (scan sources info predicate output kind options) rs zs h = ((refl, refl), (λ a i. i), h)
+rebuilt_reads false (b ∷ l) (scan sources info predicate output kind options) rs zs h = ((refl, refl), (λ a i. i), h)
+rebuilt_reads true (b ∷ l) (scan sources info predicate output kind options) rs zs h =
+    ((refl, refl), (λ a i. i), subst (λ (os : List Op). ReadWithin os zs) (sym (append-nil (scans_in rs))) h)
+
+-- the scans of pruned plans stand one for one for those of the plans, and read what is asked of them
+all_read : (top : Bool) (l : List Name) (ts : Roses (Unit {0}) Op) → AllValid ts → ReadWithin (scans_in (pruned_all top l ts)) (sites ts (each_asked (set_of l) ts))
+all_read top l no_roses v = tt
+all_read top l (more (rose n op ts) rest) v =
+    let a = set_of l in
+    let own = own_site op a in
+    let below = sites ts (asks_of op a (schemas ts)) in
+    let others = sites rest (each_asked a rest) in
+    let under = subst (λ (x : List Asked). ReadWithin (scans_in (pruned_all top (asks l op) ts)) (sites ts x)) (sym (asks-each l op ts v.0)) (all_read top (asks l op) ts v.1) in
+    let here = rebuilt_reads top l op (pruned_all top (asks l op) ts) below under in
+    subst (λ (x : List Site). ReadWithin (scans_in (pruned_all top l (more (rose n op ts) rest))) x) (append_assoc own below others)
+    (reads_append (scans (rebuilt top l op (pruned_all top (asks l op) ts))) (scans_in (pruned_all top l rest)) (own ++ below) others here (all_read top l rest v.2))
+
+pub pruned_reads : (top : Bool) (p : Plan) → IsValid p → ReadWithin (scans (pruned top [] p)) (sites_of p)
+pruned_reads top (rose n op ts) v =
+    subst (λ (os : List Op). ReadWithin os (sites_of (rose n op ts))) (append-nil (scans (pruned top [] (rose n op ts)))) (all_read top [] (more (rose n op ts) no_roses) (v.0, v.1, tt))
+
+-- nodes
+
+size-more : (p : Plan) (ps : Roses (Unit {0}) Op) → size (more p ps) ≡ nodes p + size ps
+size-more (rose n op ts) ps = omega arith
+
+-- per node: a projection more on a scan that is asked names
+rebuilt_nodes : (top : Bool) (l : List Name) (op : Op) (ss : List Columns) (rs : Roses (Unit {0}) Op) → nodes (rebuilt top l op rs) ≤ 1 + own_tops op (set_of l) ss + size rs
+rebuilt_nodes top l (filter p) ss rs = omega arith
+rebuilt_nodes top l (simple_projection cs) ss rs = omega arith
+rebuilt_nodes top l invalid ss rs = omega arith
+rebuilt_nodes top [] (scan sources info predicate output kind options) ss rs = omega arith
+rebuilt_nodes false (b ∷ l) (scan sources info predicate output kind options) ss rs = omega arith
+rebuilt_nodes true (b ∷ l) (scan sources info predicate output kind options) ss rs = omega arith
+
+all_nodes : (top : Bool) (l : List Name) (ts : Roses (Unit {0}) Op) → AllValid ts → size (pruned_all top l ts) ≤ size ts + tops_in ts (each_asked (set_of l) ts)
+all_nodes top l no_roses v = omega arith
+all_nodes top l (more (rose n op ts) rest) v =
+    let a = set_of l in
+    let rs = pruned_all top (asks l op) ts in
+    let split : size (pruned_all top l (more (rose n op ts) rest)) ≡ nodes (rebuilt top l op rs) + size (pruned_all top l rest) = size-more (rebuilt top l op rs) (pruned_all top l rest) in
+    let here = rebuilt_nodes top l op (schemas ts) rs in
+    let under : size rs ≤ size ts + tops_in ts (asks_of op a (schemas ts)) =
+        subst (λ (x : List Asked). size rs ≤ size ts + tops_in ts x) (sym (asks-each l op ts v.0)) (all_nodes top (asks l op) ts v.1) in
+    let others = all_nodes top l rest v.2 in
+    omega arith
+
+pub pruned_nodes : (top : Bool) (p : Plan) → IsValid p → nodes (pruned top [] p) ≤ nodes p + tops p all
+pruned_nodes top (rose n op ts) v = all_nodes top [] (more (rose n op ts) no_roses) (v.0, v.1, tt)

@@ -1,0 +1,63 @@
+-- The scans of a plan, what they read, and how many nodes pruning may add.
+use Rattle.std.specs.Prelude.{◌≡◌, ℕ, ◌+◌, true, List, [], ◌∷◌, ◌++◌}
+use Rattle.plan_core.specs.Columns.{Columns}
+use Rattle.plan_core.specs.Names.{has}
+use Rattle.plan_tree.specs.Rose.{Rose, Roses, rose, no_roses, more, size}
+use Rattle.plan_ir.specs.Plans.{Op, filter, scan, simple_projection, invalid, Plan}
+use Rattle.plan_meaning.specs.Exprs.{Name}
+use Rattle.plan_meaning.specs.Typing.{schemas}
+use Rattle.plan_meaning.specs.Relating.{Asked, all, names, cached}
+use Rattle.plan_meaning.specs.Asked.{asks, first_asked, rest_asked, reads, allowed, Site}
+
+abbrev pub own_scan : Op → List Op
+own_scan (scan sources info predicate output kind options) = scan sources info predicate output kind options ∷ []
+own_scan (filter predicate) = []
+own_scan (simple_projection columns) = []
+own_scan invalid = []
+
+-- the scans of a plan from left to right
+abbrev mutual
+  pub scans : Plan → List Op
+  scans (rose n op ts) = own_scan op ++ scans_in ts
+
+  pub scans_in : Roses (Unit {0}) Op → List Op
+  scans_in no_roses = []
+  scans_in (more p rest) = scans p ++ scans_in rest
+
+-- two scans are of one kind, over the same sources in the same order
+abbrev pub SameScan : Op → Op → Type 0
+SameScan (scan sources info predicate output kind options) (scan sources' info' predicate' output' kind' options') = (sources ≡ sources') × (kind ≡ kind')
+SameScan _ _ = ⊥
+
+-- the scans stand one for one for those that are asked something, and each reads only what it may for that
+abbrev pub ReadWithin : List Op → List Site → Type 0
+ReadWithin [] [] = Unit {0}
+ReadWithin (o ∷ os) (s ∷ ss) = SameScan o s.at_scan × ((a : Name) → has (reads o) a ≡ true → has (allowed s.at_scan s.asked) a ≡ true) × ReadWithin os ss
+ReadWithin _ _ = ⊥
+
+-- how many nodes a plan has
+abbrev pub nodes : Plan → ℕ
+nodes p = size (more p no_roses)
+
+-- one where names are asked
+abbrev pub one_if_asked : Asked → ℕ
+one_if_asked all = 0
+one_if_asked (names wanted) = 1
+one_if_asked cached = 0
+
+-- the projections that may be put on a node: one on a scan that is asked names
+abbrev pub own_tops : Op → Asked → List Columns → ℕ
+own_tops (scan sources info predicate output kind options) a ss = one_if_asked a
+own_tops (filter predicate) a ss = 0
+own_tops (simple_projection columns) a ss = 0
+own_tops invalid a ss = 0
+
+-- the projections that may be put on the nodes of plans that are asked what the list says
+abbrev pub tops_in : Roses (Unit {0}) Op → List Asked → ℕ
+tops_in no_roses asked = 0
+tops_in (more (rose n op ts) rest) asked =
+    own_tops op (first_asked asked) (schemas ts) + (tops_in ts (asks op (first_asked asked) (schemas ts)) + tops_in rest (rest_asked asked))
+
+-- the projections that may be put on the nodes of a plan
+abbrev pub tops : Plan → Asked → ℕ
+tops p a = tops_in (more p no_roses) (a ∷ [])

@@ -1,0 +1,30 @@
+//! Laws of pruning, as the contracts of functions that do nothing.
+ghost use Rattle.std.specs.Prelude.{◌≡◌, ◌≤◌, ◌+◌, Bool, List, []};
+ghost use Rattle.plan_ir.specs.Plans.{Plan};
+ghost use Rattle.plan_meaning.specs.Typing.{schema};
+ghost use Rattle.plan_meaning.specs.Steps.{IsValid};
+ghost use Rattle.plan_meaning.specs.Relating.{all, Narrows, Refines};
+ghost use Rattle.plan_meaning.specs.Asked.{set_of, sites_of, IsFair};
+ghost use Rattle.plan_prune.specs.Leaves.{Name};
+ghost use Rattle.plan_prune.specs.Pruned.{pruned};
+ghost use Rattle.plan_prune.specs.Reads.{ReadWithin, nodes, scans, tops};
+
+/// A valid plan that is pruned to names of its own narrows at these names.
+pub fn pruned_plans_narrow()
+    ensures { (top : Bool) (asked : List Name) (p : Plan) → IsValid p → IsFair (set_of asked) (schema p) → Narrows (pruned top asked p) p (set_of asked) }
+{}
+
+/// A valid plan of which every column is asked refines itself when it is pruned.
+pub fn pruned_plans_refine()
+    ensures { (top : Bool) (p : Plan) → IsValid p → Refines (pruned top [] p) p }
+{}
+
+/// The scans of a pruned plan stand one for one for those of the plan, and read only what is asked of them.
+pub fn pruned_plans_read_what_is_asked()
+    ensures { (top : Bool) (p : Plan) → IsValid p → ReadWithin (scans (pruned top [] p)) (sites_of p) }
+{}
+
+/// A pruned plan has at most one node more for each scan that is asked names.
+pub fn pruned_plans_have_few_nodes_more()
+    ensures { (top : Bool) (p : Plan) → IsValid p → nodes (pruned top [] p) ≤ nodes p + tops p all }
+{}
