@@ -34,6 +34,7 @@ has-with xs x a = go (has xs x) refl
     there true c h = refl
     there false true h = let u = h refl in cc
     there false false h = refl
+
     go : (b : Bool) → has xs x ≡ b → has (if b then xs else xs ++ x ∷ []) a ≡ (has xs a || bytes_eq a x)
     go true h = there (has xs a) (bytes_eq a x) (λ e. has-same xs a x h e)
     go false h = has-append xs (x ∷ []) a ∙ ap (λ (b : Bool). has xs a || b) (or_false (bytes_eq a x))

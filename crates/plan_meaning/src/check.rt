@@ -5,11 +5,7 @@ mod place;
 mod projection;
 mod scan;
 
-
-
 pub use filter::check_filter;
 pub use place::at;
 pub use projection::check_projection;
 pub use scan::check_scan;
-
-

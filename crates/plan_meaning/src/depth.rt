@@ -35,7 +35,14 @@ fn numbers_of(alloc: Global, steps: &[Step<At>]) -> Result<Items<Node>, AllocErr
 fn expr_roots(alloc: Global, root: Node, lp: &Arena<IR>) -> Result<Items<Node>, AllocError>
     ensures { IfOk result (λ numbers. (t : Trees Nodes) → StandsOnce plan_shape lp.now (root ∷ []) t → numbers ≡ roots_in t) }
 {
-    let nodes = walk(alloc, lp, &[Step { node: root, mark: () }])?;
+    let nodes = walk(
+        alloc,
+        lp,
+        &[Step {
+            node: root,
+            mark: (),
+        }],
+    )?;
     let steps = marked_exprs(alloc, nodes.listed.as_slice(), lp)?;
     Ok(numbers_of(alloc, steps.as_slice())?)
 }

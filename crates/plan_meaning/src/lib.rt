@@ -8,8 +8,8 @@ pub mod laws;
 mod plan;
 mod tree;
 
+pub use check::{check_filter, check_projection, check_scan};
 pub use depth::{Depth, depth_of};
 pub use exprs::{Naming, decided_name, expr_type, may_be_named, reads_only};
-pub use check::{check_filter, check_projection, check_scan};
 pub use plan::{check_nodes, check_plan};
 pub use tree::check_tree;

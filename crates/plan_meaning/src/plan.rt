@@ -75,12 +75,7 @@ fn scan_typed(
 }
 
 /// The columns of the plan at a number, or the first fault among its nodes, inputs before the node.
-fn schema_of(
-    alloc: Global,
-    node: Node,
-    lp: &Arena<IR>,
-    ex: &Arena<AExpr>,
-) -> PolarsResult<Schema>
+fn schema_of(alloc: Global, node: Node, lp: &Arena<IR>, ex: &Arena<AExpr>) -> PolarsResult<Schema>
     requires { IsPlan lp.now ex.now node }
     ensures { IsPlanTyped result (plans_at lp.now ex.now (node ∷ [])) }
 {

@@ -56,16 +56,18 @@ pub fn marked_exprs(
 
 /// Succeeds exactly where `root` leads to a plan. Else it refuses with a `ComputeError` at the first number, in walk
 /// order, that is outside its arena, or of an invalid node, or met before.
-pub fn check_tree(
-    alloc: Global,
-    root: Node,
-    lp: &Arena<IR>,
-    ex: &Arena<AExpr>,
-) -> PolarsResult<()>
+pub fn check_tree(alloc: Global, root: Node, lp: &Arena<IR>, ex: &Arena<AExpr>) -> PolarsResult<()>
     ensures fault { Says result (tree_fault lp.now ex.now root) }
     ensures stands { IfOk result (λ _. IsPlan lp.now ex.now root) }
 {
-    let nodes = walk(alloc, lp, &[Step { node: root, mark: () }])?;
+    let nodes = walk(
+        alloc,
+        lp,
+        &[Step {
+            node: root,
+            mark: (),
+        }],
+    )?;
     let roots = marked_exprs(alloc, nodes.listed.as_slice(), lp)?;
     let exprs = walk(alloc, ex, roots.as_slice())?;
     if let Some(step) = exprs.fault {

@@ -167,7 +167,14 @@ pub fn check_scan(
     let _ = ex;
     match &info.reader_schema {
         Some(file) if is_plain(predicate, options) => {
-            check_scan_columns(alloc, node, output, &options.with_columns, &info.schema, file)
+            check_scan_columns(
+                alloc,
+                node,
+                output,
+                &options.with_columns,
+                &info.schema,
+                file,
+            )
         }
         _ => Err(PolarsError::InvalidOperation(at(node, 0))),
     }

@@ -1,6 +1,5 @@
-use Rattle.std.proofs.Common.{◌≡◌, ◌∙◌, ap, refl, not, Bool}
+use Rattle.std.proofs.Common.{◌∙◌, ap, refl, not}
 use Rattle.std.specs.Prelude.{string_bytes}
-use Rattle.plan_core.specs.Names.{has, with_name}
 use Rattle.plan_core.proofs.NameLemmas.{bytes, has-seen, with-seen, distinct-seen}
 use Rattle.plan_core.proofs.names.Names.add.Goals as goal
 

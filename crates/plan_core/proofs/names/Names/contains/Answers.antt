@@ -1,4 +1,4 @@
-use Rattle.std.proofs.Common.{◌≡◌, ◌∙◌, refl}
+use Rattle.std.proofs.Common.{◌∙◌, refl}
 use Rattle.plan_core.proofs.NameLemmas.{has-seen}
 use Rattle.plan_core.proofs.names.Names.contains.Goals as goal
 
