@@ -12,7 +12,7 @@ use Rattle.plan_meaning.specs.Exprs.{Name, leaves, is_type}
 use Rattle.plan_meaning.specs.Typing.{is_empty, each, is_known, is_column, has_columns, names_or, columns_or, file_columns, all_read, put_out_checks, scan_name_checks, schema_by, schemas, checks, AllHold, AllValid}
 use Rattle.plan_meaning.specs.Steps.{IsValid}
 use Rattle.plan_meaning.specs.Relating.{Asked, all, names, cached}
-use Rattle.plan_meaning.specs.Asked.{asked_names, is_asked, set_of, with_more, kept, asks_columns, asks, first_asked, rest_asked, own_site, sites, reads, allowed, IsFair, SiteFair, AllSites}
+use Rattle.plan_meaning.specs.Asked.{asked_names, is_asked, set_of, with_more, kept, asks_columns, asks, own_site, sites, reads, allowed, IsFair, SiteFair, AllSites}
 use Rattle.plan_meaning.proofs.NameSets.{has_cons, has_first, has_later, some-type_of, keeps_names, from_names, distinct_names, distinct_none}
 use Rattle.plan_meaning.proofs.CheckParts.{hold_front, each_pass, known_leaf, scan_good}
 

@@ -10,7 +10,7 @@ use Rattle.plan_tree.specs.Stands.{Trees, Stands}
 use Rattle.plan_tree.specs.Read.{trees_at}
 use Rattle.plan_tree.proofs.ReadLemmas.{trees_at-is}
 use Rattle.plan_ir.specs.Parts.{plan_shape, IsPlan}
-use Rattle.plan_ir.specs.Plans.{Op, Plan, op_at, plans_of, plans_at, bare}
+use Rattle.plan_ir.specs.Plans.{Op, op_at, plans_of, plans_at, bare}
 use Rattle.plan_meaning.specs.Typing.{Check, at, first_fault, or_fault, faults, schema_by, schema, schemas, first_schema, checks, AllHold, AllValid}
 use Rattle.plan_meaning.specs.TreeFaults.{tree_fault}
 use Rattle.plan_meaning.specs.Typed.{typed, schema_or}
@@ -108,5 +108,5 @@ module _ (lp : List IR) (ex : List AExpr) (root : Node) (h : IsPlan lp ex root) 
       let all : AllValid (more (rose t.0 t.1 t.2) no_roses) = bare-valid (more (rose t.0 t.1 t.2) no_roses) (w.0, w.1, tt) in
       let none : faults ps ≡ None = no_faults ps (subst (λ (x : Roses Node Op). AllValid x) (sym t.3) all) in
       let told : first_schema (schemas ps) ≡ schema (plan_at lp ex root) =
-          ap (λ (x : Roses Node Op). first_schema (schemas x)) t.3 ∙ ap (schema_by t.1) (sym (schemas-bare t.2)) ∙ sym (ap schema here) in
+      ap (λ (x : Roses Node Op). first_schema (schemas x)) t.3 ∙ ap (schema_by t.1) (sym (schemas-bare t.2)) ∙ sym (ap schema here) in
       ap₂ (λ (o : Option PolarsError) (x : Columns). schema_or o x) (ap₂ or_fault good none) told

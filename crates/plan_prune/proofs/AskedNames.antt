@@ -1,15 +1,13 @@
 -- Lists of asked names, of which none stands for everything, against what is asked.
-use Rattle.std.proofs.Common.{◌≡◌, Bool, true, false, cond, List, [], ◌∷◌, ◌++◌, Option, refl, sym, ap, ap₂, ◌∙◌, subst}
-use Rattle.std.specs.List.{filter as only_where}
-use Rattle.plan_core.specs.declared.data_type.DataType.{DataType}
+use Rattle.std.proofs.Common.{◌≡◌, false, List, [], ◌∷◌, ◌++◌, refl, sym, ap, ap₂, ◌∙◌, subst}
 use Rattle.plan_core.specs.Columns.{Columns, names_of}
-use Rattle.plan_core.specs.Names.{has, with_names}
-use Rattle.plan_tree.specs.Rose.{Rose, Roses, rose, no_roses, more}
-use Rattle.plan_ir.specs.Plans.{ExprOp, column, literal, binary, Expr, Op, filter, scan, simple_projection, invalid, Named, Plan}
+use Rattle.plan_core.specs.Names.{with_names}
+use Rattle.plan_tree.specs.Rose.{Roses, rose, no_roses, more}
+use Rattle.plan_ir.specs.Plans.{ExprOp, column, literal, binary, Expr, Op, filter, scan, simple_projection, invalid, Named}
 use Rattle.plan_meaning.specs.Exprs.{own_leaves, leaves, leaves_all}
 use Rattle.plan_meaning.specs.Typing.{is_empty, schema_by, schemas, checks, AllHold}
 use Rattle.plan_meaning.specs.Relating.{Asked, all, names, cached}
-use Rattle.plan_meaning.specs.Asked.{set_of, with_more, asks_columns, asks as asks_of, IsFair} 
+use Rattle.plan_meaning.specs.Asked.{set_of, with_more, asks_columns, asks as asks_of, IsFair}
 use Rattle.plan_meaning.specs.Asked as asked
 use Rattle.plan_meaning.proofs.NameSets.{has_first, keeps_names}
 use Rattle.plan_meaning.proofs.Fairness.{some_name, fair_asks, FairAll}

@@ -1,12 +1,10 @@
 -- A plan worked out: a filter and a projection over a scan of three columns.
-use Rattle.std.proofs.Common.{◌≡◌, ℕ, ℤ, pos, Bool, true, false, List, [], ◌∷◌, Option, Some, None, refl}
+use Rattle.std.proofs.Common.{◌≡◌, ℕ, pos, true, [], ◌∷◌, Option, Some, None, refl}
 use Rattle.std.specs.Prelude.{codes}
-use Rattle.plan_core.specs.declared.data_type.DataType.{DataType}
 use Rattle.plan_core.specs.declared.data_type.DataType.TheVariants as types
 use Rattle.plan_core.specs.declared.options.FileScanOptions.{FileScanOptions}
-use Rattle.plan_core.specs.declared.options.HiveOptions.{HiveOptions}
 use Rattle.plan_core.specs.Columns.{Columns}
-use Rattle.plan_tree.specs.Rose.{Rose, Roses, rose, no_roses, more}
+use Rattle.plan_tree.specs.Rose.{rose, no_roses, more}
 use Rattle.plan_ir.specs.declared.expr.LiteralValue.TheVariants as literals
 use Rattle.plan_ir.specs.declared.expr.Operator.TheVariants.{Gt}
 use Rattle.plan_ir.specs.declared.expr.OutputName.TheVariants.{ColumnLhs}
@@ -15,14 +13,12 @@ use Rattle.plan_ir.specs.declared.scan.FileScan.TheVariants.{Parquet}
 use Rattle.plan_ir.specs.declared.scan.ScanSources.TheVariants.{Paths}
 use Rattle.plan_ir.specs.Plans.{ExprOp, column, literal, binary, Expr, Op, filter, scan, simple_projection, Named, Plan}
 use Rattle.plan_meaning.specs.Values.{Value, whole, text}
-use Rattle.plan_meaning.specs.Frames.{Frame, Column, cut}
+use Rattle.plan_meaning.specs.Frames.{Frame, cut}
 use Rattle.plan_meaning.specs.Contents.{Contents, path, stack, frames_of}
-use Rattle.plan_meaning.specs.Steps.{filtered, IsValid, May}
+use Rattle.plan_meaning.specs.Steps.{filtered, May}
 use Rattle.plan_meaning.specs.Relating.{names}
-use Rattle.plan_meaning.specs.Asked.{sites_of, Site}
-use Rattle.plan_prune.specs.Leaves.{Name}
+use Rattle.plan_meaning.specs.Asked.{sites_of}
 use Rattle.plan_prune.specs.Pruned.{pruned, reading}
-
 
 abbrev n : ℕ → Value
 n i = whole (pos i)
@@ -37,10 +33,13 @@ abbrev columns_a : Columns
 columns_a = (codes "a", types.Int64) ∷ []
 
 abbrev table_t : Frame
-table_t = record { height = 3; columns =
-    record { name = codes "a"; values = n 1 ∷ n 2 ∷ n 3 ∷ [] }
-    ∷ record { name = codes "b"; values = n 2 ∷ n 1 ∷ n 5 ∷ [] }
-    ∷ record { name = codes "c"; values = text (codes "x") ∷ text (codes "y") ∷ text (codes "z") ∷ [] } ∷ [] }
+table_t = record {
+  height = 3;
+  columns =
+      record { name = codes "a"; values = n 1 ∷ n 2 ∷ n 3 ∷ [] }
+      ∷ record { name = codes "b"; values = n 2 ∷ n 1 ∷ n 5 ∷ [] }
+      ∷ record { name = codes "c"; values = text (codes "x") ∷ text (codes "y") ∷ text (codes "z") ∷ [] } ∷ [];
+}
 
 abbrev contents : Contents
 contents = (path (codes "t"), table_t) ∷ []

@@ -1,15 +1,14 @@
 -- What narrowing needs of each kind of node.
-use Rattle.std.proofs.Common.{◌≡◌, ℕ, suc, Bool, true, false, cond, not, ◌&&◌, List, [], ◌∷◌, ◌++◌, map, length, Option, Some, None, unwrap_or, refl, sym, ap, ap₂, ◌∙◌, subst, is_some, ⊎_elim}
-use Rattle.std.specs.List.{AllByRecursion}
+use Rattle.std.proofs.Common.{◌≡◌, ℕ, Bool, true, ◌&&◌, List, [], ◌∷◌, Option, refl, sym, ap, ap₂, ◌∙◌, subst, is_some}
 use Rattle.plan_core.specs.declared.data_type.DataType.{DataType}
-use Rattle.plan_core.specs.Columns.{Columns, names_of, type_of}
+use Rattle.plan_core.specs.Columns.{Columns, type_of}
 use Rattle.plan_core.specs.Names.{has, with_names}
-use Rattle.plan_ir.specs.Plans.{Op, filter, scan, simple_projection, invalid, Named, Expr}
-use Rattle.plan_meaning.specs.Exprs.{Name, leaves, all_known, expr_type, is_type}
-use Rattle.plan_meaning.specs.Typing.{schema_by, checks, AllHold}
+use Rattle.plan_ir.specs.Plans.{Op, filter, Named, Expr}
+use Rattle.plan_meaning.specs.Exprs.{Name, leaves, all_known, is_type}
+use Rattle.plan_meaning.specs.Typing.{checks, AllHold}
 use Rattle.plan_meaning.specs.Frames.{Frame, HasSchema, rows_at, Agree}
 use Rattle.plan_meaning.specs.Meaning.{val}
-use Rattle.plan_meaning.specs.Contents.{Contents, FitsAt}
+use Rattle.plan_meaning.specs.Contents.{Contents}
 use Rattle.plan_meaning.specs.Steps.{Step, true_rows, filtered}
 use Rattle.plan_meaning.specs.Relating.{Asked, all, names, cached, Holding, NarrowColumns, AgreeOn}
 use Rattle.plan_meaning.specs.Asked.{with_more}

@@ -1,6 +1,6 @@
 -- What is said of a pruned plan, said of what stands at a number that was pruned.
-use Rattle.std.proofs.Common.{◌≡◌, ◌≤◌, ◌+◌, ℕ, Bool, List, [], refl, ap, sym, subst, ◌∙◌}
-use Rattle.plan_tree.specs.Rose.{Rose, Roses, rose, no_roses, more}
+use Rattle.std.proofs.Common.{◌≡◌, ◌≤◌, ◌+◌, Bool, [], refl, ap, sym, subst, ◌∙◌}
+use Rattle.plan_tree.specs.Rose.{Roses, no_roses, more}
 use Rattle.plan_ir.specs.Plans.{Op, Plan}
 use Rattle.plan_meaning.specs.Steps.{IsValid}
 use Rattle.plan_meaning.specs.Relating.{all, Refines}

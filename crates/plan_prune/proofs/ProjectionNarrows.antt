@@ -1,5 +1,5 @@
 -- A projection that keeps what is asked narrows.
-use Rattle.std.proofs.Common.{◌≡◌, Bool, true, false, cond, not, List, [], ◌∷◌, ◌++◌, Option, Some, None, refl, sym, ap, ap₂, ◌∙◌, subst, is_some, ⊎_elim, inl, inr}
+use Rattle.std.proofs.Common.{◌≡◌, Bool, true, false, cond, not, [], ◌∷◌, Option, Some, None, refl, sym, ap, ap₂, ◌∙◌, subst, is_some}
 use Rattle.std.specs.List.{AllByRecursion}
 use Rattle.std.specs.Str.{bytes_eq}
 use Rattle.std.proofs.lemmas.Bool.{both_ways}
@@ -12,10 +12,10 @@ use Rattle.plan_meaning.specs.Exprs.{is_type}
 use Rattle.plan_meaning.specs.Typing.{is_empty, is_known, is_column, each, checks, AllHold}
 use Rattle.plan_meaning.specs.Frames.{Frame, cut, column_or, Agree}
 use Rattle.plan_meaning.specs.Relating.{Asked, all, names, cached, Holding, NarrowColumns, AgreeOn}
-use Rattle.plan_meaning.specs.Asked.{is_asked, kept, Fair, IsFair}
-use Rattle.plan_meaning.proofs.NameSets.{named, has_cons, has_first, has_later, some-type_of, adds_names}
+use Rattle.plan_meaning.specs.Asked.{is_asked, kept, IsFair}
+use Rattle.plan_meaning.proofs.NameSets.{named, has_first, has_later, some-type_of, adds_names}
 use Rattle.plan_meaning.proofs.FrameLemmas.{agree_tables, agree_fewer, or_same, cut_same}
-use Rattle.plan_meaning.proofs.CheckParts.{hold_back, hold_front, hold_join, each_pass, pass_each}
+use Rattle.plan_meaning.proofs.CheckParts.{hold_back, hold_join, each_pass, pass_each}
 use Rattle.plan_meaning.proofs.Fairness.{has_some, some_name, kept_asked, known_some}
 use Rattle.plan_prune.specs.Leaves.{Name}
 use Rattle.plan_prune.proofs.AskedNames.{kept_all, kept_cached}
@@ -57,7 +57,7 @@ pub projection_good : (s ks : Columns) → is_empty ks ≡ false → AllByRecurs
 projection_good s ks some h = (
   ap not some,
   hold_join (each SchemaFieldNotFound 1 (λ (c : Name × DataType). is_known s c.0) ks) (each SchemaMismatch 1 (is_column s) ks)
-  (pass_each SchemaFieldNotFound 1 (λ (c : Name × DataType). is_known s c.0) ks (known_all s ks h)) (pass_each SchemaMismatch 1 (is_column s) ks h),
+      (pass_each SchemaFieldNotFound 1 (λ (c : Name × DataType). is_known s c.0) ks (known_all s ks h)) (pass_each SchemaMismatch 1 (is_column s) ks h),
 )
 
 pub good_projection : (s cs : Columns) → AllHold (checks (simple_projection cs) (s ∷ [])) → AllByRecursion (λ (c : Name × DataType). is_column s c ≡ true) cs

@@ -1,25 +1,23 @@
 -- A pruned plan narrows: one case for each kind of node, and one induction.
-use Rattle.std.proofs.Common.{◌≡◌, Bool, true, false, cond, List, [], ◌∷◌, Option, Some, refl, sym, ap, ◌∙◌, subst}
+use Rattle.std.proofs.Common.{◌≡◌, Bool, true, false, List, [], ◌∷◌, Option, Some, refl, sym, ap, ◌∙◌, subst}
 use Rattle.plan_core.specs.declared.options.FileScanOptions.{FileScanOptions}
 use Rattle.plan_core.specs.Columns.{Columns, names_of}
 use Rattle.plan_core.specs.Names.{with_names}
-use Rattle.plan_tree.specs.Rose.{Rose, Roses, rose, no_roses, more}
+use Rattle.plan_tree.specs.Rose.{Roses, rose, no_roses, more}
 use Rattle.plan_ir.specs.declared.scan.FileInfo.{FileInfo}
 use Rattle.plan_ir.specs.declared.scan.FileScan.{FileScan}
 use Rattle.plan_ir.specs.declared.scan.ScanSources.{ScanSources}
 use Rattle.plan_ir.specs.Plans.{Op, filter, scan, simple_projection, invalid, Named, Plan}
-use Rattle.plan_meaning.specs.Exprs.{leaves}
 use Rattle.plan_meaning.specs.Typing.{columns_or, file_columns, schema_by, schema, schemas, checks, AllHold, AllValid}
-use Rattle.plan_meaning.specs.Frames.{Frame}
 use Rattle.plan_meaning.specs.Steps.{IsValid}
-use Rattle.plan_meaning.specs.Relating.{Refines, Asked, all, names, cached, NarrowColumns, AgreeOn, Narrows}
+use Rattle.plan_meaning.specs.Relating.{Refines, Asked, all, names, NarrowColumns, AgreeOn, Narrows}
 use Rattle.plan_meaning.specs.Asked.{set_of, with_more, IsFair}
 use Rattle.plan_meaning.specs.Asked as asked
 use Rattle.plan_meaning.proofs.Refining.{relates_refines}
-use Rattle.plan_meaning.proofs.Related.{LocalTo, SchemasRelated, AllRelate, relates_node, relates_top}
+use Rattle.plan_meaning.proofs.Related.{SchemasRelated, AllRelate, relates_node, relates_top}
 use Rattle.plan_meaning.proofs.Fairness.{FairAll}
 use Rattle.plan_prune.specs.Leaves.{Name}
-use Rattle.plan_prune.specs.Pruned.{asked_with, kept, typed_names, reading, projected, asks, rebuilt, pruned, pruned_all}
+use Rattle.plan_prune.specs.Pruned.{kept, typed_names, reading, projected, asks, rebuilt, pruned, pruned_all}
 use Rattle.plan_prune.proofs.AskedNames.{set_some, kept-is, filter_asks, each_asked, fair_each}
 use Rattle.plan_prune.proofs.NarrowLemmas.{Local, same_none, local_filter}
 use Rattle.plan_prune.proofs.ProjectionNarrows.{local_columns, asked_some}
@@ -59,7 +57,7 @@ local_kept : (cs : Columns) (l : List Name) (r s : Columns) → AllHold (checks 
 local_kept cs l r s good fair h =
     let ks = asked.kept (set_of l) cs in
     let is : set_of (asks l (simple_projection cs)) ≡ names (with_names [] (names_of ks)) =
-        ap (λ (x : Columns). set_of (with_names [] (names_of x))) (kept-is l cs) ∙ set_some (with_names [] (names_of ks)) (asked_some cs (set_of l) s good fair) in
+    ap (λ (x : Columns). set_of (with_names [] (names_of x))) (kept-is l cs) ∙ set_some (with_names [] (names_of ks)) (asked_some cs (set_of l) s good fair) in
     subst (λ (x : Asked). Local (simple_projection (kept l cs)) (simple_projection cs) (x ∷ []) (set_of l) (r ∷ []) (s ∷ [])) (sym is)
     (subst (λ (x : Columns). Local (simple_projection x) (simple_projection cs) (names (with_names [] (names_of ks)) ∷ []) (set_of l) (r ∷ []) (s ∷ [])) (sym (kept-is l cs))
     (local_columns cs (set_of l) r s good fair (subst (λ (x : Asked). NarrowColumns x r s) is h)))

@@ -1,16 +1,15 @@
 -- A pruned plan scans the same sources, reads only what is asked, and has few nodes more.
-use Rattle.std.proofs.Common.{◌≡◌, ℕ, suc, ◌+◌, ◌≤◌, Bool, true, false, List, [], ◌∷◌, ◌++◌, refl, sym, ap, ◌∙◌, subst, append-nil, append_assoc, arith}
+use Rattle.std.proofs.Common.{◌≡◌, ◌+◌, ◌≤◌, Bool, true, false, List, [], ◌∷◌, ◌++◌, refl, sym, subst, append-nil, append_assoc, arith}
 use Rattle.plan_core.specs.Columns.{Columns}
-use Rattle.plan_core.specs.Names.{has}
-use Rattle.plan_tree.specs.Rose.{Rose, Roses, rose, no_roses, more, size}
+use Rattle.plan_tree.specs.Rose.{Roses, rose, no_roses, more, size}
 use Rattle.plan_ir.specs.Plans.{Op, filter, scan, simple_projection, invalid, Plan}
 use Rattle.plan_meaning.specs.Typing.{schemas, AllValid}
 use Rattle.plan_meaning.specs.Steps.{IsValid}
-use Rattle.plan_meaning.specs.Relating.{Asked, all, names, cached}
+use Rattle.plan_meaning.specs.Relating.{Asked, all}
 use Rattle.plan_meaning.specs.Asked.{set_of, asks as asks_of, Site, own_site, sites, sites_of}
 use Rattle.plan_prune.specs.Leaves.{Name}
 use Rattle.plan_prune.specs.Pruned.{asks, rebuilt, pruned, pruned_all}
-use Rattle.plan_prune.specs.Reads.{own_scan, scans, scans_in, ReadWithin, nodes, own_tops, tops_in, tops}
+use Rattle.plan_prune.specs.Reads.{scans, scans_in, ReadWithin, nodes, own_tops, tops_in, tops}
 use Rattle.plan_prune.proofs.AskedNames.{each_asked, asks-each}
 
 reads_append : (os us : List Op) (ss zs : List Site) → ReadWithin os ss → ReadWithin us zs → ReadWithin (os ++ us) (ss ++ zs)
@@ -68,7 +67,7 @@ all_nodes top l (more (rose n op ts) rest) v =
     let split : size (pruned_all top l (more (rose n op ts) rest)) ≡ nodes (rebuilt top l op rs) + size (pruned_all top l rest) = size-more (rebuilt top l op rs) (pruned_all top l rest) in
     let here = rebuilt_nodes top l op (schemas ts) rs in
     let under : size rs ≤ size ts + tops_in ts (asks_of op a (schemas ts)) =
-        subst (λ (x : List Asked). size rs ≤ size ts + tops_in ts x) (sym (asks-each l op ts v.0)) (all_nodes top (asks l op) ts v.1) in
+    subst (λ (x : List Asked). size rs ≤ size ts + tops_in ts x) (sym (asks-each l op ts v.0)) (all_nodes top (asks l op) ts v.1) in
     let others = all_nodes top l rest v.2 in
     omega arith
 

@@ -1,36 +1,32 @@
 -- A scan that reads and puts out the asked names alone narrows, under a projection of them and without it.
-use Rattle.std.proofs.Common.{◌≡◌, ℕ, suc, ◌&&◌, Bool, true, false, cond, not, List, [], ◌∷◌, ◌++◌, map, length, replicate, Option, Some, None, unwrap_or, option_map, refl, sym, ap, ap₂, ◌∙◌, subst, is_some, ⊎_elim, inl, inr}
-use Rattle.std.specs.List.{AllByRecursion, IsDistinct, cons_option}
+use Rattle.std.proofs.Common.{◌≡◌, ℕ, suc, ◌&&◌, Bool, true, false, cond, not, List, [], ◌∷◌, ◌++◌, map, length, replicate, Option, Some, None, unwrap_or, option_map, refl, sym, ap, ◌∙◌, subst, is_some, ⊎_elim}
+use Rattle.std.specs.List.{AllByRecursion, cons_option}
 use Rattle.std.specs.Str.{bytes_eq}
 use Rattle.std.proofs.lemmas.Bool.{both_ways, and_parts}
 use Rattle.plan_core.specs.declared.data_type.DataType.{DataType}
 use Rattle.plan_core.specs.declared.data_type.DataType.TheVariants.{Int64}
 use Rattle.plan_core.specs.declared.options.FileScanOptions.{FileScanOptions}
-use Rattle.plan_core.specs.declared.error.PolarsError.TheVariants.{SchemaFieldNotFound, SchemaMismatch, Duplicate}
-use Rattle.plan_core.specs.Columns.{Columns, names_of, type_of, same_columns}
+use Rattle.plan_core.specs.declared.error.PolarsError.TheVariants.{SchemaFieldNotFound, SchemaMismatch}
+use Rattle.plan_core.specs.Columns.{Columns, names_of, type_of}
 use Rattle.plan_core.specs.Names.{has, AreDistinct}
 use Rattle.plan_core.proofs.SameLemmas.{same_columns-Decides}
-use Rattle.plan_tree.specs.Rose.{Rose, Roses, rose, no_roses, more}
 use Rattle.plan_ir.specs.declared.scan.FileInfo.{FileInfo}
 use Rattle.plan_ir.specs.declared.scan.FileScan.{FileScan}
 use Rattle.plan_ir.specs.declared.scan.ScanSources.{ScanSources}
-use Rattle.plan_ir.specs.Plans.{Op, scan, simple_projection, Named, Plan}
+use Rattle.plan_ir.specs.Plans.{scan, simple_projection, Named}
 use Rattle.plan_meaning.specs.Exprs.{is_type}
 use Rattle.plan_meaning.specs.Values.{Value, null}
-use Rattle.plan_meaning.specs.Typing.{is_empty, is_known, is_column, each, each_new, columns_or, file_columns, names_or, has_columns, put_out_checks, scan_name_checks, is_built_scan, check, checks, schema, schema_by, AllHold}
-use Rattle.plan_meaning.specs.Frames.{Frame, HasSchema, cut, column, column_or, Agree}
+use Rattle.plan_meaning.specs.Typing.{is_empty, is_known, is_column, each, each_new, columns_or, file_columns, has_columns, put_out_checks, scan_name_checks, is_built_scan, checks, AllHold}
+use Rattle.plan_meaning.specs.Frames.{Frame, HasSchema, cut, column_or, Agree}
 use Rattle.plan_meaning.specs.Contents.{Contents, total_height, stacked, frames_of, stack}
-use Rattle.plan_meaning.specs.Steps.{Step, IsValid}
-use Rattle.plan_meaning.specs.Relating.{Asked, all, names, cached, Holding, NarrowColumns, AgreeOn}
-use Rattle.plan_meaning.specs.Asked.{Fair, IsFair}
-use Rattle.plan_meaning.proofs.NameSets.{named, same_named, has_cons, has_first, has_later, has_front, has_back, has_either, some-type_of, distinct_cons}
+use Rattle.plan_meaning.specs.Steps.{Step}
+use Rattle.plan_meaning.specs.Relating.{names, Holding}
+use Rattle.plan_meaning.specs.Asked.{Fair}
+use Rattle.plan_meaning.proofs.NameSets.{named, same_named, has_cons, has_first, has_later, has_either, some-type_of, distinct_cons}
 use Rattle.plan_meaning.proofs.FrameLemmas.{agree_tables, found-table, is_type_some, some_type_is, schema_holds}
 use Rattle.plan_meaning.proofs.CheckParts.{each_pass, pass_each, hold_join, pass_names, ScanGood, scan_good, good_scan}
-use Rattle.plan_meaning.proofs.Fairness.{out_found}
-use Rattle.plan_meaning.proofs.Runs.{HaveSchemas}
-use Rattle.plan_meaning.proofs.Related.{FramesRelated}
 use Rattle.plan_prune.specs.Leaves.{Name}
-use Rattle.plan_prune.specs.Pruned.{typed_name, typed_names, reading}
+use Rattle.plan_prune.specs.Pruned.{typed_names, reading}
 use Rattle.plan_prune.proofs.NarrowLemmas.{Local, AgreeOnAll}
 use Rattle.plan_prune.proofs.ProjectionNarrows.{some_is, projection_good}
 
