@@ -1,2 +1,3 @@
+pub mod GrowLemmas
 pub mod ListSteps
 pub mod PruneLemmas

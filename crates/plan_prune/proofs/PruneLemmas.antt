@@ -88,9 +88,9 @@ finish top asked names a b c ex n i p q d t h e taken one same valid roots asks_
       rewrites = Rewrites-back plan_shape a b c n p q d o.kids x.trees (rw o.is at h) taken inside same valid;
       exprs = ap₂ (λ (l m : List Node). l ++ (m ++ [])) roots x.exprs;
       pruned =
-        ap (λ (f : Roses (Unit {0}) Op). more (rose tt (op_at ex q) f) no_roses) x.pruned
-        ∙ ap (λ (l : List Name). more (rose tt (op_at ex q) (pruned_all top l kids)) no_roses) asks_is
-        ∙ ap (λ r. more r no_roses) (built (pruned_all top (asks asked (op_at ex p)) kids));
+          ap (λ (f : Roses (Unit {0}) Op). more (rose tt (op_at ex q) f) no_roses) x.pruned
+          ∙ ap (λ (l : List Name). more (rose tt (op_at ex q) (pruned_all top l kids)) no_roses) asks_is
+          ∙ ap (λ r. more r no_roses) (built (pruned_all top (asks asked (op_at ex p)) kids));
     })
 
 -- nothing stands over no numbers

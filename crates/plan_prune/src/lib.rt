@@ -4,3 +4,6 @@
 mod push_down;
 
 pub use push_down::ProjectionPushDown;
+
+#[cfg(test)]
+mod tests;

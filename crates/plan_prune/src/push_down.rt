@@ -49,7 +49,8 @@ impl ProjectionPushDown {
         ensures grows { length lp.old ≤ length lp.new }
         ensures pass { self.new ≡ self.old }
     {
-        self.push_down(alloc, root, Names::new(alloc), lp, ex)?;
+        let asked = Names::new(alloc);
+        self.push_down(alloc, root, asked, lp, ex)?;
         Ok(())
     }
 

@@ -13,13 +13,13 @@ pub asks-requires : goal.asks-requires
 asks-requires t c = plan_expr c.args.lp.now c.args.ex.now c.args.node (Filter c.in-Filter.input c.in-Filter.predicate) c.requires (c.take.ensures.given ∙ ap Some c.in-Filter.is) 0 c.in-Filter.predicate.node refl
 
 pub push_down-requires : goal.push_down-requires
-push_down-requires t c = 
+push_down-requires t c =
     let p : IR = Filter c.in-Filter.input c.in-Filter.predicate in
     let k = input_asks c.args.lp.now c.take.new.self c.args.ex.now c.args.node c.in-Filter.input p c.take.ensures.after.0 0 c.requires (c.take.ensures.given ∙ ap Some c.in-Filter.is) c.take.ensures.after.2 refl in
     (omega (arith, k.falls, c.decreases), k.plan)
 
 pub push_down-requires-in-SimpleProjection : goal.push_down-requires-in-SimpleProjection
-push_down-requires-in-SimpleProjection t c = 
+push_down-requires-in-SimpleProjection t c =
     let p : IR = SimpleProjection c.in-SimpleProjection.input c.in-SimpleProjection.columns in
     let k = input_asks c.args.lp.now c.take.new.self c.args.ex.now c.args.node c.in-SimpleProjection.input p c.take.ensures.after.0 0 c.requires (c.take.ensures.given ∙ ap Some c.in-SimpleProjection.is) c.take.ensures.after.2 refl in
     (omega (arith, k.falls, c.decreases), k.plan)
