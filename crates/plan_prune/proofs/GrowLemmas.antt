@@ -1,9 +1,9 @@
 -- Plans and expressions that grow by one entry.
-use Rattle.std.proofs.Common.{◌≡◌, ℕ, ◌<◌, false, List, [], ◌∷◌, ◌++◌, length, Some, refl, sym, ap, ◌∙◌, arith, append-nil, subst}
+use Rattle.std.proofs.Common.{◌≡◌, false, List, [], ◌∷◌, ◌++◌, length, Some, refl, sym, ap, arith, append-nil, subst}
 use Rattle.std.specs.List.{slice_get}
 use Rattle.plan_core.specs.declared.arena.Node.{Node}
-use Rattle.plan_tree.specs.Rose.{Roses, rose, no_roses, more}
-use Rattle.plan_tree.specs.Stands.{Shape, Trees, Reaches, Apart, Stands, StandsOnce}
+use Rattle.plan_tree.specs.Rose.{rose, no_roses, more}
+use Rattle.plan_tree.specs.Stands.{Shape, Trees, Apart, StandsOnce}
 use Rattle.plan_tree.proofs.Frames.{Stands-kept, slice_get-append, slice_get-append_last}
 use Rattle.plan_tree.proofs.Numbers.{Reaches-within}
 use Rattle.plan_tree.proofs.SplitLemmas.{StandsOnce-split}

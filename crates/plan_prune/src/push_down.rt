@@ -2,12 +2,10 @@
 //! Each node is told the names that are asked of it, and asks its inputs the names that it needs;
 //! no names stand for every column. The rule of a node kind is in a file of its own.
 ghost use Rattle.std.specs.Prelude.{◌≡◌, ◌≤◌, [], ◌∷◌, OnOk, false, length, not};
-ghost use Rattle.plan_tree.specs.Stands.{Trees, StandsOnce};
-ghost use Rattle.plan_ir.specs.declared.ir.IR.{IR};
-ghost use Rattle.plan_ir.specs.Parts.{IsPlan, plan_shape};
+ghost use Rattle.plan_ir.specs.Parts.{IsPlan};
 ghost use Rattle.plan_ir.specs.Plans.{bare, plans_at};
 ghost use Rattle.plan_prune.specs.Pruned.{pruned_all};
-ghost use Rattle.plan_prune.specs.Prunes.{Prunes};
+ghost use Rattle.plan_prune.specs.Prunes.{PrunesAt};
 
 mod filter;
 mod projection;
@@ -43,11 +41,13 @@ impl ProjectionPushDown {
         ex: &Arena<AExpr>,
     ) -> Result<(), AllocError>
         requires { IsPlan lp.old ex.now root }
-        ensures pruned { OnOk result (bare (plans_at lp.new ex.now (root ∷ [])) ≡ pruned_all (not self.old.is_count_star) [] (bare (plans_at lp.old ex.now (root ∷ [])))) }
-        ensures prunes { OnOk result ((t : Trees IR) → StandsOnce plan_shape lp.old (root ∷ []) t → Prunes (not self.old.is_count_star) [] lp.old lp.new ex.now root t) }
+        ensures pruned { OnOk result (
+            bare (plans_at lp.new ex.now (root ∷ []))
+            ≡ pruned_all (not self.old.is_count_star) [] (bare (plans_at lp.old ex.now (root ∷ [])))) }
+        ensures in_place { OnOk result (PrunesAt (not self.old.is_count_star) [] lp.old lp.new ex.now root) }
         ensures is_plan { OnOk result (IsPlan lp.new ex.now root) }
         ensures grows { length lp.old ≤ length lp.new }
-        ensures pass { self.new ≡ self.old }
+        ensures pass_stays { self.new ≡ self.old }
     {
         let asked = Names::new(alloc);
         self.push_down(alloc, root, asked, lp, ex)?;
@@ -64,7 +64,7 @@ impl ProjectionPushDown {
         ex: &Arena<AExpr>,
     ) -> Result<(), AllocError>
         requires { IsPlan lp.old ex.now node }
-        ensures prunes { OnOk result ((t : Trees IR) → StandsOnce plan_shape lp.old (node ∷ []) t → Prunes (not self.now.is_count_star) asked lp.old lp.new ex.now node t) }
+        ensures prunes { OnOk result (PrunesAt (not self.now.is_count_star) asked lp.old lp.new ex.now node) }
         ensures grows { length lp.old ≤ length lp.new }
     {
         match lp.take(node) {

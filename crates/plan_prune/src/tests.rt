@@ -151,7 +151,10 @@ fn a_scan_reads_what_is_needed(rt: HostRuntime) -> Result<(), Fail> {
     let node = filter(alloc, node, "b", &mut lp, &mut ex)?;
     let root = projection(alloc, node, &["a"], &mut lp, &ex)?;
     ProjectionPushDown::new().optimize(alloc, root, &mut lp, &ex)?;
-    assert_eq!(rt; shown(alloc, root, &lp)?.as_str(), "SimpleProjection a:Int64; Filter; SimpleProjection a:Int64 b:Int64; Scan reads a b puts out a:Int64 b:Int64");
+    assert_eq!(rt;
+        shown(alloc, root, &lp)?.as_str(),
+        "SimpleProjection a:Int64; Filter; SimpleProjection a:Int64 b:Int64; Scan reads a b puts out a:Int64 b:Int64"
+    );
     Ok(())
 }
 
@@ -168,7 +171,10 @@ fn a_count_puts_no_projection_on_top(rt: HostRuntime) -> Result<(), Fail> {
     };
     pass.optimize(alloc, root, &mut lp, &ex)?;
     assert_eq!(rt; lp.len(), 3);
-    assert_eq!(rt; shown(alloc, root, &lp)?.as_str(), "SimpleProjection a:Int64; Filter; Scan reads a b puts out a:Int64 b:Int64");
+    assert_eq!(rt;
+        shown(alloc, root, &lp)?.as_str(),
+        "SimpleProjection a:Int64; Filter; Scan reads a b puts out a:Int64 b:Int64"
+    );
     Ok(())
 }
 
@@ -183,7 +189,10 @@ fn projections_narrow_one_another(rt: HostRuntime) -> Result<(), Fail> {
     let node = filter(alloc, node, "b", &mut lp, &mut ex)?;
     let root = projection(alloc, node, &["b", "c"], &mut lp, &ex)?;
     ProjectionPushDown::new().optimize(alloc, root, &mut lp, &ex)?;
-    assert_eq!(rt; shown(alloc, root, &lp)?.as_str(), "SimpleProjection b:Int64 c:String; Filter; SimpleProjection c:String b:Int64; Filter; SimpleProjection c:String b:Int64 a:Int64; Scan reads c b a puts out c:String b:Int64 a:Int64");
+    assert_eq!(rt;
+        shown(alloc, root, &lp)?.as_str(),
+        "SimpleProjection b:Int64 c:String; Filter; SimpleProjection c:String b:Int64; Filter; SimpleProjection c:String b:Int64 a:Int64; Scan reads c b a puts out c:String b:Int64 a:Int64"
+    );
     Ok(())
 }
 

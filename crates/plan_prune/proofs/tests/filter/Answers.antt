@@ -1,4 +1,4 @@
-use Rattle.std.proofs.Common.{refl, sym, subst, List, [], ◌∷◌}
+use Rattle.std.proofs.Common.{refl, sym, subst, List, ◌∷◌}
 use Rattle.plan_core.specs.declared.arena.Node.{Node}
 use Rattle.plan_ir.specs.Parts.{roots_in}
 use Rattle.plan_prune.proofs.GrowLemmas.{Exprs, expr_over, plan_over}

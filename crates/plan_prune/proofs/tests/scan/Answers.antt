@@ -1,4 +1,4 @@
-use Rattle.std.proofs.Common.{refl, [], List}
+use Rattle.std.proofs.Common.{refl}
 use Rattle.plan_tree.specs.Rose.{no_roses}
 use Rattle.plan_prune.proofs.GrowLemmas.{no_exprs, plan_over}
 use Rattle.plan_prune.proofs.tests.scan.Goals as goal

@@ -1,4 +1,4 @@
-use Rattle.std.proofs.Common.{◌≡◌, ◌∙◌, ap, sym, refl, arith, not, Some}
+use Rattle.std.proofs.Common.{◌∙◌, ap, refl, arith, not, Some}
 use Rattle.plan_ir.specs.declared.ir.IR.{IR}
 use Rattle.plan_ir.specs.declared.ir.IR.TheVariants.{Filter, SimpleProjection}
 use Rattle.plan_ir.proofs.PlanLemmas.{plan_expr}
@@ -6,7 +6,7 @@ use Rattle.plan_core.specs.Columns.{Columns, names_of}
 use Rattle.plan_tree.specs.Rose.{rose}
 use Rattle.plan_ir.specs.Plans.{simple_projection}
 use Rattle.plan_prune.specs.Scans.{with_pruned_scan}
-use Rattle.plan_prune.proofs.PruneLemmas.{Asks, input_asks, entry_stays, finish, scan_pruned}
+use Rattle.plan_prune.proofs.PruneLemmas.{input_asks, entry_stays, finish, scan_pruned}
 use Rattle.plan_prune.proofs.push_down.ProjectionPushDown.+push_down.Goals as goal
 
 pub asks-requires : goal.asks-requires
