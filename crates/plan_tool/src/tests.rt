@@ -59,16 +59,18 @@ fn with(rt: &impl Abort, alloc: Global, text: &str, pieces: Pieces<'_>) -> Resul
 }
 
 // The good document with pieces replaced is listed as the good listing with pieces replaced.
-fn listed(
-    rt: &impl Abort,
-    alloc: Global,
-    given: Pieces<'_>,
-    told: Pieces<'_>,
-) -> Result<(), Fail> {
+fn listed(rt: &impl Abort, alloc: Global, given: Pieces<'_>, told: Pieces<'_>) -> Result<(), Fail> {
     let document = with(rt, alloc, GOOD, given)?;
     let mut listing = with(rt, alloc, LISTING, told)?;
     listing.push_str("\n")?;
-    case(rt, alloc, &["optimize"], document.as_str(), 0, listing.as_str())
+    case(
+        rt,
+        alloc,
+        &["optimize"],
+        document.as_str(),
+        0,
+        listing.as_str(),
+    )
 }
 
 // The good document with pieces replaced is refused with this fault.
@@ -81,10 +83,18 @@ fn refused(
     place: u32,
 ) -> Result<(), Fail> {
     let document = with(rt, alloc, GOOD, given)?;
-    let fault =
-        format!(in alloc; r#"{{"error":{{"kind":"{kind}","node":{node},"place":{place}}}}}"#)?;
+    let fault = format!(in alloc;
+        r#"{{"error":{{"kind":"{kind}","node":{node},"place":{place}}}}}"#
+    )?;
     let told = format!(in alloc; "{fault}\n")?;
-    case(rt, alloc, &["optimize"], document.as_str(), 5, told.as_str())
+    case(
+        rt,
+        alloc,
+        &["optimize"],
+        document.as_str(),
+        5,
+        told.as_str(),
+    )
 }
 
 #[test]
@@ -124,9 +134,15 @@ fn a_filtered_column_may_be_projected(rt: HostRuntime) -> Result<(), Fail> {
     listed(
         &rt,
         rt.alloc(),
-        &[(r#""columns":[["a","Int64"]]"#, r#""columns":[["b","Int64"]]"#)],
+        &[(
+            r#""columns":[["a","Int64"]]"#,
+            r#""columns":[["b","Int64"]]"#,
+        )],
         &[
-            (r#""columns":[["a","Int64"]]"#, r#""columns":[["b","Int64"]]"#),
+            (
+                r#""columns":[["a","Int64"]]"#,
+                r#""columns":[["b","Int64"]]"#,
+            ),
             (
                 r#""columns":[["a","Int64"],["b","Int64"]]"#,
                 r#""columns":[["b","Int64"]]"#,
@@ -237,8 +253,7 @@ fn other_words_are_no_command(rt: HostRuntime) -> Result<(), Fail> {
 fn a_document_may_come_in_pieces(rt: HostRuntime) -> Result<(), Fail> {
     let listing = format!(in rt.alloc(); "{LISTING}\n")?;
     for piece in [1, 100, 4096] {
-        let (code, sink) =
-            answer(rt.alloc(), &["optimize"], GOOD.as_bytes(), piece, 100000)?;
+        let (code, sink) = answer(rt.alloc(), &["optimize"], GOOD.as_bytes(), piece, 100000)?;
         assert_eq!(rt; code, 0, "by {piece}");
         assert_eq!(rt; sink.bytes(), listing.as_bytes(), "by {piece}");
     }
@@ -275,8 +290,9 @@ fn filtered(rt: &impl Abort, alloc: Global, count: u32) -> Result<String, Fail> 
     let mut exprs = String::new(alloc);
     for i in 0..count {
         let input = i.saturating_add(2);
-        let filter =
-            format!(in alloc; r#"{{"op":"Filter","input":{input},"predicate":[{i},"col","c"]}},"#)?;
+        let filter = format!(in alloc;
+            r#"{{"op":"Filter","input":{input},"predicate":[{i},"col","c"]}},"#
+        )?;
         filters.push_str(filter.as_str())?;
         if i > 0 {
             exprs.push_str(",")?;
@@ -307,8 +323,7 @@ fn filtered(rt: &impl Abort, alloc: Global, count: u32) -> Result<String, Fail> 
 fn a_plan_has_a_largest_depth(rt: HostRuntime) -> Result<(), Fail> {
     for (filters, status) in [(253, 0), (254, 0), (255, 7)] {
         let document = filtered(&rt, rt.alloc(), filters)?;
-        let (code, sink) =
-            answer(rt.alloc(), &["optimize"], document.as_bytes(), 4096, 100000)?;
+        let (code, sink) = answer(rt.alloc(), &["optimize"], document.as_bytes(), 4096, 100000)?;
         assert_eq!(rt; code, status, "of {filters}");
         assert_eq!(rt; sink.bytes().is_empty(), status == 7, "of {filters}");
     }
