@@ -15,7 +15,15 @@ use Rattle.plan_tool.specs.declared.stop.Stop.{Stop}
 use Rattle.plan_tool.specs.declared.stop.Stop.TheVariants.{NotJson, Form, Limit, Fault, OutOfMemory}
 use Rattle.plan_tool.specs.declared.status.Status.{Status}
 use Rattle.plan_tool.specs.declared.status.Status.TheVariants as answers
-use Rattle.plan_tool.specs.Listings.{SaysOf, SaysOfDocument, Lists, Refuses}
+use Rattle.plan_core.specs.declared.flags.OptFlags.{OptFlags}
+use Rattle.plan_core.specs.Flags.{bits_of, has_bits}
+use Rattle.plan_ir.specs.Plans.{Plan}
+use Rattle.plan_meaning.specs.Asked.{sites_of}
+use Rattle.plan_meaning.specs.Relating.{Refines}
+use Rattle.plan_meaning.specs.Steps.{IsValid}
+use Rattle.plan_meaning.proofs.Refining.{refines_refl}
+use Rattle.plan_prune.specs.Reads.{ReadWithin, scans}
+use Rattle.plan_tool.specs.Listings.{IsAnswer, pushdown_bit, SaysOf, SaysOfDocument, Lists, Refuses}
 use Rattle.plan_tool.specs.Causes.{Call, Comes, IsCommand, Finished, Broke, Finishes, Listed, Told, Cut}
 
 -- what is said of a document is said of its bytes
@@ -73,3 +81,19 @@ listed limit c bytes text result command end whole small lists (inr b) =
     some : (o : Option (List ℕ)) → IfSome o (λ all. bytes ≡ all) → IfSome o (Cut limit c)
     some None h = tt
     some (Some all) h = subst (Cut limit c) h (record { small = small; text = text; says = inl lists; written = b.written })
+
+-- a valid plan is an answer to itself where pushdown isn't asked
+pub given_answer : (flags : OptFlags) (p : Plan) → IsValid p → has_bits (bits_of flags) pushdown_bit ≡ false → IsAnswer flags p p
+given_answer flags p v off = record {
+  refines = refines_refl p v;
+  reads = λ on. let u : true ≡ false = sym on ∙ off in cc;
+  same = λ _. refl;
+}
+
+-- what pushdown leaves is an answer where it is asked
+pub pruned_answer : (flags : OptFlags) (q p : Plan) → Refines q p → ReadWithin (scans q) (sites_of p) → has_bits (bits_of flags) pushdown_bit ≡ true → IsAnswer flags q p
+pruned_answer flags q p r reads on = record {
+  refines = r;
+  reads = λ _. reads;
+  same = λ off. let u : true ≡ false = sym on ∙ off in cc;
+}

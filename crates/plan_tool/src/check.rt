@@ -1,6 +1,8 @@
 //! The checks on the plan of a document: its numbers, its depth, and then its nodes.
 ghost use Rattle.std.specs.Prelude.{◌≡◌, IfOk};
 ghost use Rattle.plan_ir.specs.Parts.{IsPlan};
+ghost use Rattle.plan_meaning.specs.PlanAt.{plan_at};
+ghost use Rattle.plan_meaning.specs.Steps.{IsValid};
 ghost use Rattle.plan_tool.specs.Checked.{Checks};
 
 use crate::stop::Stop;
@@ -20,6 +22,7 @@ const EXPR_LEVELS: usize = 128;
 pub fn check(alloc: Global, root: Node, lp: &Arena<IR>, ex: &Arena<AExpr>) -> Result<(), Stop>
     ensures checks { Checks result lp.now ex.now root }
     ensures stands { IfOk result (λ _. IsPlan lp.now ex.now root) }
+    ensures valid { IfOk result (λ _. IsValid (plan_at lp.now ex.now root)) }
 {
     check_tree(alloc, root, lp, ex)?;
     let depth = depth_of(alloc, root, lp, ex)?;

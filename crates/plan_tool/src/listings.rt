@@ -2,7 +2,9 @@
 ghost use Rattle.std.specs.Prelude.{◌≡◌, [], ◌∷◌, IfOk, string_bytes};
 ghost use Rattle.plan_ir.specs.Parts.{IsPlan};
 ghost use Rattle.plan_ir.specs.Plans.{bare, plans_at};
-ghost use Rattle.plan_tool.specs.Listings.{answered, IsListOf, SaysOf, SaysOfDocument};
+ghost use Rattle.plan_meaning.specs.PlanAt.{plan_at};
+ghost use Rattle.plan_meaning.specs.Steps.{IsValid};
+ghost use Rattle.plan_tool.specs.Listings.{answered, IsAnswer, IsListOf, SaysOf, SaysOfDocument};
 
 use crate::check::check;
 use crate::stop::Stop;
@@ -14,6 +16,7 @@ use plan_text::write_listing;
 use std::alloc::{AllocError, Global};
 
 /// The nodes of a plan after the passes that the flags start.
+#[tactic(auto, using(crate::proofs::AnswerLemmas::given_answer, crate::proofs::AnswerLemmas::pruned_answer))]
 fn optimized(
     alloc: Global,
     root: Node,
@@ -21,13 +24,17 @@ fn optimized(
     mut lp: Arena<IR>,
     ex: &Arena<AExpr>,
 ) -> Result<Arena<IR>, AllocError>
-    requires { IsPlan lp ex.now root }
+    requires stands { IsPlan lp ex.now root }
+    requires valid { IsValid (plan_at lp ex.now root) }
     ensures stands { IfOk result (λ nodes. IsPlan nodes ex.now root) }
-    ensures answers { IfOk result (λ nodes. bare (plans_at nodes ex.now (root ∷ [])) ≡ answered flags (bare (plans_at lp ex.now (root ∷ [])))) }
+    ensures promised { IfOk result (λ nodes. IsAnswer flags (plan_at nodes ex.now root) (plan_at lp ex.now root)) }
+    ensures exact { IfOk result (λ nodes. bare (plans_at nodes ex.now (root ∷ []))
+        ≡ answered flags (bare (plans_at lp ex.now (root ∷ [])))) }
 {
-    if flags.projection_pushdown() {
-        ProjectionPushDown::new().optimize(alloc, root, &mut lp, ex)?;
+    if !flags.projection_pushdown() {
+        return Ok(lp);
     }
+    ProjectionPushDown::new().optimize(alloc, root, &mut lp, ex)?;
     Ok(lp)
 }
 
