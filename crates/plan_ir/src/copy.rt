@@ -35,7 +35,11 @@ fn step_to_exprs(alloc: Global, node: &IR, steps: &mut Items<Step<()>>) -> Resul
 }
 
 /// Steps to the expressions of nodes, node by node.
-fn expr_steps(alloc: Global, nodes: &[Node], lp: &Arena<IR>) -> Result<Items<Step<()>>, AllocError>
+pub(crate) fn expr_steps(
+    alloc: Global,
+    nodes: &[Node],
+    lp: &Arena<IR>,
+) -> Result<Items<Step<()>>, AllocError>
     requires { All (λ n. n.0 < length lp.now) nodes.now }
     ensures { IfOk result (λ steps. steps ≡ steps_to tt (flat_map roots_of (entries_at lp.now nodes.now))) }
 {

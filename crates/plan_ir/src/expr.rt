@@ -16,7 +16,7 @@ pub enum Operator {
 }
 
 /// A value that is written out.
-#[derive(Drop)]
+#[derive(Drop, PartialEq, Eq, Debug)]
 pub enum LiteralValue {
     Int64(i64),
 }
@@ -33,7 +33,7 @@ impl TryClone for LiteralValue {
 }
 
 /// An expression; it names the expressions that it is made of by their numbers.
-#[derive(Drop)]
+#[derive(Drop, PartialEq, Eq, Debug)]
 pub enum AExpr {
     Column(PlSmallStr),
     Literal(LiteralValue),
@@ -61,7 +61,7 @@ impl TryClone for AExpr {
 }
 
 /// The name under which an expression is put out, and where it comes from.
-#[derive(Drop)]
+#[derive(Drop, PartialEq, Eq, Debug)]
 pub enum OutputName {
     None,
     /// The name of a literal that decides.
@@ -86,7 +86,7 @@ impl TryClone for OutputName {
 }
 
 /// The number of an expression, with its output name.
-#[derive(Drop)]
+#[derive(Drop, PartialEq, Eq, Debug)]
 pub struct ExprIR {
     pub node: Node,
     pub output_name: OutputName,

@@ -7,7 +7,7 @@ use plan_core::{FileScanOptions, Node, Schema, TryClone};
 use std::alloc::{AllocError, Global};
 
 /// A node of a plan; it names its inputs and its expressions by their numbers.
-#[derive(Drop)]
+#[derive(Drop, PartialEq, Eq, Debug)]
 pub enum IR {
     /// The rows for which the predicate is true.
     Filter {

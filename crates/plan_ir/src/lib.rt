@@ -14,3 +14,6 @@ pub use expr::{AExpr, ExprIR, LiteralValue, Operator, OutputName};
 pub use ir::IR;
 pub use reading::{reads, scan_reads};
 pub use scan::{FileInfo, FileScan, ScanSources};
+
+#[cfg(test)]
+mod tests;

@@ -11,7 +11,7 @@ pub enum FileScan {
 }
 
 /// Where a scan reads from, in order.
-#[derive(Drop)]
+#[derive(Drop, PartialEq, Eq, Debug)]
 pub enum ScanSources {
     Paths(Items<PlSmallStr>),
 }
@@ -27,7 +27,7 @@ impl TryClone for ScanSources {
 }
 
 /// The columns of the files of a scan: those that it can put out, and those that a reader finds.
-#[derive(Drop)]
+#[derive(Drop, PartialEq, Eq, Debug)]
 pub struct FileInfo {
     pub schema: Schema,
     pub reader_schema: Option<Schema>,

@@ -5,6 +5,8 @@ ghost use Rattle.plan_ir.specs.Plans.{filter, scan, simple_projection, named_at,
 ghost use Rattle.plan_ir.specs.declared.scan.FileScan.{FileScan};
 ghost use Rattle.plan_ir.specs.declared.scan.ScanSources.{ScanSources};
 ghost use Rattle.plan_meaning.specs.Typing.{columns_or, file_columns};
+ghost use Rattle.plan_meaning.specs.PlanAt.{plan_at};
+ghost use Rattle.plan_meaning.specs.Steps.{IsValid};
 ghost use Rattle.plan_meaning.specs.TreeFaults.{tree_fault};
 ghost use Rattle.plan_meaning.specs.Typed.{typed, IsNodeTyped, IsPlanTyped, IsTyped};
 
@@ -116,9 +118,10 @@ pub fn check_nodes(
 ) -> PolarsResult<Schema>
     requires stands { IsPlan lp.now ex.now root }
     requires numbers { tree_fault lp.now ex.now root ≡ None }
-    ensures { IsTyped result (typed lp.now ex.now root) }
+    ensures typed { IsTyped result (typed lp.now ex.now root) }
+    ensures valid { IfOk result (λ _. IsValid (plan_at lp.now ex.now root)) }
 {
-    schema_of(alloc, root, lp, ex)
+    Ok(schema_of(alloc, root, lp, ex)?)
 }
 
 /// The columns of the plan at `root`, or its first fault: bad numbers in walk order, and then the faults of its nodes,
@@ -131,6 +134,7 @@ pub fn check_plan(
 ) -> PolarsResult<Schema>
     ensures typed { IsTyped result (typed lp.now ex.now root) }
     ensures stands { IfOk result (λ _. IsPlan lp.now ex.now root) }
+    ensures valid { IfOk result (λ _. IsValid (plan_at lp.now ex.now root)) }
 {
     check_tree(alloc, root, lp, ex)?;
     check_nodes(alloc, root, lp, ex)

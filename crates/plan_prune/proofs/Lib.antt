@@ -1,3 +1,4 @@
+pub mod GrowLemmas
 pub mod ListSteps
 pub mod PruneLemmas
 pub mod NarrowLemmas

@@ -1,11 +1,11 @@
 -- How lists of names and columns grow, one name after another.
-use Rattle.std.proofs.Common.{◌≡◌, ℕ, zero, suc, ◌+◌, ◌<◌, ◌≤◌, Bool, true, false, cond, ◌||◌, List, [], ◌∷◌, ◌++◌, map, take, length, fold, Option, Some, None, option_map, refl, sym, ap, ◌∙◌, arith, add-one, append-nil, subst}
-use Rattle.std.specs.List.{slice_get, filter, filter_map, cons_option, list_any, IsDistinct, AllByRecursion}
+use Rattle.std.proofs.Common.{◌≡◌, ℕ, zero, suc, ◌+◌, ◌<◌, Bool, true, false, cond, List, [], ◌∷◌, ◌++◌, take, length, Option, Some, None, option_map, refl, sym, ap, ◌∙◌, arith, add-one, append-nil, subst}
+use Rattle.std.specs.List.{slice_get, filter, cons_option, IsDistinct, AllByRecursion}
 use Rattle.std.specs.Str.{bytes_eq}
-use Rattle.std.proofs.lemmas.List.{take-map, take_all}
+use Rattle.std.proofs.lemmas.List.{take-map}
 use Rattle.std.proofs.lemmas.List.Elements.{filter-append, filter_map-append}
 use Rattle.std.proofs.lemmas.List.Sums.{fold-append}
-use Rattle.std.proofs.lemmas.Option.{slice_get-map, slice_get_past}
+use Rattle.std.proofs.lemmas.Option.{slice_get-map}
 use Rattle.plan_core.specs.Columns.{Columns, HasDistinctNames, names_of, type_of, with_type}
 use Rattle.plan_core.specs.Names.{AreDistinct, has, with_name, with_names}
 use Rattle.plan_core.specs.declared.data_type.DataType.{DataType}

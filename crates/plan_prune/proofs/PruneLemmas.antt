@@ -1,15 +1,15 @@
 -- What pruning does at each kind of node.
-use Rattle.std.proofs.Common.{◌≡◌, ℕ, zero, suc, ◌+◌, ◌<◌, ◌≤◌, Bool, true, false, not, List, [], ◌∷◌, ◌++◌, map, length, Option, Some, None, option_map, refl, sym, ap, ap₂, ◌∙◌, inl, inr, ◌⊎◌, arith, length-set, length-append, subst, append-nil}
+use Rattle.std.proofs.Common.{◌≡◌, ℕ, ◌<◌, ◌≤◌, Bool, true, false, List, [], ◌∷◌, ◌++◌, length, Option, Some, refl, sym, ap, ap₂, ◌∙◌, inl, inr, ◌⊎◌, arith, length-set, subst, append-nil}
 use Rattle.std.specs.List.{slice_get, slice_set}
 use Rattle.std.proofs.lemmas.Option.{slice_get_within}
 use Rattle.plan_core.specs.declared.arena.Node.{Node}
 use Rattle.plan_core.specs.declared.options.FileScanOptions.{FileScanOptions}
 use Rattle.plan_core.specs.Columns.{Columns}
 use Rattle.plan_tree.specs.Rose.{Roses, rose, no_roses, more}
-use Rattle.plan_tree.specs.Stands.{Shape, Trees, Reaches, Stands, StandsOnce, Keeps, Rewrites}
-use Rattle.plan_tree.proofs.TreeLemmas.{Opened, opened, nth, height_at, Stands-nth, Stands-unique}
+use Rattle.plan_tree.specs.Stands.{Trees, Reaches, Stands, StandsOnce, Keeps, Rewrites}
+use Rattle.plan_tree.proofs.TreeLemmas.{opened, nth, height_at, Stands-nth, Stands-unique}
 use Rattle.plan_tree.proofs.ReadLemmas.{trees_at-is}
-use Rattle.plan_tree.proofs.Frames.{Rewrites-refl, Rewrites-back, Rewrites-above, Rewrites-trans, StandsOnce-set, StandsOnce-first, descend, Keeps-trans, Keeps-set, Keeps-append, slice_get-append_last}
+use Rattle.plan_tree.proofs.Frames.{Rewrites-refl, Rewrites-back, Rewrites-above, StandsOnce-set, StandsOnce-first, descend, Keeps-trans, Keeps-set, Keeps-append, slice_get-append_last}
 use Rattle.plan_ir.specs.declared.expr.AExpr.{AExpr}
 use Rattle.plan_ir.specs.declared.expr.AExpr.TheVariants as exprs
 use Rattle.plan_ir.specs.declared.expr.ExprIR.{ExprIR}
@@ -20,14 +20,14 @@ use Rattle.plan_ir.specs.declared.ir.IR.TheVariants as nodes
 use Rattle.plan_ir.specs.declared.scan.FileInfo.{FileInfo}
 use Rattle.plan_ir.specs.declared.scan.FileScan.{FileScan}
 use Rattle.plan_ir.specs.declared.scan.ScanSources.{ScanSources}
-use Rattle.plan_ir.specs.Parts.{plan_shape, inputs_of, is_invalid, roots_of, roots_in, IsExpr, IsPlan, StandsPlan}
+use Rattle.plan_ir.specs.Parts.{plan_shape, inputs_of, is_invalid, roots_of, IsExpr, IsPlan}
 use Rattle.plan_ir.specs.Plans.{Op, op_at, plans_of, plans_at, bare, expr_at, Expr}
 use Rattle.plan_ir.proofs.ExprLemmas.{expr_open}
 use Rattle.plan_ir.proofs.PlanLemmas.{plan_down}
 use Rattle.plan_core.specs.Names.{with_names, with_name}
 use Rattle.plan_prune.specs.Leaves.{Name, names_in}
 use Rattle.plan_prune.specs.Pruned.{asks, rebuilt, pruned_all, typed_names}
-use Rattle.plan_prune.specs.Prunes.{Prunes, PrunesAll}
+use Rattle.plan_prune.specs.Prunes.{Prunes, PrunesAt}
 use Rattle.plan_prune.specs.Scans.{narrowed, output_of, with_node, with_pruned_scan}
 use Rattle.plan_prune.proofs.ListSteps.{with_names-append}
 
@@ -76,7 +76,7 @@ entry_stays a b c n p d e taken grows =
     omega arith
 
 -- from the input of a node to the node, which goes back over the same input
-pub finish : (top : Bool) (asked names : List Name) (a b c : List IR) (ex : List AExpr) (n i : Node) (p q d : IR) (t : Trees IR) → StandsOnce plan_shape a (n ∷ []) t → slice_get a n.0 ≡ Some p → b ≡ slice_set a n.0 d → inputs_of p ≡ i ∷ [] → inputs_of q ≡ inputs_of p → is_invalid q ≡ false → roots_of q ≡ roots_of p → names ≡ asks asked (op_at ex p) → ((f : Roses (Unit {0}) Op) → rose tt (op_at ex q) f ≡ rebuilt top asked (op_at ex p) f) → ((kids : Trees IR) → StandsOnce plan_shape b (i ∷ []) kids → Prunes top names b c ex i kids) → Prunes top asked a (slice_set c n.0 q) ex n t
+pub finish : (top : Bool) (asked names : List Name) (a b c : List IR) (ex : List AExpr) (n i : Node) (p q d : IR) (t : Trees IR) → StandsOnce plan_shape a (n ∷ []) t → slice_get a n.0 ≡ Some p → b ≡ slice_set a n.0 d → inputs_of p ≡ i ∷ [] → inputs_of q ≡ inputs_of p → is_invalid q ≡ false → roots_of q ≡ roots_of p → names ≡ asks asked (op_at ex p) → ((f : Roses (Unit {0}) Op) → rose tt (op_at ex q) f ≡ rebuilt top asked (op_at ex p) f) → PrunesAt top names b c ex i → Prunes top asked a (slice_set c n.0 q) ex n t
 finish top asked names a b c ex n i p q d t h e taken one same valid roots asks_is built below =
     let o = opened plan_shape a n p t h e in
     let under : StandsOnce plan_shape b (inputs_of p) o.kids = rw taken (StandsOnce-set plan_shape a (inputs_of p) o.kids n.0 d o.inputs o.above) in

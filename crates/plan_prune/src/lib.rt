@@ -5,3 +5,6 @@ pub mod laws;
 mod push_down;
 
 pub use push_down::ProjectionPushDown;
+
+#[cfg(test)]
+mod tests;

@@ -2,9 +2,7 @@
 //! Each node is told the names that are asked of it, and asks its inputs the names that it needs;
 //! no names stand for every column. The rule of a node kind is in a file of its own.
 ghost use Rattle.std.specs.Prelude.{◌≡◌, ◌≤◌, ◌+◌, [], ◌∷◌, OnOk, false, length, not};
-ghost use Rattle.plan_tree.specs.Stands.{Trees, StandsOnce};
-ghost use Rattle.plan_ir.specs.declared.ir.IR.{IR};
-ghost use Rattle.plan_ir.specs.Parts.{IsPlan, plan_shape};
+ghost use Rattle.plan_ir.specs.Parts.{IsPlan};
 ghost use Rattle.plan_ir.specs.Plans.{bare, plans_at};
 ghost use Rattle.plan_meaning.specs.PlanAt.{plan_at};
 ghost use Rattle.plan_meaning.specs.Steps.{IsValid};
@@ -12,8 +10,13 @@ ghost use Rattle.plan_meaning.specs.Relating.{all, Refines};
 ghost use Rattle.plan_meaning.specs.Asked.{sites_of};
 ghost use Rattle.plan_meaning.specs.Scans.{nodes, scans};
 ghost use Rattle.plan_prune.specs.Pruned.{pruned_all};
+<<<<<<< HEAD
 ghost use Rattle.plan_prune.specs.Prunes.{Prunes};
 ghost use Rattle.plan_prune.specs.Reads.{ReadWithin, tops};
+=======
+ghost use Rattle.plan_prune.specs.Prunes.{PrunesAt};
+ghost use Rattle.plan_prune.specs.Reads.{ReadWithin, nodes, scans, tops};
+>>>>>>> 129bea23e1cbf0b443fa993f21f986b9cd8beed9
 
 mod filter;
 mod projection;
@@ -49,16 +52,19 @@ impl ProjectionPushDown {
         ex: &Arena<AExpr>,
     ) -> Result<(), AllocError>
         requires { IsPlan lp.old ex.now root }
-        ensures pruned { OnOk result (bare (plans_at lp.new ex.now (root ∷ [])) ≡ pruned_all (not self.old.is_count_star) [] (bare (plans_at lp.old ex.now (root ∷ [])))) }
-        ensures prunes { OnOk result ((t : Trees IR) → StandsOnce plan_shape lp.old (root ∷ []) t → Prunes (not self.old.is_count_star) [] lp.old lp.new ex.now root t) }
+        ensures pruned { OnOk result (
+            bare (plans_at lp.new ex.now (root ∷ []))
+            ≡ pruned_all (not self.old.is_count_star) [] (bare (plans_at lp.old ex.now (root ∷ [])))) }
+        ensures in_place { OnOk result (PrunesAt (not self.old.is_count_star) [] lp.old lp.new ex.now root) }
         ensures is_plan { OnOk result (IsPlan lp.new ex.now root) }
         ensures refines { OnOk result (IsValid (plan_at lp.old ex.now root) → Refines (plan_at lp.new ex.now root) (plan_at lp.old ex.now root)) }
         ensures reads { OnOk result (IsValid (plan_at lp.old ex.now root) → ReadWithin (scans (plan_at lp.new ex.now root)) (sites_of (plan_at lp.old ex.now root))) }
         ensures nodes { OnOk result (IsValid (plan_at lp.old ex.now root) → nodes (plan_at lp.new ex.now root) ≤ nodes (plan_at lp.old ex.now root) + tops (plan_at lp.old ex.now root) all) }
         ensures grows { length lp.old ≤ length lp.new }
-        ensures pass { self.new ≡ self.old }
+        ensures pass_stays { self.new ≡ self.old }
     {
-        self.push_down(alloc, root, Names::new(alloc), lp, ex)?;
+        let asked = Names::new(alloc);
+        self.push_down(alloc, root, asked, lp, ex)?;
         Ok(())
     }
 
@@ -72,7 +78,7 @@ impl ProjectionPushDown {
         ex: &Arena<AExpr>,
     ) -> Result<(), AllocError>
         requires { IsPlan lp.old ex.now node }
-        ensures prunes { OnOk result ((t : Trees IR) → StandsOnce plan_shape lp.old (node ∷ []) t → Prunes (not self.now.is_count_star) asked lp.old lp.new ex.now node t) }
+        ensures prunes { OnOk result (PrunesAt (not self.now.is_count_star) asked lp.old lp.new ex.now node) }
         ensures grows { length lp.old ≤ length lp.new }
     {
         match lp.take(node) {

@@ -1,4 +1,4 @@
-use Rattle.std.proofs.Common.{take, arith, rules}
+use Rattle.std.proofs.Common.{arith, rules}
 use Rattle.plan_stream.proofs.Taken.{all_taken, too_many}
 use Rattle.plan_stream.proofs.reading.read_all.Goals as goal
 

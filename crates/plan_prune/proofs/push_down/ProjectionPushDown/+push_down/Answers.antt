@@ -7,7 +7,7 @@ use Rattle.plan_core.specs.Names.{with_names}
 use Rattle.plan_tree.specs.Rose.{rose}
 use Rattle.plan_ir.specs.Plans.{simple_projection}
 use Rattle.plan_prune.specs.Scans.{with_pruned_scan}
-use Rattle.plan_prune.proofs.PruneLemmas.{Asks, input_asks, entry_stays, finish, scan_pruned}
+use Rattle.plan_prune.proofs.PruneLemmas.{input_asks, entry_stays, finish, scan_pruned}
 use Rattle.plan_prune.proofs.push_down.ProjectionPushDown.+push_down.Goals as goal
 
 pub asks-requires : goal.asks-requires

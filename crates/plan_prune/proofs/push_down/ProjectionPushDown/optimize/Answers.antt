@@ -10,13 +10,13 @@ pub returns-clause-pruned : goal.returns-clause-pruned
 returns-clause-pruned c =
     let top = not c.args.self.now.is_count_star in
     pruned_is top [] c.args.lp.now c.push_down.new.lp c.args.ex.now c.args.root c.requires
-    (subst (λ (l : List Name). Prunes top l c.args.lp.now c.push_down.new.lp c.args.ex.now c.args.root c.requires.nodes) c.new.ensures (c.in_ok-push_down.ensures.prunes c.requires.nodes c.requires.stands.nodes))
+    (subst (λ (l : List Name). Prunes top l c.args.lp.now c.push_down.new.lp c.args.ex.now c.args.root c.requires.nodes) c.new-asked.ensures (c.in_ok-push_down.ensures.prunes c.requires.nodes c.requires.stands.nodes))
 
 pub returns-clause-is_plan : goal.returns-clause-is_plan
 returns-clause-is_plan c =
     let top = not c.args.self.now.is_count_star in
     pruned_stands top [] c.args.lp.now c.push_down.new.lp c.args.ex.now c.args.root c.requires
-    (subst (λ (l : List Name). Prunes top l c.args.lp.now c.push_down.new.lp c.args.ex.now c.args.root c.requires.nodes) c.new.ensures (c.in_ok-push_down.ensures.prunes c.requires.nodes c.requires.stands.nodes))
+    (subst (λ (l : List Name). Prunes top l c.args.lp.now c.push_down.new.lp c.args.ex.now c.args.root c.requires.nodes) c.new-asked.ensures (c.in_ok-push_down.ensures.prunes c.requires.nodes c.requires.stands.nodes))
 
 pub returns-clause-refines : goal.returns-clause-refines
 returns-clause-refines c = λ v. refines_at (not c.args.self.now.is_count_star) (bare (plans_at c.args.lp.now c.args.ex.now (c.args.root ∷ []))) (bare (plans_at c.push_down.new.lp c.args.ex.now (c.args.root ∷ []))) (returns-clause-pruned c) v

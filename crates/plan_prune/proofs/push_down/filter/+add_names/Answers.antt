@@ -1,4 +1,4 @@
-use Rattle.std.proofs.Common.{◌≡◌, ◌∙◌, ap, refl, arith, Some, List, [], ◌∷◌}
+use Rattle.std.proofs.Common.{◌∙◌, ap, refl, arith, Some, List, [], ◌∷◌}
 use Rattle.plan_core.specs.Names.{with_names}
 use Rattle.plan_ir.specs.declared.expr.AExpr.TheVariants.{BinaryExpr}
 use Rattle.plan_ir.specs.Plans.{expr_at}

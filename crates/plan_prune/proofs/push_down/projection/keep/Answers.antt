@@ -1,5 +1,4 @@
-use Rattle.std.proofs.Common.{◌≡◌, ◌∙◌, ap, sym, arith, List, ℕ, take, true, false}
-use Rattle.std.specs.List.{filter}
+use Rattle.std.proofs.Common.{◌≡◌, ◌∙◌, ap, sym, arith, true, false}
 use Rattle.plan_core.specs.Columns.{Columns, with_type}
 use Rattle.plan_core.specs.Names.{has}
 use Rattle.plan_prune.specs.Leaves.{Name}

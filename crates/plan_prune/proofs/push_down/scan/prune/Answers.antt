@@ -1,7 +1,6 @@
-use Rattle.std.proofs.Common.{◌≡◌, ◌∙◌, ap, sym, arith, length, false, true, List, Bool}
-use Rattle.std.specs.List.{slice_set}
+use Rattle.std.proofs.Common.{◌≡◌, ◌∙◌, ap, sym, arith, length, false, true, Bool}
 use Rattle.plan_ir.specs.declared.ir.IR.{IR}
-use Rattle.plan_prune.specs.Scans.{narrowed, with_node, with_pruned_scan}
+use Rattle.plan_prune.specs.Scans.{with_node, with_pruned_scan}
 use Rattle.plan_prune.proofs.PruneLemmas.{placed-asked, placed-top}
 use Rattle.plan_prune.proofs.push_down.scan.prune.Goals as goal
 

@@ -1,4 +1,4 @@
-use Rattle.std.proofs.Common.{◌≡◌, ◌∙◌, ap, sym, arith, rules, List, Some, None}
+use Rattle.std.proofs.Common.{◌≡◌, ◌∙◌, ap, sym, arith, rules, Some, None}
 use Rattle.plan_core.specs.Columns.{Columns, type_of, with_type}
 use Rattle.plan_prune.specs.Leaves.{Name}
 use Rattle.plan_prune.proofs.ListSteps.{typed-next, typed-skip, not_past}

@@ -1,0 +1,173 @@
+//! Parts, copies and reads of a small plan: a projection to a over a filter b > 1 over a scan of a, b and c.
+ghost use Rattle.std.specs.Prelude.{◌≡◌, length, IfOk};
+ghost use Rattle.plan_ir.specs.Parts.{inputs_of, operands_of};
+
+use crate::copy::expr_steps;
+use crate::{
+    AExpr, ExprIR, FileInfo, FileScan, IR, LiteralValue, Operator, OutputName, PlanCopy,
+    ScanSources, reads, renumbered, scan_reads,
+};
+use plan_core::{Arena, DataType, FileScanOptions, Items, Node, PlSmallStr, Schema, TryClone};
+use plan_tree::{Step, walk};
+use std::alloc::{AllocError, Global};
+use std::test::Fail;
+
+/// Columns of numbers.
+fn columns(alloc: Global, names: &[&str]) -> Result<Schema, AllocError> {
+    let mut schema = Schema::new(alloc);
+    for name in names {
+        let _ = schema.with_column(PlSmallStr::new(alloc, name)?, DataType::Int64)?;
+    }
+    Ok(schema)
+}
+
+/// Names.
+fn texts(alloc: Global, names: &[&str]) -> Result<Items<PlSmallStr>, AllocError> {
+    let mut texts = Items::new(alloc);
+    for name in names {
+        texts.push(PlSmallStr::new(alloc, name)?)?;
+    }
+    Ok(texts)
+}
+
+/// A scan of a, b and c, of which some are asked for.
+fn scan(alloc: Global, asked: Option<Items<PlSmallStr>>) -> Result<IR, AllocError> {
+    Ok(IR::Scan {
+        sources: ScanSources::Paths(texts(alloc, &["t"])?),
+        file_info: FileInfo {
+            schema: columns(alloc, &["a", "b", "c"])?,
+            reader_schema: Some(columns(alloc, &["a", "b", "c"])?),
+        },
+        predicate: None,
+        output_schema: None,
+        scan_type: FileScan::Parquet,
+        file_options: FileScanOptions {
+            with_columns: asked,
+            ..FileScanOptions::default()
+        },
+    })
+}
+
+/// A filter whose expression is named after the column b.
+fn filter(alloc: Global, input: usize, predicate: usize) -> Result<IR, AllocError>
+    ensures { IfOk result (λ node. length (inputs_of node) ≡ 1) }
+{
+    let name = OutputName::ColumnLhs(PlSmallStr::new(alloc, "b")?);
+    Ok(IR::Filter {
+        input: Node(input),
+        predicate: ExprIR::new(Node(predicate), name),
+    })
+}
+
+/// A projection to a.
+fn projection(alloc: Global, input: usize) -> Result<IR, AllocError> {
+    Ok(IR::SimpleProjection {
+        input: Node(input),
+        columns: columns(alloc, &["a"])?,
+    })
+}
+
+/// A comparison of two expressions.
+fn greater(left: usize, right: usize) -> AExpr
+    ensures { length (operands_of result) ≡ 2 }
+{
+    AExpr::BinaryExpr {
+        left: Node(left),
+        op: Operator::Gt,
+        right: Node(right),
+    }
+}
+
+/// The copy of the plan at a root, if the root leads to one.
+fn copied(
+    alloc: Global,
+    root: Node,
+    lp: &Arena<IR>,
+    ex: &Arena<AExpr>,
+) -> Result<Option<PlanCopy>, AllocError> {
+    let start = Step {
+        node: root,
+        mark: (),
+    };
+    let nodes = walk(alloc, lp, &[start])?;
+    if nodes.fault.is_some() {
+        return Ok(None);
+    }
+    let steps = expr_steps(alloc, nodes.listed.as_slice(), lp)?;
+    let exprs = walk(alloc, ex, steps.as_slice())?;
+    if exprs.fault.is_some() {
+        return Ok(None);
+    }
+    Ok(Some(renumbered(alloc, root, lp, ex)?))
+}
+
+/// Nodes and expressions among others: the plan stands at 5.
+fn plan_at_five(alloc: Global) -> Result<(Arena<IR>, Arena<AExpr>), AllocError> {
+    let mut lp = Arena::new(alloc);
+    lp.add(IR::Invalid)?;
+    lp.add(scan(alloc, None)?)?;
+    lp.add(IR::Invalid)?;
+    lp.add(filter(alloc, 1, 4)?)?;
+    lp.add(IR::Invalid)?;
+    lp.add(projection(alloc, 3)?)?;
+    let mut ex = Arena::new(alloc);
+    ex.add(AExpr::Literal(LiteralValue::Int64(7)))?;
+    ex.add(AExpr::Column(PlSmallStr::new(alloc, "b")?))?;
+    ex.add(AExpr::Column(PlSmallStr::new(alloc, "c")?))?;
+    ex.add(AExpr::Literal(LiteralValue::Int64(1)))?;
+    ex.add(greater(1, 3))?;
+    Ok((lp, ex))
+}
+
+#[test]
+fn renumbers_in_walk_order(rt: HostRuntime) -> Result<(), Fail> {
+    let alloc = rt.alloc();
+    let (lp, ex) = plan_at_five(alloc)?;
+    let copy = copied(alloc, Node(5), &lp, &ex)?.ok_or("a plan")?;
+    assert_eq!(rt; copy.root, Node(0));
+    assert_eq!(rt; copy.lp.len(), 3);
+    assert!(rt; *copy.lp.get(Node(0)) == projection(alloc, 1)?);
+    assert!(rt; *copy.lp.get(Node(1)) == filter(alloc, 2, 0)?);
+    assert!(rt; *copy.lp.get(Node(2)) == scan(alloc, None)?);
+    assert_eq!(rt; copy.ex.len(), 3);
+    assert!(rt; *copy.ex.get(Node(0)) == greater(1, 2));
+    assert!(rt; *copy.ex.get(Node(1)) == AExpr::Column(PlSmallStr::new(alloc, "b")?));
+    assert!(rt; *copy.ex.get(Node(2)) == AExpr::Literal(LiteralValue::Int64(1)));
+    Ok(())
+}
+
+#[test]
+fn takes_parts_apart_and_puts_them_back(rt: HostRuntime) -> Result<(), Fail> {
+    let alloc = rt.alloc();
+    let node = filter(alloc, 2, 4)?;
+    let exprs = node.get_exprs(alloc)?;
+    assert_eq!(rt; exprs.len(), 1);
+    assert_eq!(rt; exprs.as_slice()[0].node, Node(4));
+    let mut inputs = Items::new(alloc);
+    inputs.push(Node(2))?;
+    assert!(rt; node.with_exprs_and_input(alloc, exprs, inputs)? == node.try_clone(alloc)?);
+    assert!(rt; greater(1, 2).with_operands(alloc, &[Node(8), Node(9)])? == greater(8, 9));
+    Ok(())
+}
+
+#[test]
+fn lists_what_scans_read(rt: HostRuntime) -> Result<(), Fail> {
+    let alloc = rt.alloc();
+    let all = texts(alloc, &["a", "b", "c"])?;
+    let some = texts(alloc, &["c", "a"])?;
+    let mut plan = PlanCopy {
+        root: Node(1),
+        lp: Arena::new(alloc),
+        ex: Arena::new(alloc),
+    };
+    plan.lp.add(scan(alloc, None)?)?;
+    plan.lp.add(projection(alloc, 2)?)?;
+    plan.lp.add(scan(alloc, Some(some.try_clone(alloc)?))?)?;
+    let lists = scan_reads(alloc, &plan)?;
+    assert_eq!(rt; plan.lp.len(), 3);
+    let last = plan.lp.get(Node(2));
+    assert!(rt; last.is_scan());
+    assert!(rt; reads(alloc, last)? == some.try_clone(alloc)?);
+    assert_eq!(rt; lists.as_slice(), [all, some].as_slice());
+    Ok(())
+}
