@@ -10,13 +10,8 @@ ghost use Rattle.plan_meaning.specs.Relating.{all, Refines};
 ghost use Rattle.plan_meaning.specs.Asked.{sites_of};
 ghost use Rattle.plan_meaning.specs.Scans.{nodes, scans};
 ghost use Rattle.plan_prune.specs.Pruned.{pruned_all};
-<<<<<<< HEAD
-ghost use Rattle.plan_prune.specs.Prunes.{Prunes};
-ghost use Rattle.plan_prune.specs.Reads.{ReadWithin, tops};
-=======
 ghost use Rattle.plan_prune.specs.Prunes.{PrunesAt};
-ghost use Rattle.plan_prune.specs.Reads.{ReadWithin, nodes, scans, tops};
->>>>>>> 129bea23e1cbf0b443fa993f21f986b9cd8beed9
+ghost use Rattle.plan_prune.specs.Reads.{ReadWithin, tops};
 
 mod filter;
 mod projection;
