@@ -13,3 +13,4 @@ pub mod Refining
 pub mod Related
 pub mod Validity
 pub mod Fairness
+pub mod Keeping

@@ -12,3 +12,4 @@ pub mod Steps
 pub mod Relating
 pub mod PlanAt
 pub mod Asked
+pub mod Scans

@@ -18,6 +18,7 @@ ghost use Rattle.plan_meaning.specs.Contents.{Contents, Fits};
 ghost use Rattle.plan_meaning.specs.Steps.{May, IsValid};
 ghost use Rattle.plan_meaning.specs.Relating.{Refines, Replaced};
 ghost use Rattle.plan_meaning.specs.Asked.{AllSites, SiteFair};
+ghost use Rattle.plan_meaning.specs.Scans.{Keeps};
 
 /// What an expression means depends only on the height of a frame and on the columns that it reads.
 pub fn meaning_depends_on_leaves()
@@ -64,4 +65,14 @@ pub fn accepted_plans_are_valid()
     ensures valid { (lp : List IR) (ex : List AExpr) (root : Node) (s : Columns) → IsPlan lp ex root → typed lp ex root ≡ Ok s → IsValid (plan_at lp ex root) }
     ensures schema { (lp : List IR) (ex : List AExpr) (root : Node) (s : Columns) → IsPlan lp ex root → typed lp ex root ≡ Ok s → schema (plan_at lp ex root) ≡ s }
     ensures accepted { (lp : List IR) (ex : List AExpr) (root : Node) → IsPlan lp ex root → tree_fault lp ex root ≡ None → IsValid (plan_at lp ex root) → typed lp ex root ≡ Ok (schema (plan_at lp ex root)) }
+{}
+
+/// A plan keeps its scans.
+pub fn keeps_is_reflexive()
+    ensures { (p : Plan) → Keeps p p }
+{}
+
+/// What keeps the scans of a plan that keeps those of another keeps those of the other.
+pub fn keeps_is_transitive()
+    ensures { (r q p : Plan) → Keeps r q → Keeps q p → Keeps r p }
 {}

@@ -1,12 +1,12 @@
 pub mod GrowLemmas
 pub mod ListSteps
 pub mod PruneLemmas
-mod NarrowLemmas
+pub mod NarrowLemmas
 mod AddedNames
-mod AskedNames
-mod ProjectionNarrows
-mod ScanNarrows
-mod PrunedNarrows
-mod PrunedReads
-mod PlanPruned
+pub mod AskedNames
+pub mod ProjectionNarrows
+pub mod ScanNarrows
+pub mod PrunedNarrows
+pub mod PrunedReads
+pub mod PlanPruned
 mod Example

@@ -7,7 +7,8 @@ use Rattle.plan_meaning.specs.Relating.{all, Refines}
 use Rattle.plan_meaning.specs.Asked.{sites_of}
 use Rattle.plan_meaning.specs.PlanAt.{one_plan}
 use Rattle.plan_prune.specs.Pruned.{pruned, pruned_all}
-use Rattle.plan_prune.specs.Reads.{ReadWithin, scans, nodes, tops}
+use Rattle.plan_meaning.specs.Scans.{scans, nodes}
+use Rattle.plan_prune.specs.Reads.{ReadWithin, tops}
 use Rattle.plan_prune.proofs.PrunedNarrows.{pruned_refines}
 use Rattle.plan_prune.proofs.PrunedReads.{pruned_reads, pruned_nodes}
 

@@ -1,15 +1,19 @@
 -- A pruned plan scans the same sources, reads only what is asked, and has few nodes more.
-use Rattle.std.proofs.Common.{◌≡◌, ◌+◌, ◌≤◌, Bool, true, false, List, [], ◌∷◌, ◌++◌, refl, sym, subst, append-nil, append_assoc, arith}
+use Rattle.std.proofs.Common.{◌≡◌, ◌+◌, ◌≤◌, Bool, true, false, List, [], ◌∷◌, ◌++◌, map, refl, sym, ◌∙◌, subst, append-nil, append_assoc, arith}
+use Rattle.std.specs.List.{AllByRecursion}
 use Rattle.plan_core.specs.Columns.{Columns}
 use Rattle.plan_tree.specs.Rose.{Roses, rose, no_roses, more, size}
 use Rattle.plan_ir.specs.Plans.{Op, filter, scan, simple_projection, invalid, Plan}
 use Rattle.plan_meaning.specs.Typing.{schemas, AllValid}
 use Rattle.plan_meaning.specs.Steps.{IsValid}
 use Rattle.plan_meaning.specs.Relating.{Asked, all}
-use Rattle.plan_meaning.specs.Asked.{set_of, asks as asks_of, Site, own_site, sites, sites_of}
+use Rattle.plan_meaning.specs.Asked.{set_of, asks as asks_of, Site, SiteFair, own_site, sites, sites_of}
+use Rattle.plan_meaning.specs.Scans.{scans, scans_in, KeepScans, Keeps, nodes}
+use Rattle.plan_meaning.proofs.Fairness.{plan_sites_fair}
+use Rattle.plan_meaning.proofs.Keeping.{sites-scans}
 use Rattle.plan_prune.specs.Leaves.{Name}
 use Rattle.plan_prune.specs.Pruned.{asks, rebuilt, pruned, pruned_all}
-use Rattle.plan_prune.specs.Reads.{scans, scans_in, ReadWithin, nodes, own_tops, tops_in, tops}
+use Rattle.plan_prune.specs.Reads.{ReadWithin, own_tops, tops_in, tops}
 use Rattle.plan_prune.proofs.AskedNames.{each_asked, asks-each}
 
 reads_append : (os us : List Op) (ss zs : List Site) → ReadWithin os ss → ReadWithin us zs → ReadWithin (os ++ us) (ss ++ zs)
@@ -44,6 +48,19 @@ all_read top l (more (rose n op ts) rest) v =
 pub pruned_reads : (top : Bool) (p : Plan) → IsValid p → ReadWithin (scans (pruned top [] p)) (sites_of p)
 pruned_reads top (rose n op ts) v =
     subst (λ (os : List Op). ReadWithin os (sites_of (rose n op ts))) (append-nil (scans (pruned top [] (rose n op ts)))) (all_read top [] (more (rose n op ts) no_roses) (v.0, v.1, tt))
+
+-- what reads only what is asked reads only what was read
+read_keeps : (os : List Op) (ss : List Site) → ReadWithin os ss → AllByRecursion SiteFair ss → KeepScans os (map (λ (s : Site). s.at_scan) ss)
+read_keeps [] [] h f = tt
+read_keeps (o ∷ os) (s ∷ ss) h f = (h.0, (λ a i. f.0.allowed a (h.1 a i)), read_keeps os ss h.2 f.1)
+read_keeps [] (s ∷ ss) h f = absurd h
+read_keeps (o ∷ os) [] h f = absurd h
+
+-- a pruned plan keeps the scans of the plan
+pub pruned_keeps : (top : Bool) (p : Plan) → IsValid p → Keeps (pruned top [] p) p
+pruned_keeps top (rose n op ts) v =
+    let p : Plan = rose n op ts in
+    subst (λ (x : List Op). KeepScans (scans (pruned top [] p)) x) (sites-scans (more p no_roses) (all ∷ []) ∙ append-nil (scans p)) (read_keeps (scans (pruned top [] p)) (sites_of p) (pruned_reads top p v) (plan_sites_fair p v))
 
 -- nodes
 

@@ -1,43 +1,20 @@
--- The scans of a plan, what they read, and how many nodes pruning may add.
-use Rattle.std.specs.Prelude.{◌≡◌, ℕ, ◌+◌, true, List, [], ◌∷◌, ◌++◌}
+-- What the scans of a pruned plan may read, and how many nodes pruning may add.
+use Rattle.std.specs.Prelude.{◌≡◌, ℕ, ◌+◌, true, List, [], ◌∷◌}
 use Rattle.plan_core.specs.Columns.{Columns}
 use Rattle.plan_core.specs.Names.{has}
-use Rattle.plan_tree.specs.Rose.{Roses, rose, no_roses, more, size}
+use Rattle.plan_tree.specs.Rose.{Roses, rose, no_roses, more}
 use Rattle.plan_ir.specs.Plans.{Op, filter, scan, simple_projection, invalid, Plan}
 use Rattle.plan_meaning.specs.Exprs.{Name}
 use Rattle.plan_meaning.specs.Typing.{schemas}
 use Rattle.plan_meaning.specs.Relating.{Asked, all, names, cached}
+use Rattle.plan_meaning.specs.Scans.{SameScan}
 use Rattle.plan_meaning.specs.Asked.{asks, first_asked, rest_asked, reads, allowed, Site}
-
-abbrev pub own_scan : Op → List Op
-own_scan (scan sources info predicate output kind options) = scan sources info predicate output kind options ∷ []
-own_scan (filter predicate) = []
-own_scan (simple_projection columns) = []
-own_scan invalid = []
-
--- the scans of a plan from left to right
-abbrev mutual
-  pub scans : Plan → List Op
-  scans (rose n op ts) = own_scan op ++ scans_in ts
-
-  pub scans_in : Roses (Unit {0}) Op → List Op
-  scans_in no_roses = []
-  scans_in (more p rest) = scans p ++ scans_in rest
-
--- two scans are of one kind, over the same sources in the same order
-abbrev pub SameScan : Op → Op → Type 0
-SameScan (scan sources info predicate output kind options) (scan sources' info' predicate' output' kind' options') = (sources ≡ sources') × (kind ≡ kind')
-SameScan _ _ = ⊥
 
 -- the scans stand one for one for those that are asked something, and each reads only what it may for that
 abbrev pub ReadWithin : List Op → List Site → Type 0
 ReadWithin [] [] = Unit {0}
 ReadWithin (o ∷ os) (s ∷ ss) = SameScan o s.at_scan × ((a : Name) → has (reads o) a ≡ true → has (allowed s.at_scan s.asked) a ≡ true) × ReadWithin os ss
 ReadWithin _ _ = ⊥
-
--- how many nodes a plan has
-abbrev pub nodes : Plan → ℕ
-nodes p = size (more p no_roses)
 
 -- one where names are asked
 abbrev pub one_if_asked : Asked → ℕ

@@ -5,9 +5,10 @@ ghost use Rattle.plan_meaning.specs.Typing.{schema};
 ghost use Rattle.plan_meaning.specs.Steps.{IsValid};
 ghost use Rattle.plan_meaning.specs.Relating.{all, Narrows, Refines};
 ghost use Rattle.plan_meaning.specs.Asked.{set_of, sites_of, IsFair};
+ghost use Rattle.plan_meaning.specs.Scans.{Keeps, nodes, scans};
 ghost use Rattle.plan_prune.specs.Leaves.{Name};
 ghost use Rattle.plan_prune.specs.Pruned.{pruned};
-ghost use Rattle.plan_prune.specs.Reads.{ReadWithin, nodes, scans, tops};
+ghost use Rattle.plan_prune.specs.Reads.{ReadWithin, tops};
 
 /// A valid plan that is pruned to names of its own narrows at these names.
 pub fn pruned_plans_narrow()
@@ -22,6 +23,11 @@ pub fn pruned_plans_refine()
 /// The scans of a pruned plan stand one for one for those of the plan, and read only what is asked of them.
 pub fn pruned_plans_read_what_is_asked()
     ensures { (top : Bool) (p : Plan) → IsValid p → ReadWithin (scans (pruned top [] p)) (sites_of p) }
+{}
+
+/// A pruned plan keeps the scans of the plan.
+pub fn pruned_plans_keep_scans()
+    ensures { (top : Bool) (p : Plan) → IsValid p → Keeps (pruned top [] p) p }
 {}
 
 /// A pruned plan has at most one node more for each scan that is asked names.

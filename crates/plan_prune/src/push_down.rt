@@ -8,9 +8,10 @@ ghost use Rattle.plan_meaning.specs.PlanAt.{plan_at};
 ghost use Rattle.plan_meaning.specs.Steps.{IsValid};
 ghost use Rattle.plan_meaning.specs.Relating.{all, Refines};
 ghost use Rattle.plan_meaning.specs.Asked.{sites_of};
+ghost use Rattle.plan_meaning.specs.Scans.{nodes, scans};
 ghost use Rattle.plan_prune.specs.Pruned.{pruned_all};
 ghost use Rattle.plan_prune.specs.Prunes.{PrunesAt};
-ghost use Rattle.plan_prune.specs.Reads.{ReadWithin, nodes, scans, tops};
+ghost use Rattle.plan_prune.specs.Reads.{ReadWithin, tops};
 
 mod filter;
 mod projection;
