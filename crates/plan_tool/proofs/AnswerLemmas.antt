@@ -22,7 +22,8 @@ use Rattle.plan_meaning.specs.Asked.{sites_of}
 use Rattle.plan_meaning.specs.Relating.{Refines}
 use Rattle.plan_meaning.specs.Steps.{IsValid}
 use Rattle.plan_meaning.proofs.Refining.{refines_refl}
-use Rattle.plan_prune.specs.Reads.{ReadWithin, scans}
+use Rattle.plan_meaning.specs.Scans.{scans}
+use Rattle.plan_prune.specs.Reads.{ReadWithin}
 use Rattle.plan_tool.specs.Listings.{IsAnswer, pushdown_bit, SaysOf, SaysOfDocument, Lists, Refuses}
 use Rattle.plan_tool.specs.Causes.{Call, Comes, IsCommand, Finished, Broke, Finishes, Listed, Told, Cut}
 

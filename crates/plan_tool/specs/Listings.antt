@@ -18,7 +18,8 @@ use Rattle.plan_meaning.specs.Asked.{sites_of}
 use Rattle.plan_meaning.specs.PlanAt.{plan_at}
 use Rattle.plan_meaning.specs.Relating.{Refines}
 use Rattle.plan_prune.specs.Pruned.{pruned_all}
-use Rattle.plan_prune.specs.Reads.{ReadWithin, scans}
+use Rattle.plan_meaning.specs.Scans.{scans}
+use Rattle.plan_prune.specs.Reads.{ReadWithin}
 use Rattle.plan_text.specs.Written.{listing_text}
 use Rattle.plan_tool.specs.declared.stop.Stop.{Stop}
 use Rattle.plan_tool.specs.declared.stop.Stop.TheVariants as stops
