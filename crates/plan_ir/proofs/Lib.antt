@@ -5,3 +5,4 @@ pub mod EntryLemmas
 pub mod MovedLemmas
 pub mod ReadLemmas
 pub mod CopyLemmas
+pub mod RenumberedLemmas

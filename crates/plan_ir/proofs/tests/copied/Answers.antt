@@ -1,11 +1,8 @@
 use Rattle.std.proofs.Common.{◌≡◌, ◌∙◌, [], ◌∷◌, None, length, refl, rules}
 use Rattle.std.specs.List.{flat_map}
-use Rattle.plan_tree.specs.Stands.{Trees, StandsOnce}
-use Rattle.plan_tree.specs.Walk.{nodes_of, steps_to}
-use Rattle.plan_ir.specs.declared.ir.IR.{IR}
-use Rattle.plan_ir.specs.declared.expr.AExpr.{AExpr}
+use Rattle.plan_tree.specs.Walk.{steps_to}
 use Rattle.plan_ir.specs.Moved.{entries_at}
-use Rattle.plan_ir.specs.Parts.{expr_shape, plan_shape, roots_of, IsPlan}
+use Rattle.plan_ir.specs.Parts.{plan_shape, roots_of}
 use Rattle.plan_ir.proofs.CopyLemmas.{labels-within, plan_found}
 use Rattle.plan_ir.proofs.tests.copied.Goals as goal
 
