@@ -5,6 +5,8 @@ mod check;
 mod depth;
 mod exprs;
 mod plan;
+#[cfg(test)]
+mod tests;
 mod tree;
 
 pub use depth::{Depth, depth_of};
