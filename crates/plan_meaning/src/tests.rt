@@ -3,7 +3,9 @@ use super::*;
 use plan_core::{
     Arena, At, DataType, FileScanOptions, Items, Node, PlSmallStr, PolarsError, Schema, TryClone,
 };
-use plan_ir::{AExpr, ExprIR, FileInfo, FileScan, IR, LiteralValue, Operator, OutputName, ScanSources};
+use plan_ir::{
+    AExpr, ExprIR, FileInfo, FileScan, IR, LiteralValue, Operator, OutputName, ScanSources,
+};
 use std::alloc::{AllocError, Global};
 use std::test::Fail;
 
