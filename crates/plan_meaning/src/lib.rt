@@ -6,6 +6,8 @@ mod depth;
 mod exprs;
 pub mod laws;
 mod plan;
+#[cfg(test)]
+mod tests;
 mod tree;
 
 pub use check::{check_filter, check_projection, check_scan};

@@ -2,8 +2,8 @@
 #![tactic(auto)]
 
 mod check;
-mod command;
 mod listings;
+mod command;
 mod status;
 mod stop;
 #[cfg(test)]

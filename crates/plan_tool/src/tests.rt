@@ -1,6 +1,8 @@
 //! The command on documents, each with its status and all that it writes.
-use crate::run;
-use plan_stream::{MemorySink, MemorySource};
+ghost use Rattle.std.specs.Prelude.{None, Some};
+
+use crate::{LIMIT, run};
+use plan_stream::{Failed, MemorySink, MemorySource, Sink, Source};
 use std::alloc::Global;
 use std::process::Abort;
 use std::test::Fail;
@@ -275,6 +277,7 @@ fn a_full_sink_holds_a_front_of_the_text(rt: HostRuntime) -> Result<(), Fail> {
 
 #[test]
 fn a_document_has_a_largest_size(rt: HostRuntime) -> Result<(), Fail> {
+    assert_eq!(rt; LIMIT, 16777216);
     for (length, status) in [(16777216, 3), (16777217, 7)] {
         let spaces = vec![in rt.alloc(); b' '; length]?;
         let (code, sink) = answer(rt.alloc(), &["optimize"], spaces.as_slice(), 4096, 100)?;
@@ -326,6 +329,97 @@ fn a_plan_has_a_largest_depth(rt: HostRuntime) -> Result<(), Fail> {
         let (code, sink) = answer(rt.alloc(), &["optimize"], document.as_bytes(), 4096, 100000)?;
         assert_eq!(rt; code, status, "of {filters}");
         assert_eq!(rt; sink.bytes().is_empty(), status == 7, "of {filters}");
+    }
+    Ok(())
+}
+
+/// A source that gives some bytes at once, and then fails.
+#[derive(Drop)]
+struct FailingSource<'a> {
+    bytes: &'a [u8],
+    faults: u64,
+}
+
+impl Source for FailingSource<'_> {
+    ghost left = { λ s. None };
+
+    ghost faults = { λ s. s.faults };
+
+    fn read(&mut self, buf: &mut [u8]) -> Result<usize, Failed> {
+        let count = self.bytes.len().min(buf.len());
+        if count == 0 {
+            self.faults = self.faults.saturating_add(1);
+            return Err(Failed);
+        }
+        let (front, rest) = self.bytes.split_at(count);
+        buf[..count].copy_from_slice(front);
+        self.bytes = rest;
+        Ok(count)
+    }
+}
+
+#[test]
+fn a_source_may_fail(rt: HostRuntime) -> Result<(), Fail> {
+    let words = [String::from_str(rt.alloc(), "optimize")?];
+    let (front, _) = GOOD.as_bytes().split_at(100);
+    for bytes in [front, GOOD.as_bytes()] {
+        let mut source = FailingSource { bytes, faults: 0 };
+        let mut sink = MemorySink::new(rt.alloc(), 100)?;
+        let status = run(rt.alloc(), &words, &mut source, &mut sink);
+        assert_eq!(rt; (status.code(), source.faults), (8, 1));
+        assert_eq!(rt; sink.bytes().len(), 0);
+    }
+    Ok(())
+}
+
+/// A sink that takes ten bytes a call. It fails after so many writes, and at each flush.
+#[derive(Drop)]
+struct FailingSink {
+    bytes: Vec<u8>,
+    writes: usize,
+    faults: u64,
+    clean: bool,
+}
+
+impl Sink for FailingSink {
+    ghost held = { λ s. Some s.bytes.items };
+
+    ghost clean = { λ s. s.clean };
+
+    ghost faults = { λ s. s.faults };
+
+    fn write(&mut self, piece: &[u8]) -> Result<usize, Failed> {
+        let count = piece.len().min(10);
+        if self.writes == 0 || self.bytes.extend_from_slice(&piece[..count]).is_err() {
+            self.faults = self.faults.saturating_add(1);
+            return Err(Failed);
+        }
+        self.writes -= 1;
+        self.clean = false;
+        Ok(count)
+    }
+
+    fn flush(&mut self) -> Result<(), Failed> {
+        self.faults = self.faults.saturating_add(1);
+        Err(Failed)
+    }
+}
+
+#[test]
+fn a_sink_may_fail(rt: HostRuntime) -> Result<(), Fail> {
+    let words = [String::from_str(rt.alloc(), "optimize")?];
+    let listing = format!(in rt.alloc(); "{LISTING}\n")?;
+    for (writes, front) in [(1, r#"{"plan":{""#), (1000, listing.as_str())] {
+        let mut source = MemorySource::new(GOOD.as_bytes(), 100);
+        let mut sink = FailingSink {
+            bytes: Vec::new(rt.alloc()),
+            writes,
+            faults: 0,
+            clean: true,
+        };
+        let status = run(rt.alloc(), &words, &mut source, &mut sink);
+        assert_eq!(rt; (status.code(), sink.faults), (9, 1), "after {writes}");
+        assert_eq!(rt; sink.bytes.as_slice(), front.as_bytes(), "after {writes}");
     }
     Ok(())
 }

@@ -1,0 +1,108 @@
+//! The checks on one small plan, and on the same plan with a number met twice.
+use super::*;
+use plan_core::{
+    Arena, At, DataType, FileScanOptions, Items, Node, PlSmallStr, PolarsError, Schema, TryClone,
+};
+use plan_ir::{
+    AExpr, ExprIR, FileInfo, FileScan, IR, LiteralValue, Operator, OutputName, ScanSources,
+};
+use std::alloc::{AllocError, Global};
+use std::test::Fail;
+
+fn text(alloc: Global, name: &str) -> Result<PlSmallStr, AllocError> {
+    PlSmallStr::new(alloc, name)
+}
+
+// The schema of columns of whole numbers.
+fn numbers(alloc: Global, names: &[&str]) -> Result<Schema, AllocError> {
+    let mut schema = Schema::new(alloc);
+    for name in names {
+        schema.with_column(text(alloc, *name)?, DataType::Int64)?;
+    }
+    Ok(schema)
+}
+
+// The scan of t, with the columns a and b.
+fn scan(alloc: Global) -> Result<IR, AllocError> {
+    let mut paths = Items::new(alloc);
+    paths.push(text(alloc, "t")?)?;
+    let schema = numbers(alloc, &["a", "b"])?;
+    let reader_schema = Some(schema.try_clone(alloc)?);
+    Ok(IR::Scan {
+        sources: ScanSources::Paths(paths),
+        file_info: FileInfo {
+            schema,
+            reader_schema,
+        },
+        predicate: None,
+        output_schema: None,
+        scan_type: FileScan::Parquet,
+        file_options: FileScanOptions::default(),
+    })
+}
+
+// Column a of the rows of t where b is more than 1: a projection, a filter over `input`, and the scan 2.
+fn nodes(alloc: Global, input: usize) -> Result<Arena<IR>, AllocError> {
+    let mut lp = Arena::new(alloc);
+    lp.add(IR::SimpleProjection {
+        input: Node(1),
+        columns: numbers(alloc, &["a"])?,
+    })?;
+    lp.add(IR::Filter {
+        input: Node(input),
+        predicate: ExprIR::new(Node(0), OutputName::ColumnLhs(text(alloc, "b")?)),
+    })?;
+    lp.add(scan(alloc)?)?;
+    Ok(lp)
+}
+
+// The expression 0 is b > 1, whose right side has the number `right`.
+fn exprs(alloc: Global, right: usize) -> Result<Arena<AExpr>, AllocError> {
+    let mut ex = Arena::new(alloc);
+    ex.add(AExpr::BinaryExpr {
+        left: Node(1),
+        op: Operator::Gt,
+        right: Node(right),
+    })?;
+    ex.add(AExpr::Column(text(alloc, "b")?))?;
+    ex.add(AExpr::Literal(LiteralValue::Int64(1)))?;
+    Ok(ex)
+}
+
+fn bad_number(node: usize, place: u32) -> PolarsError {
+    PolarsError::ComputeError(At {
+        node: Some(Node(node)),
+        place,
+    })
+}
+
+#[test]
+fn a_plan_has_a_schema_and_a_depth(rt: HostRuntime) -> Result<(), Fail> {
+    let alloc = rt.alloc();
+    let lp = nodes(alloc, 2)?;
+    let ex = exprs(alloc, 2)?;
+    let schema = check_plan(alloc, Node(0), &lp, &ex)?;
+    assert!(rt; schema == numbers(alloc, &["a"])?);
+    let depth = depth_of(alloc, Node(0), &lp, &ex)?;
+    assert_eq!(rt; depth, Depth { plan: 3, exprs: 2 });
+    Ok(())
+}
+
+#[test]
+fn a_bad_number_has_a_place(rt: HostRuntime) -> Result<(), Fail> {
+    let alloc = rt.alloc();
+    // The input of the filter, the right side of its predicate, and the fault: that of an expression comes first.
+    for (input, right, fault) in [
+        (2, 2, None),
+        (0, 2, Some(bad_number(0, 0))),
+        (7, 2, Some(bad_number(7, 0))),
+        (2, 1, Some(bad_number(1, 1))),
+        (1, 9, Some(bad_number(1, 1))),
+    ] {
+        let lp = nodes(alloc, input)?;
+        let ex = exprs(alloc, right)?;
+        let answer = check_tree(alloc, Node(0), &lp, &ex).err();
+        assert_eq!(rt; answer, fault, "of {input} and {right}");
+    }
+    Ok(())
+}
