@@ -38,16 +38,16 @@ pub fn run<S: Source, K: Sink>(
     sink: &mut K,
 ) -> Status
     ensures { Comes LIMIT (record {
-        words = map string_bytes words.now;
-        given = S.left source.old;
-        left = S.left source.new;
-        held = K.held sink.old;
-        holds = K.held sink.new;
-        clean = K.clean sink.new;
-        read_faults = S.faults source.old;
-        read_faults_now = S.faults source.new;
-        write_faults = K.faults sink.old;
-        write_faults_now = K.faults sink.new;
+      words = map string_bytes words.now;
+      given = S.left source.old;
+      left = S.left source.new;
+      held = K.held sink.old;
+      holds = K.held sink.new;
+      clean = K.clean sink.new;
+      read_faults = S.faults source.old;
+      read_faults_now = S.faults source.new;
+      write_faults = K.faults sink.old;
+      write_faults_now = K.faults sink.new;
     }) result }
 {
     if !is_command(words) {

@@ -2,8 +2,8 @@
 #![tactic(auto)]
 
 mod check;
-mod listings;
 mod command;
+mod listings;
 mod status;
 mod stop;
 #[cfg(test)]

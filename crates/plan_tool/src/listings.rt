@@ -39,12 +39,7 @@ fn optimized(
 }
 
 /// The text that lists a plan, and what its scans read.
-fn list(
-    alloc: Global,
-    root: Node,
-    lp: &Arena<IR>,
-    ex: &Arena<AExpr>,
-) -> Result<String, AllocError>
+fn list(alloc: Global, root: Node, lp: &Arena<IR>, ex: &Arena<AExpr>) -> Result<String, AllocError>
     requires { IsPlan lp.now ex.now root }
     ensures { IfOk result (λ text. IsListOf lp.now ex.now root (string_bytes text)) }
 {
