@@ -4,28 +4,14 @@ use Rattle.plan_core.specs.Columns.{Columns, names_of}
 use Rattle.plan_core.specs.Names.{with_names}
 use Rattle.plan_tree.specs.Rose.{Roses, rose, no_roses, more}
 use Rattle.plan_ir.specs.Plans.{ExprOp, column, literal, binary, Expr, Op, filter, scan, simple_projection, invalid, Named}
-use Rattle.plan_meaning.specs.Exprs.{own_leaves, leaves, leaves_all}
 use Rattle.plan_meaning.specs.Typing.{is_empty, schema_by, schemas, checks, AllHold}
 use Rattle.plan_meaning.specs.Relating.{Asked, all, names, cached}
 use Rattle.plan_meaning.specs.Asked.{set_of, with_more, asks_columns, asks as asks_of, IsFair}
 use Rattle.plan_meaning.specs.Asked as asked
 use Rattle.plan_meaning.proofs.NameSets.{has_first, keeps_names}
 use Rattle.plan_meaning.proofs.Fairness.{some_name, fair_asks, FairAll}
-use Rattle.plan_prune.specs.Leaves.{Name, own_names, names_in, names_in_all}
+use Rattle.plan_meaning.specs.Exprs.{Name, leaves}
 use Rattle.plan_prune.specs.Pruned.{asked_with, kept, asks}
-
-own-is : (op : ExprOp) → own_names op ≡ own_leaves op
-own-is (column name) = refl
-own-is (literal value) = refl
-own-is (binary op) = refl
-
-mutual
-  names_in-is : (e : Expr) → names_in e ≡ leaves e
-  names_in-is (rose n op es) = ap₂ (λ (x y : List Name). x ++ y) (own-is op) (names_in_all-is es)
-
-  names_in_all-is : (es : Roses (Unit {0}) ExprOp) → names_in_all es ≡ leaves_all es
-  names_in_all-is no_roses = refl
-  names_in_all-is (more e es) = ap₂ (λ (x y : List Name). x ++ y) (names_in-is e) (names_in_all-is es)
 
 pub set_some : (l : List Name) → is_empty l ≡ false → set_of l ≡ names l
 set_some [] e = cc
@@ -51,7 +37,7 @@ more-is (a ∷ l) others = sym (set_some (with_names (a ∷ l) others) (some_nam
 
 -- what a filter asks
 pub filter_asks : (p : Named) (l : List Name) → with_more (leaves p.expr) (set_of l) ≡ set_of (asks l (filter p))
-filter_asks p l = more-is l (leaves p.expr) ∙ ap (λ (x : List Name). set_of (asked_with l x)) (sym (names_in-is p.expr))
+filter_asks p l = more-is l (leaves p.expr)
 
 -- what a projection asks
 pub projection_asks : (cs : Columns) (l : List Name) → asks_columns cs (set_of l) ≡ set_of (asks l (simple_projection cs))

@@ -25,7 +25,7 @@ use Rattle.plan_ir.specs.Plans.{Op, op_at, plans_of, plans_at, bare, expr_at, Ex
 use Rattle.plan_ir.proofs.ExprLemmas.{expr_open}
 use Rattle.plan_ir.proofs.PlanLemmas.{plan_down}
 use Rattle.plan_core.specs.Names.{with_names, with_name}
-use Rattle.plan_prune.specs.Leaves.{Name, names_in}
+use Rattle.plan_meaning.specs.Exprs.{Name, leaves}
 use Rattle.plan_prune.specs.Pruned.{asks, rebuilt, pruned_all, typed_names}
 use Rattle.plan_prune.specs.Prunes.{Prunes, PrunesAt}
 use Rattle.plan_prune.specs.Scans.{narrowed, output_of, with_node, with_pruned_scan}
@@ -33,19 +33,19 @@ use Rattle.plan_prune.proofs.ListSteps.{with_names-append}
 
 -- the names of an expression are added, kind by kind
 module _ (ex : List AExpr) (n : Node) (h : IsExpr ex n) where
-  pub adds-column : (names : List Name) (a : Name) → slice_get ex n.0 ≡ Some (exprs.Column a) → with_name names a ≡ with_names names (names_in (expr_at ex n))
-  adds-column names a e = ap (λ (x : Expr). with_names names (names_in x)) (sym (expr_open ex n (exprs.Column a) h e))
+  pub adds-column : (names : List Name) (a : Name) → slice_get ex n.0 ≡ Some (exprs.Column a) → with_name names a ≡ with_names names (leaves (expr_at ex n))
+  adds-column names a e = ap (λ (x : Expr). with_names names (leaves x)) (sym (expr_open ex n (exprs.Column a) h e))
 
-  pub adds-literal : (names : List Name) (v : LiteralValue) → slice_get ex n.0 ≡ Some (exprs.Literal v) → names ≡ with_names names (names_in (expr_at ex n))
-  adds-literal names v e = ap (λ (x : Expr). with_names names (names_in x)) (sym (expr_open ex n (exprs.Literal v) h e))
+  pub adds-literal : (names : List Name) (v : LiteralValue) → slice_get ex n.0 ≡ Some (exprs.Literal v) → names ≡ with_names names (leaves (expr_at ex n))
+  adds-literal names v e = ap (λ (x : Expr). with_names names (leaves x)) (sym (expr_open ex n (exprs.Literal v) h e))
 
-  pub adds-binary : (names : List Name) (l r : Node) (o : Operator) → slice_get ex n.0 ≡ Some (exprs.BinaryExpr l o r) → with_names (with_names names (names_in (expr_at ex l))) (names_in (expr_at ex r)) ≡ with_names names (names_in (expr_at ex n))
+  pub adds-binary : (names : List Name) (l r : Node) (o : Operator) → slice_get ex n.0 ≡ Some (exprs.BinaryExpr l o r) → with_names (with_names names (leaves (expr_at ex l))) (leaves (expr_at ex r)) ≡ with_names names (leaves (expr_at ex n))
   adds-binary names l r o e =
-      let a = names_in (expr_at ex l) in
-      let b = names_in (expr_at ex r) in
+      let a = leaves (expr_at ex l) in
+      let b = leaves (expr_at ex r) in
       sym (with_names-append names a b)
       ∙ ap (λ (x : List Name). with_names names (a ++ x)) (sym (append-nil b))
-      ∙ ap (λ (x : Expr). with_names names (names_in x)) (sym (expr_open ex n (exprs.BinaryExpr l o r) h e))
+      ∙ ap (λ (x : Expr). with_names names (leaves x)) (sym (expr_open ex n (exprs.BinaryExpr l o r) h e))
 
 -- what a call on the input of a node asks, once the node is taken
 pub record Asks (a b : List IR) (ex : List AExpr) (n i : Node) : Type 0 where

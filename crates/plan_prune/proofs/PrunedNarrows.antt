@@ -16,7 +16,7 @@ use Rattle.plan_meaning.specs.Asked as asked
 use Rattle.plan_meaning.proofs.Refining.{relates_refines}
 use Rattle.plan_meaning.proofs.Related.{SchemasRelated, AllRelate, relates_node, relates_top}
 use Rattle.plan_meaning.proofs.Fairness.{FairAll}
-use Rattle.plan_prune.specs.Leaves.{Name}
+use Rattle.plan_meaning.specs.Exprs.{Name}
 use Rattle.plan_prune.specs.Pruned.{kept, typed_names, reading, projected, asks, rebuilt, pruned, pruned_all}
 use Rattle.plan_prune.proofs.AskedNames.{set_some, kept-is, filter_asks, each_asked, fair_each}
 use Rattle.plan_prune.proofs.NarrowLemmas.{Local, same_none, local_filter}

@@ -11,7 +11,7 @@ use Rattle.plan_meaning.specs.Asked.{set_of, asks as asks_of, Site, SiteFair, ow
 use Rattle.plan_meaning.specs.Scans.{scans, scans_in, KeepScans, Keeps, nodes}
 use Rattle.plan_meaning.proofs.Fairness.{plan_sites_fair}
 use Rattle.plan_meaning.proofs.Keeping.{sites-scans}
-use Rattle.plan_prune.specs.Leaves.{Name}
+use Rattle.plan_meaning.specs.Exprs.{Name}
 use Rattle.plan_prune.specs.Pruned.{asks, rebuilt, pruned, pruned_all}
 use Rattle.plan_prune.specs.Reads.{ReadWithin, own_tops, tops_in, tops}
 use Rattle.plan_prune.proofs.AskedNames.{each_asked, asks-each}

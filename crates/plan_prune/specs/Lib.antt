@@ -1,4 +1,3 @@
-pub mod Leaves
 pub mod Pruned
 pub mod Prunes
 pub mod Scans

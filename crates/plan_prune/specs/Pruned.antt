@@ -10,7 +10,7 @@ use Rattle.plan_ir.specs.declared.scan.FileInfo.{FileInfo}
 use Rattle.plan_ir.specs.declared.scan.FileScan.{FileScan}
 use Rattle.plan_ir.specs.declared.scan.ScanSources.{ScanSources}
 use Rattle.plan_ir.specs.Plans.{Op, filter, scan, simple_projection, invalid, Named, Plan}
-use Rattle.plan_prune.specs.Leaves.{Name, names_in}
+use Rattle.plan_meaning.specs.Exprs.{Name, leaves}
 
 -- the asked names with more, each last unless it is there; asked nothing, nothing
 abbrev pub asked_with : List Name → List Name → List Name
@@ -48,7 +48,7 @@ pruned_scan top (a ∷ asked) sources info predicate output kind options inputs 
 
 -- what a node that is asked names asks its inputs
 abbrev pub asks : List Name → Op → List Name
-asks asked (filter predicate) = asked_with asked (names_in predicate.expr)
+asks asked (filter predicate) = asked_with asked (leaves predicate.expr)
 asks asked (scan sources info predicate output kind options) = []
 asks asked (simple_projection columns) = with_names [] (names_of (kept asked columns))
 asks asked invalid = []

@@ -6,7 +6,7 @@ use Rattle.plan_ir.specs.declared.expr.AExpr.{AExpr}
 use Rattle.plan_ir.specs.declared.ir.IR.{IR}
 use Rattle.plan_ir.specs.Parts.{plan_shape, roots_in}
 use Rattle.plan_ir.specs.Plans.{bare, plans_of}
-use Rattle.plan_prune.specs.Leaves.{Name}
+use Rattle.plan_meaning.specs.Exprs.{Name}
 use Rattle.plan_prune.specs.Pruned.{pruned_all}
 
 -- the tree t at a number became another, in place and over the same expressions: t pruned to the asked names

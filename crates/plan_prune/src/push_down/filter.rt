@@ -5,7 +5,7 @@ ghost use Rattle.std.specs.Prelude.{◌≡◌, IfOk, OnOk};
 ghost use Rattle.plan_core.specs.Names.{with_names};
 ghost use Rattle.plan_ir.specs.Parts.{IsExpr};
 ghost use Rattle.plan_ir.specs.Plans.{expr_at};
-ghost use Rattle.plan_prune.specs.Leaves.{names_in};
+ghost use Rattle.plan_meaning.specs.Exprs.{leaves};
 ghost use Rattle.plan_prune.specs.Pruned.{asked_with};
 
 use plan_core::{Arena, Names, Node};
@@ -15,7 +15,7 @@ use std::alloc::AllocError;
 /// Adds the names of the columns of an expression, in walk order.
 fn add_names(names: &mut Names, node: Node, ex: &Arena<AExpr>) -> Result<(), AllocError>
     requires { IsExpr ex.now node }
-    ensures { OnOk result (names.new ≡ with_names names.old (names_in (expr_at ex.now node))) }
+    ensures { OnOk result (names.new ≡ with_names names.old (leaves (expr_at ex.now node))) }
 {
     match ex.get(node) {
         AExpr::Column(name) => {
@@ -34,7 +34,7 @@ fn add_names(names: &mut Names, node: Node, ex: &Arena<AExpr>) -> Result<(), All
 /// What a filter asks its input.
 pub fn asks(asked: Names, predicate: &ExprIR, ex: &Arena<AExpr>) -> Result<Names, AllocError>
     requires { IsExpr ex.now predicate.now.node }
-    ensures { IfOk result (λ names. names ≡ asked_with asked (names_in (expr_at ex.now predicate.now.node))) }
+    ensures { IfOk result (λ names. names ≡ asked_with asked (leaves (expr_at ex.now predicate.now.node))) }
 {
     let mut names = asked;
     if names.len() > 0 {

@@ -3,7 +3,7 @@ use Rattle.plan_core.specs.Names.{with_names}
 use Rattle.plan_ir.specs.declared.expr.AExpr.TheVariants.{BinaryExpr}
 use Rattle.plan_ir.specs.Plans.{expr_at}
 use Rattle.plan_ir.proofs.ExprLemmas.{expr_down}
-use Rattle.plan_prune.specs.Leaves.{Name, names_in}
+use Rattle.plan_meaning.specs.Exprs.{Name, leaves}
 use Rattle.plan_prune.proofs.PruneLemmas.{adds-column, adds-literal, adds-binary}
 use Rattle.plan_prune.proofs.push_down.filter.+add_names.Goals as goal
 
@@ -31,5 +31,5 @@ returns-in-Literal t c = adds-literal c.args.ex.now c.args.node c.requires c.arg
 pub returns-in_ok-add_names-in-BinaryExpr-2 : goal.returns-in_ok-add_names-in-BinaryExpr-2
 returns-in_ok-add_names-in-BinaryExpr-2 t c =
     c.in_ok-add_names-in-BinaryExpr-2.ensures
-    ∙ ap (λ (l : List Name). with_names l (names_in (expr_at c.args.ex.now c.in-BinaryExpr.right))) c.in_ok-add_names-in-BinaryExpr.ensures
+    ∙ ap (λ (l : List Name). with_names l (leaves (expr_at c.args.ex.now c.in-BinaryExpr.right))) c.in_ok-add_names-in-BinaryExpr.ensures
     ∙ adds-binary c.args.ex.now c.args.node c.requires c.args.names.now c.in-BinaryExpr.left c.in-BinaryExpr.right c.in-BinaryExpr.op (c.get.ensures.entry ∙ ap Some c.in-BinaryExpr.is)
