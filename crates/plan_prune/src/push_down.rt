@@ -38,7 +38,8 @@ impl ProjectionPushDown {
         }
     }
 
-    /// Prunes the plan at `root`, of which every column is asked. Refuses for want of memory alone.
+    /// Prunes the plan at `root`, of which every column is asked. Refuses for want of memory alone,
+    /// and then nothing is known of what stands at `root`.
     pub fn optimize(
         &mut self,
         alloc: Global,
