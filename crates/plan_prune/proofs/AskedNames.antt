@@ -1,9 +1,9 @@
 -- Lists of asked names, of which none stands for everything, against what is asked.
-use Rattle.std.proofs.Common.{◌≡◌, false, List, [], ◌∷◌, ◌++◌, refl, sym, ap, ap₂, ◌∙◌, subst}
+use Rattle.std.proofs.Common.{◌≡◌, false, List, [], ◌∷◌, refl, sym, ap, subst}
 use Rattle.plan_core.specs.Columns.{Columns, names_of}
 use Rattle.plan_core.specs.Names.{with_names}
 use Rattle.plan_tree.specs.Rose.{Roses, rose, no_roses, more}
-use Rattle.plan_ir.specs.Plans.{ExprOp, column, literal, binary, Expr, Op, filter, scan, simple_projection, invalid, Named}
+use Rattle.plan_ir.specs.Plans.{Op, filter, scan, simple_projection, invalid, Named}
 use Rattle.plan_meaning.specs.Typing.{is_empty, schema_by, schemas, checks, AllHold}
 use Rattle.plan_meaning.specs.Relating.{Asked, all, names, cached}
 use Rattle.plan_meaning.specs.Asked.{set_of, with_more, asks_columns, asks as asks_of, IsFair}

@@ -38,12 +38,14 @@ fn optimized(
     Ok(lp)
 }
 
-/// The text that lists a plan, and what its scans read.
-fn list(alloc: Global, root: Node, lp: &Arena<IR>, ex: &Arena<AExpr>) -> Result<String, AllocError>
-    requires { IsPlan lp.now ex.now root }
-    ensures { IfOk result (λ text. IsListOf lp.now ex.now root (string_bytes text)) }
+/// The text that lists a plan, and what its scans read. The given nodes are gone before the text is made.
+fn list(alloc: Global, root: Node, lp: Arena<IR>, ex: Arena<AExpr>) -> Result<String, AllocError>
+    requires { IsPlan lp ex root }
+    ensures { IfOk result (λ text. IsListOf lp ex root (string_bytes text)) }
 {
-    let plan = renumbered(alloc, root, lp, ex)?;
+    let plan = renumbered(alloc, root, &lp, &ex)?;
+    drop(lp);
+    drop(ex);
     let reads = scan_reads(alloc, &plan)?;
     Ok(write_listing(alloc, &plan, reads.as_slice())?)
 }
@@ -62,7 +64,7 @@ fn answer(alloc: Global, document: Document) -> Result<String, Stop>
     let _ = shared;
     check(alloc, root, &lp, &ex)?;
     let lp = optimized(alloc, root, flags, lp, &ex)?;
-    Ok(list(alloc, root, &lp, &ex)?)
+    Ok(list(alloc, root, lp, ex)?)
 }
 
 /// The text that lists the optimised plan of the document that the bytes stand for, or why there is none.

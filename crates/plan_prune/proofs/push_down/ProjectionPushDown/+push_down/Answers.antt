@@ -1,4 +1,4 @@
-use Rattle.std.proofs.Common.{◌≡◌, ◌∙◌, ap, sym, refl, arith, not, Some, []}
+use Rattle.std.proofs.Common.{◌∙◌, ap, refl, arith, not, Some, []}
 use Rattle.plan_ir.specs.declared.ir.IR.{IR}
 use Rattle.plan_ir.specs.declared.ir.IR.TheVariants.{Filter, SimpleProjection}
 use Rattle.plan_ir.proofs.PlanLemmas.{plan_expr}

@@ -1,4 +1,4 @@
-use Rattle.std.proofs.Common.{◌≡◌, ◌∙◌, ap, arith, List, []}
+use Rattle.std.proofs.Common.{◌∙◌, ap, arith, List, []}
 use Rattle.plan_core.specs.Columns.{names_of}
 use Rattle.plan_core.specs.Names.{with_name}
 use Rattle.plan_meaning.specs.Exprs.{Name}
