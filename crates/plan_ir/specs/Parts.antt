@@ -19,9 +19,11 @@ operands_of (BinaryExpr left op right) = left ∷ right ∷ []
 abbrev pub is_bad_expr : AExpr → Bool
 is_bad_expr e = false
 
+-- how expressions make trees: their operands in order, and none is bad
 abbrev pub expr_shape : Shape AExpr
 expr_shape = record { inputs = operands_of; bad = is_bad_expr }
 
+-- a value that may be there, as a list
 abbrev pub list_of : {A : Type 0} → Option A → List A
 list_of None = []
 list_of (Some x) = x ∷ []
@@ -40,12 +42,14 @@ exprs_of (Scan sources file_info predicate output_schema scan_type file_options)
 exprs_of (SimpleProjection input columns) = []
 exprs_of Invalid = []
 
+-- what a node that was taken leaves behind
 abbrev pub is_invalid : IR → Bool
 is_invalid Invalid = true
 is_invalid (Filter input predicate) = false
 is_invalid (Scan sources file_info predicate output_schema scan_type file_options) = false
 is_invalid (SimpleProjection input columns) = false
 
+-- how nodes make trees: their inputs in order; what was taken is bad
 abbrev pub plan_shape : Shape IR
 plan_shape = record { inputs = inputs_of; bad = is_invalid }
 

@@ -41,9 +41,11 @@ pub data Op : Type 0 where
   simple_projection : (columns : Columns) → Op
   invalid : Op
 
+-- a plan without numbers
 abbrev pub Plan : Type 0
 Plan = Rose (Unit {0}) Op
 
+-- what an expression is, without its operands
 abbrev pub expr_op : AExpr → ExprOp
 expr_op (exprs.Column name) = column name
 expr_op (exprs.Literal value) = literal value
@@ -67,6 +69,7 @@ abbrev pub exprs_at : List AExpr → List Node → Roses (Unit {0}) ExprOp
 exprs_at ex [] = no_roses
 exprs_at ex (n ∷ ns) = more (expr_at ex n) (exprs_at ex ns)
 
+-- an expression with the name that it gives, read at its number
 abbrev pub named_at : List AExpr → ExprIR → Named
 named_at ex e = record { name = e.output_name; expr = expr_at ex e.node }
 

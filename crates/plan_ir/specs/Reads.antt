@@ -8,6 +8,7 @@ use Rattle.plan_ir.specs.declared.scan.FileInfo.{FileInfo}
 use Rattle.plan_ir.specs.declared.ir.IR.{IR}
 use Rattle.plan_ir.specs.declared.ir.IR.TheVariants.{Filter, Scan, SimpleProjection, Invalid}
 
+-- a node that reads from sources
 abbrev pub is_scan : IR → Bool
 is_scan (Filter input predicate) = false
 is_scan (Scan sources file_info predicate output_schema scan_type file_options) = true

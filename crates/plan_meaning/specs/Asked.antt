@@ -55,6 +55,7 @@ abbrev pub first_asked : List Asked → Asked
 first_asked [] = all
 first_asked (a ∷ others) = a
 
+-- what is asked of the plans after the first
 abbrev pub rest_asked : List Asked → List Asked
 rest_asked [] = []
 rest_asked (a ∷ others) = others
@@ -64,6 +65,7 @@ pub record Site : Type 0 where
   pub at_scan : Op
   pub asked : Asked
 
+-- the site that a node is by itself: a scan is one
 abbrev pub own_site : Op → Asked → List Site
 own_site (scan sources info predicate output kind options) a = record { at_scan = scan sources info predicate output kind options; asked = a } ∷ []
 own_site (filter predicate) a = []

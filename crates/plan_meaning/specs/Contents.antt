@@ -19,6 +19,7 @@ pub data Source : Type 0 where
   buffer : ℕ → Source
   frame : ℕ → Source
 
+-- two sources of one kind, with the same path or number
 abbrev pub same_source : Source → Source → Bool
 same_source (path a) (path b) = bytes_eq a b
 same_source (buffer i) (buffer j) = i == j

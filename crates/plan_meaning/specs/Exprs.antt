@@ -10,6 +10,7 @@ use Rattle.plan_ir.specs.declared.expr.LiteralValue.TheVariants.{Int64}
 use Rattle.plan_ir.specs.declared.expr.OutputName.{OutputName}
 use Rattle.plan_ir.specs.declared.expr.OutputName.TheVariants as names
 
+-- the bytes of a name
 abbrev pub Name : Type 0
 Name = List ℕ
 
@@ -28,19 +29,23 @@ abbrev mutual
   leaves_all no_roses = []
   leaves_all (more e es) = leaves e ++ leaves_all es
 
+-- two types are the same
 abbrev pub same_type : DataType → DataType → Bool
 same_type types.Int64 types.Int64 = true
 same_type types.String types.String = true
 same_type types.Boolean types.Boolean = true
 same_type _ _ = false
 
+-- a type is there, and it is this one
 abbrev pub is_type : Option DataType → DataType → Bool
 is_type None t = false
 is_type (Some u) t = same_type u t
 
+-- the type of a literal
 abbrev pub literal_type : LiteralValue → DataType
 literal_type (Int64 number) = types.Int64
 
+-- Boolean where both types are there and the same
 abbrev pub both_alike : Option DataType → Option DataType → Option DataType
 both_alike None q = None
 both_alike (Some t) q = if is_type q t then Some types.Boolean else None
@@ -50,6 +55,7 @@ abbrev pub comparison_type : List (Option DataType) → Option DataType
 comparison_type (p ∷ q ∷ []) = both_alike p q
 comparison_type _ = None
 
+-- the type of an operator from those of its operands, over some columns
 abbrev pub type_by : ExprOp → List (Option DataType) → Columns → Option DataType
 type_by (column name) ts s = type_of s name
 type_by (literal value) ts s = Some (literal_type value)
@@ -70,11 +76,13 @@ pub data Naming : Type 0 where
   by_literal : Name → Naming
   unnamed : Naming
 
+-- the first of two that names
 abbrev pub or_naming : Naming → Naming → Naming
 or_naming (by_column a) m = by_column a
 or_naming (by_literal a) m = by_literal a
 or_naming unnamed m = m
 
+-- how an operator names an expression by itself
 abbrev pub own_naming : ExprOp → Naming
 own_naming (column name) = by_column name
 own_naming (literal value) = by_literal (codes "literal")

@@ -4,6 +4,7 @@ use Rattle.plan_meaning.specs.declared.exprs.Naming.{Naming as Found}
 use Rattle.plan_meaning.specs.declared.exprs.Naming.TheVariants as found
 use Rattle.plan_meaning.specs.Exprs.{Naming, by_column, by_literal}
 
+-- the naming that a search found
 abbrev pub naming_seen : Found → Naming
 naming_seen (found.Column name) = by_column name.now
 naming_seen found.Literal = by_literal (codes "literal")

@@ -11,6 +11,7 @@ use Rattle.plan_ir.specs.Plans.{Op, plans_at}
 use Rattle.plan_meaning.specs.Typing.{schemas, first_schema, faults, or_fault, checks, first_fault, schema_by, Says}
 use Rattle.plan_meaning.specs.TreeFaults.{tree_fault}
 
+-- the fault where there is one, else the schema
 abbrev pub schema_or : Option PolarsError → Columns → Result Columns PolarsError
 schema_or None s = Ok s
 schema_or (Some fault) s = Err fault

@@ -18,6 +18,7 @@ use Rattle.plan_core.specs.declared.data_type.DataType.TheVariants as types
 
 -- Schemas
 
+-- the columns that are told, else the others
 abbrev pub columns_or : Option Columns → Columns → Columns
 columns_or None s = s
 columns_or (Some t) s = t
@@ -26,6 +27,7 @@ columns_or (Some t) s = t
 abbrev pub file_columns : FileInfo → Columns
 file_columns info = columns_or info.reader_schema []
 
+-- the columns of the first input
 abbrev pub first_schema : List Columns → Columns
 first_schema [] = []
 first_schema (s ∷ ss) = s
@@ -37,6 +39,7 @@ schema_by (scan sources info predicate output kind options) ss = columns_or outp
 schema_by (simple_projection columns) ss = columns
 schema_by invalid ss = []
 
+-- the columns of plans, from left to right
 abbrev pub schemas : {N : Type 0} → Roses N Op → List Columns
 schemas no_roses = []
 schemas (more (rose n op ts) rest) = schema_by op (schemas ts) ∷ schemas rest
@@ -53,13 +56,16 @@ pub record Check : Type 0 where
   pub place : ℕ
   pub holds : Bool
 
+-- a check from its fault, its place, and whether it holds
 abbrev pub check : (At → PolarsError) → ℕ → Bool → Check
 check fault place holds = record { fault = fault; place = place; holds = holds }
 
+-- a list of nothing
 abbrev pub is_empty : {A : Type 0} → List A → Bool
 is_empty [] = true
 is_empty (x ∷ xs) = false
 
+-- a value that is missing
 abbrev pub is_none : {A : Type 0} → Option A → Bool
 is_none o = not (is_some o)
 
@@ -81,10 +87,12 @@ abbrev pub each_new : ℕ → List Name → List Name → List Check
 each_new k before [] = []
 each_new k before (a ∷ names) = check Duplicate k (not (has before a)) ∷ each_new (suc k) (before ++ a ∷ []) names
 
+-- the names that are told, else the others
 abbrev pub names_or : Option (List Name) → List Name → List Name
 names_or None names = names
 names_or (Some given) names = given
 
+-- a name is among those told; where none are told, each is
 abbrev pub has_columns : Option (List Name) → Name → Bool
 has_columns None a = true
 has_columns (Some given) a = has given a
@@ -139,10 +147,12 @@ scan_checks predicate output info options =
     check InvalidOperation 0 (is_built_scan predicate info options)
     ∷ scan_column_checks output options.with_columns info.schema (file_columns info)
 
+-- the checks where a node has no inputs; else one that fails
 abbrev pub with_none : List Columns → List Check → List Check
 with_none [] cs = cs
 with_none (s ∷ ss) cs = check ComputeError 0 false ∷ []
 
+-- the checks on the columns of the one input; else one that fails
 abbrev pub with_one : List Columns → (Columns → List Check) → List Check
 with_one (s ∷ []) cs = cs s
 with_one _ cs = check ComputeError 0 false ∷ []
@@ -154,6 +164,7 @@ checks (scan sources info predicate output kind options) ss = with_none ss (scan
 checks (simple_projection columns) ss = with_one ss (projection_checks columns)
 checks invalid ss = check ComputeError 0 false ∷ []
 
+-- all checks hold
 abbrev pub AllHold : List Check → Type 0
 AllHold [] = Unit {0}
 AllHold (c ∷ cs) = (c.holds ≡ true) × AllHold cs
@@ -172,6 +183,7 @@ abbrev pub first_fault : Node → List Check → Option PolarsError
 first_fault n [] = None
 first_fault n (c ∷ cs) = if c.holds then first_fault n cs else Some (c.fault (at n c.place))
 
+-- the first of two faults
 abbrev pub or_fault : Option PolarsError → Option PolarsError → Option PolarsError
 or_fault None e = e
 or_fault (Some f) e = Some f

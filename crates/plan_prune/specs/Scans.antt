@@ -15,6 +15,7 @@ narrowed names (Filter input predicate) = Filter input predicate
 narrowed names (SimpleProjection input columns) = SimpleProjection input columns
 narrowed names Invalid = Invalid
 
+-- the columns that are told, else no columns
 abbrev pub columns_or_none : Option Columns → Columns
 columns_or_none None = []
 columns_or_none (Some cs) = cs

@@ -73,5 +73,6 @@ pub record Broke (text : List ℕ) (held holds : Option (List ℕ)) (before now 
   pub cause : Rose before now
   pub written : GrowsByFront held holds text
 
+-- the text is whole and the answer given, or it broke off
 abbrev pub Finishes : List ℕ → Option (List ℕ) → Option (List ℕ) → Bool → ℕ → ℕ → Status → Status → Type 0
 Finishes text held holds clean before now answer result = Finished text held holds clean answer result ⊎ Broke text held holds before now result

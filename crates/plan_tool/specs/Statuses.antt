@@ -3,6 +3,7 @@ use Rattle.std.specs.Prelude.{ℕ}
 use Rattle.plan_tool.specs.declared.status.Status.{Status}
 use Rattle.plan_tool.specs.declared.status.Status.TheVariants as statuses
 
+-- the exit status, as a number
 abbrev pub code_of : Status → ℕ
 code_of statuses.Done = 0
 code_of statuses.Usage = 2

@@ -6,11 +6,13 @@ use Rattle.plan_doc.specs.declared.document.ReadError.TheVariants as errors
 use Rattle.plan_tool.specs.declared.stop.Stop.{Stop}
 use Rattle.plan_tool.specs.declared.stop.Stop.TheVariants as stops
 
+-- how the program stops where reading a document refuses
 abbrev pub stop_of_reading : ReadError → Stop
 stop_of_reading errors.NotJson = stops.NotJson
 stop_of_reading errors.Form = stops.Form
 stop_of_reading errors.OutOfMemory = stops.OutOfMemory
 
+-- how it stops where a plan has this fault
 abbrev pub stop_of_fault : PolarsError → Stop
 stop_of_fault faults.OutOfMemory = stops.OutOfMemory
 stop_of_fault (faults.SchemaFieldNotFound a) = stops.Fault (faults.SchemaFieldNotFound a)
