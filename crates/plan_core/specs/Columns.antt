@@ -5,6 +5,14 @@ use Rattle.std.specs.List.{IsDistinct}
 use Rattle.std.specs.Cmp.Lexicographic.{pointwise}
 use Rattle.plan_core.specs.declared.data_type.DataType.{DataType}
 use Rattle.plan_core.specs.declared.data_type.DataType.TheVariants.{Int64, String, Boolean}
+use Rattle.plan_core.specs.declared.data_type.PlainType.{PlainType}
+use Rattle.plan_core.specs.declared.data_type.PlainType.TheVariants as plains
+
+-- the type of a column of such values
+abbrev pub plain : PlainType → DataType
+plain plains.Int64 = Int64
+plain plains.String = String
+plain plains.Boolean = Boolean
 
 -- names with types, in order
 abbrev pub Columns : Type 0

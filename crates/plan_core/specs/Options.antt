@@ -1,5 +1,6 @@
--- The options that a scan has where nothing else is said.
-use Rattle.std.specs.Prelude.{true, false, Some, None}
+-- The options that scans and projections have where nothing else is said, and those of two projections together.
+use Rattle.std.specs.Prelude.{true, false, ◌&&◌, ◌||◌, Some, None}
+use Rattle.plan_core.specs.declared.options.ProjectionOptions.{ProjectionOptions}
 use Rattle.plan_core.specs.declared.options.HiveOptions.{HiveOptions}
 use Rattle.plan_core.specs.declared.options.FileScanOptions.{FileScanOptions}
 
@@ -20,4 +21,16 @@ default_scan = record {
   glob = false;
   include_file_paths = None;
   allow_missing_columns = false;
+}
+
+-- everything is allowed
+abbrev pub default_projection : ProjectionOptions
+default_projection = record { run_parallel = true; duplicate_check = true; should_broadcast = true }
+
+-- what both may do, what both look for, and whether one of them spreads
+abbrev pub merged : ProjectionOptions → ProjectionOptions → ProjectionOptions
+merged o p = record {
+  run_parallel = o.run_parallel && p.run_parallel;
+  duplicate_check = o.duplicate_check && p.duplicate_check;
+  should_broadcast = o.should_broadcast || p.should_broadcast;
 }

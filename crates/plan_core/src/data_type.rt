@@ -23,3 +23,30 @@ impl TryClone for DataType {
         Ok(*self)
     }
 }
+
+/// The type of a single value, which is no list.
+#[derive(Clone, Copy, PartialEq, Eq, Hash, Debug)]
+pub enum PlainType {
+    /// A whole number of 64 bits.
+    Int64,
+    /// A text.
+    String,
+    /// A truth value.
+    Boolean,
+}
+
+impl From<PlainType> for DataType {
+    ghost use Rattle.std.specs.Prelude.{◌≡◌};
+    ghost use Rattle.plan_core.specs.Columns.{plain};
+
+    ghost from_gives = { λ t r. r ≡ plain t };
+
+    /// The type of a column of such values.
+    fn from(plain: PlainType) -> Self {
+        match plain {
+            PlainType::Int64 => DataType::Int64,
+            PlainType::String => DataType::String,
+            PlainType::Boolean => DataType::Boolean,
+        }
+    }
+}

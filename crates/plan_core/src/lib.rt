@@ -17,12 +17,12 @@ mod try_clone;
 mod unit_vec;
 
 pub use arena::{Arena, ColumnNode, Node};
-pub use data_type::DataType;
+pub use data_type::{DataType, PlainType};
 pub use error::{At, PolarsError, PolarsResult};
 pub use flags::{AllowedOptimizations, OptFlags};
 pub use items::Items;
 pub use names::Names;
-pub use options::{FileCount, FileScanOptions, HiveOptions, RowIndex};
+pub use options::{FileCount, FileScanOptions, HiveOptions, ProjectionOptions, RowIndex};
 pub use schema::Schema;
 pub use schema_iter::SchemaIter;
 pub use text::PlSmallStr;

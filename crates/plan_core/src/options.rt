@@ -1,5 +1,6 @@
-//! The options that scans carry.
+//! The options that scans and projections carry.
 ghost use Rattle.std.specs.Prelude.{◌≡◌, IfOk};
+ghost use Rattle.plan_core.specs.Options.{merged};
 
 use crate::items::Items;
 use crate::schema::Schema;
@@ -66,6 +67,45 @@ pub struct FileScanOptions {
     pub include_file_paths: Option<PlSmallStr>,
     /// Whether a file may lack columns of the first.
     pub allow_missing_columns: bool,
+}
+
+/// How a node that makes columns of expressions goes about it. A frame doesn't depend on it.
+#[derive(Clone, Copy, PartialEq, Eq, Hash, Debug)]
+pub struct ProjectionOptions {
+    /// Whether the expressions may be evaluated at one time.
+    pub run_parallel: bool,
+    /// Whether names that come twice are looked for.
+    pub duplicate_check: bool,
+    /// Whether a single value is spread beside others.
+    pub should_broadcast: bool,
+}
+
+impl ProjectionOptions {
+    /// The options of two nodes that become one: what both may do, and what one of them has to do.
+    pub fn merge_options(&self, other: &Self) -> Self
+        ensures { result ≡ merged self.now other.now }
+    {
+        ProjectionOptions {
+            run_parallel: self.run_parallel && other.run_parallel,
+            duplicate_check: self.duplicate_check && other.duplicate_check,
+            should_broadcast: self.should_broadcast || other.should_broadcast,
+        }
+    }
+}
+
+impl Default for ProjectionOptions {
+    ghost use Rattle.std.specs.Prelude.{◌≡◌};
+    ghost use Rattle.plan_core.specs.Options.{default_projection};
+
+    ghost is_default = { λ o. o ≡ default_projection };
+
+    fn default() -> Self {
+        ProjectionOptions {
+            run_parallel: true,
+            duplicate_check: true,
+            should_broadcast: true,
+        }
+    }
 }
 
 impl TryClone for HiveOptions {

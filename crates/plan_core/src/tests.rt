@@ -167,3 +167,24 @@ fn errors_are_printed(rt: HostRuntime) -> Result<(), Fail> {
     );
     Ok(())
 }
+
+#[test]
+fn projection_options_are_merged(rt: HostRuntime) {
+    let none = ProjectionOptions {
+        run_parallel: false,
+        duplicate_check: false,
+        should_broadcast: false,
+    };
+    let merged = ProjectionOptions::default().merge_options(&none);
+    assert_eq!(rt;
+        (merged.run_parallel, merged.duplicate_check, merged.should_broadcast),
+        (false, false, true)
+    );
+}
+
+#[test]
+fn plain_types_are_types(rt: HostRuntime) {
+    assert_eq!(rt; DataType::from(PlainType::Int64), DataType::Int64);
+    assert_eq!(rt; DataType::from(PlainType::String), DataType::String);
+    assert_eq!(rt; DataType::from(PlainType::Boolean), DataType::Boolean);
+}

@@ -4,15 +4,16 @@ use Rattle.plan_core.specs.declared.arena.Node.{Node}
 use Rattle.plan_tree.specs.Stands.{Shape, Trees, StandsOnce}
 use Rattle.plan_tree.specs.Rose.{rose, no_roses, more}
 use Rattle.plan_ir.specs.declared.expr.AExpr.{AExpr}
-use Rattle.plan_ir.specs.declared.expr.AExpr.TheVariants.{Column, Literal, BinaryExpr}
+use Rattle.plan_ir.specs.declared.expr.AExpr.TheVariants.{Column, Literal, Alias, BinaryExpr}
 use Rattle.plan_ir.specs.declared.expr.ExprIR.{ExprIR}
 use Rattle.plan_ir.specs.declared.ir.IR.{IR}
-use Rattle.plan_ir.specs.declared.ir.IR.TheVariants.{Filter, Scan, SimpleProjection, Invalid}
+use Rattle.plan_ir.specs.declared.ir.IR.TheVariants.{Slice, Filter, Scan, DataFrameScan, SimpleProjection, Select, HStack, Invalid}
 
 -- the operands of an expression, in walk order
 abbrev pub operands_of : AExpr → List Node
 operands_of (Column name) = []
 operands_of (Literal value) = []
+operands_of (Alias input name) = input ∷ []
 operands_of (BinaryExpr left op right) = left ∷ right ∷ []
 
 -- any expression can stand in a tree
@@ -30,24 +31,36 @@ list_of (Some x) = x ∷ []
 
 -- the inputs of a node, in order
 abbrev pub inputs_of : IR → List Node
+inputs_of (Slice input offset len) = input ∷ []
 inputs_of (Filter input predicate) = input ∷ []
 inputs_of (Scan sources file_info predicate output_schema scan_type file_options) = []
+inputs_of (DataFrameScan df schema output_schema) = []
 inputs_of (SimpleProjection input columns) = input ∷ []
+inputs_of (Select input expr schema options) = input ∷ []
+inputs_of (HStack input exprs schema options) = input ∷ []
 inputs_of Invalid = []
 
 -- the expressions of a node, in order
 abbrev pub exprs_of : IR → List ExprIR
+exprs_of (Slice input offset len) = []
 exprs_of (Filter input predicate) = predicate ∷ []
 exprs_of (Scan sources file_info predicate output_schema scan_type file_options) = list_of predicate
+exprs_of (DataFrameScan df schema output_schema) = []
 exprs_of (SimpleProjection input columns) = []
+exprs_of (Select input expr schema options) = expr
+exprs_of (HStack input exprs schema options) = exprs
 exprs_of Invalid = []
 
 -- what a node that was taken leaves behind
 abbrev pub is_invalid : IR → Bool
 is_invalid Invalid = true
+is_invalid (Slice input offset len) = false
 is_invalid (Filter input predicate) = false
 is_invalid (Scan sources file_info predicate output_schema scan_type file_options) = false
+is_invalid (DataFrameScan df schema output_schema) = false
 is_invalid (SimpleProjection input columns) = false
+is_invalid (Select input expr schema options) = false
+is_invalid (HStack input exprs schema options) = false
 
 -- how nodes make trees: their inputs in order; what was taken is bad
 abbrev pub plan_shape : Shape IR
@@ -71,6 +84,7 @@ pub record StandsPlan (lp : List IR) (ex : List AExpr) (n : Node) (t : Trees IR)
   pub nodes : StandsOnce plan_shape lp (n ∷ []) t
   pub exprs : StandsOnce expr_shape ex (roots_in t) e
 
+-- a plan stands at a number, in two arenas
 pub record IsPlan (lp : List IR) (ex : List AExpr) (n : Node) : Type 0 where
   pub nodes : Trees IR
   pub exprs : Trees AExpr
@@ -80,11 +94,16 @@ pub record IsPlan (lp : List IR) (ex : List AExpr) (n : Node) : Type 0 where
 abbrev pub over_operands : AExpr → List Node → AExpr
 over_operands (Column name) operands = Column name
 over_operands (Literal value) operands = Literal value
+over_operands (Alias input name) operands = Alias (get_or operands 0 input) name
 over_operands (BinaryExpr left op right) operands = BinaryExpr (get_or operands 0 left) op (get_or operands 1 right)
 
 -- the node with other expressions, over other inputs
 abbrev pub over_parts : IR → List ExprIR → List Node → IR
+over_parts (Slice input offset len) exprs inputs = Slice (get_or inputs 0 input) offset len
 over_parts (Filter input predicate) exprs inputs = Filter (get_or inputs 0 input) (get_or exprs 0 predicate)
 over_parts (Scan sources file_info predicate output_schema scan_type file_options) exprs inputs = Scan sources file_info (slice_get exprs 0) output_schema scan_type file_options
+over_parts (DataFrameScan df schema output_schema) exprs inputs = DataFrameScan df schema output_schema
 over_parts (SimpleProjection input columns) exprs inputs = SimpleProjection (get_or inputs 0 input) columns
+over_parts (Select input expr schema options) exprs inputs = Select (get_or inputs 0 input) exprs schema options
+over_parts (HStack input own schema options) exprs inputs = HStack (get_or inputs 0 input) exprs schema options
 over_parts Invalid exprs inputs = Invalid

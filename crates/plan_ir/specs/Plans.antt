@@ -1,7 +1,8 @@
 -- Plans and expressions as trees without numbers: what a meaning reads.
-use Rattle.std.specs.Prelude.{ℕ, List, [], ◌∷◌, Option, option_map}
+use Rattle.std.specs.Prelude.{ℕ, ℤ, List, [], ◌∷◌, map, Option, option_map}
 use Rattle.plan_core.specs.declared.arena.Node.{Node}
 use Rattle.plan_core.specs.declared.options.FileScanOptions.{FileScanOptions}
+use Rattle.plan_core.specs.declared.options.ProjectionOptions.{ProjectionOptions}
 use Rattle.plan_core.specs.Columns.{Columns}
 use Rattle.plan_tree.specs.Stands.{Trees}
 use Rattle.plan_tree.specs.Read.{tree_at, trees_at}
@@ -23,6 +24,7 @@ use Rattle.plan_ir.specs.Parts.{expr_shape, plan_shape}
 pub data ExprOp : Type 0 where
   column : (name : List ℕ) → ExprOp
   literal : (value : LiteralValue) → ExprOp
+  alias : (name : List ℕ) → ExprOp
   binary : (op : Operator) → ExprOp
 
 -- an expression: an operator over the trees of its operands
@@ -36,9 +38,13 @@ pub record Named : Type 0 where
 
 -- what a plan node is beside its inputs
 pub data Op : Type 0 where
+  slice : (offset : ℤ) → (len : ℕ) → Op
   filter : (predicate : Named) → Op
   scan : (sources : ScanSources) → (file_info : FileInfo) → (predicate : Option Named) → (output_schema : Option Columns) → (scan_type : FileScan) → (file_options : FileScanOptions) → Op
+  frame_scan : (df : Option ℕ) → (schema : Columns) → (output_schema : Option Columns) → Op
   simple_projection : (columns : Columns) → Op
+  select : (exprs : List Named) → (schema : Columns) → (options : ProjectionOptions) → Op
+  hstack : (exprs : List Named) → (schema : Columns) → (options : ProjectionOptions) → Op
   invalid : Op
 
 -- a plan without numbers
@@ -49,6 +55,7 @@ Plan = Rose (Unit {0}) Op
 abbrev pub expr_op : AExpr → ExprOp
 expr_op (exprs.Column name) = column name
 expr_op (exprs.Literal value) = literal value
+expr_op (exprs.Alias input name) = alias name
 expr_op (exprs.BinaryExpr left op right) = binary op
 
 -- the first of some trees; a column without a name where there is none
@@ -73,11 +80,19 @@ exprs_at ex (n ∷ ns) = more (expr_at ex n) (exprs_at ex ns)
 abbrev pub named_at : List AExpr → ExprIR → Named
 named_at ex e = record { name = e.output_name; expr = expr_at ex e.node }
 
+-- expressions with the names that they give, in order
+abbrev pub all_named_at : List AExpr → List ExprIR → List Named
+all_named_at ex es = map (named_at ex) es
+
 -- what a node is, with the expressions that it reaches
 abbrev pub op_at : List AExpr → IR → Op
+op_at ex (nodes.Slice input offset len) = slice offset len
 op_at ex (nodes.Filter input predicate) = filter (named_at ex predicate)
 op_at ex (nodes.Scan sources file_info predicate output_schema scan_type file_options) = scan sources file_info (option_map (named_at ex) predicate) output_schema scan_type file_options
+op_at ex (nodes.DataFrameScan df schema output_schema) = frame_scan df schema output_schema
 op_at ex (nodes.SimpleProjection input columns) = simple_projection columns
+op_at ex (nodes.Select input expr schema options) = select (all_named_at ex expr) schema options
+op_at ex (nodes.HStack input exprs schema options) = hstack (all_named_at ex exprs) schema options
 op_at ex nodes.Invalid = invalid
 
 -- the plans that trees in an arena are, each node with its number

@@ -6,13 +6,17 @@ use Rattle.plan_core.specs.Names.{with_names}
 use Rattle.plan_core.specs.declared.options.FileScanOptions.{FileScanOptions}
 use Rattle.plan_ir.specs.declared.scan.FileInfo.{FileInfo}
 use Rattle.plan_ir.specs.declared.ir.IR.{IR}
-use Rattle.plan_ir.specs.declared.ir.IR.TheVariants.{Filter, Scan, SimpleProjection, Invalid}
+use Rattle.plan_ir.specs.declared.ir.IR.TheVariants.{Slice, Filter, Scan, DataFrameScan, SimpleProjection, Select, HStack, Invalid}
 
 -- a node that reads from sources
 abbrev pub is_scan : IR → Bool
+is_scan (Slice input offset len) = false
 is_scan (Filter input predicate) = false
 is_scan (Scan sources file_info predicate output_schema scan_type file_options) = true
+is_scan (DataFrameScan df schema output_schema) = true
 is_scan (SimpleProjection input columns) = false
+is_scan (Select input expr schema options) = false
+is_scan (HStack input exprs schema options) = false
 is_scan Invalid = false
 
 -- the names, each once, in the order in which they first come
@@ -27,11 +31,19 @@ reader_names schema = option_map_or names_of schema []
 abbrev pub read_names : FileInfo → FileScanOptions → List (List ℕ)
 read_names info options = option_map_or once options.with_columns (reader_names info.reader_schema)
 
--- the names of the columns that a scan reads from its files; other nodes read nothing
+-- the names of what is put out, or else of all that there is
+abbrev pub put_out_names : Option Columns → Columns → List (List ℕ)
+put_out_names output schema = option_map_or names_of output (names_of schema)
+
+-- the names of the columns that a scan reads from its files or frame; other nodes read nothing
 abbrev pub reads_of : IR → List (List ℕ)
+reads_of (Slice input offset len) = []
 reads_of (Filter input predicate) = []
 reads_of (Scan sources file_info predicate output_schema scan_type file_options) = read_names file_info file_options
+reads_of (DataFrameScan df schema output_schema) = put_out_names output_schema schema
 reads_of (SimpleProjection input columns) = []
+reads_of (Select input expr schema options) = []
+reads_of (HStack input exprs schema options) = []
 reads_of Invalid = []
 
 -- what each scan among nodes reads

@@ -1,33 +1,64 @@
 //! Expressions, in an arena of their own.
 ghost use Rattle.std.specs.Prelude.{◌≡◌, IfOk};
 
-use plan_core::{Node, PlSmallStr, TryClone};
+use plan_core::{Node, PlSmallStr, PlainType, TryClone};
 use std::alloc::{AllocError, Global};
 
 /// What a binary expression does with its two sides.
 #[derive(Clone, Copy, PartialEq, Eq, Hash, Debug)]
 pub enum Operator {
+    /// Whether the sides are equal; null where a side is null.
     Eq,
+    /// Whether the sides differ; null where a side is null.
     NotEq,
+    /// Whether the left side is less; null where a side is null.
     Lt,
+    /// Whether the left side is less or equal; null where a side is null.
     LtEq,
+    /// Whether the left side is greater; null where a side is null.
     Gt,
+    /// Whether the left side is greater or equal; null where a side is null.
     GtEq,
+    /// Whether the sides are equal, null being equal to null alone.
+    EqValidity,
+    /// Whether the sides differ, null being equal to null alone.
+    NotEqValidity,
+    /// Whether both sides are true: false where one is false, else null where one is null.
+    And,
+    /// Whether a side is true: true where one is true, else null where one is null.
+    Or,
+    /// Whether just one side is true; null where a side is null.
+    Xor,
+    /// The sum, wrapped to 64 bits; null where a side is null.
+    Plus,
+    /// The left side less the right one, wrapped to 64 bits; null where a side is null.
+    Minus,
+    /// The product, wrapped to 64 bits; null where a side is null.
+    Multiply,
 }
 
 /// A value that is written out.
 #[derive(Drop, PartialEq, Eq, Debug)]
 pub enum LiteralValue {
+    /// No value, of a type.
+    Null(PlainType),
+    /// A whole number.
     Int64(i64),
+    /// A text.
+    String(PlSmallStr),
+    /// A truth value.
+    Boolean(bool),
 }
 
 impl TryClone for LiteralValue {
     fn try_clone(&self, alloc: Global) -> Result<Self, AllocError>
         ensures { IfOk result (λ r. r ≡ self.now) }
     {
-        let _ = alloc;
         match self {
+            LiteralValue::Null(plain) => Ok(LiteralValue::Null(*plain)),
             LiteralValue::Int64(number) => Ok(LiteralValue::Int64(*number)),
+            LiteralValue::String(text) => Ok(LiteralValue::String(text.try_clone(alloc)?)),
+            LiteralValue::Boolean(truth) => Ok(LiteralValue::Boolean(*truth)),
         }
     }
 }
@@ -35,8 +66,13 @@ impl TryClone for LiteralValue {
 /// An expression; it names the expressions that it is made of by their numbers.
 #[derive(Drop, PartialEq, Eq, Debug)]
 pub enum AExpr {
+    /// The column of this name.
     Column(PlSmallStr),
+    /// A value that is written out.
     Literal(LiteralValue),
+    /// An expression under another name.
+    Alias(Node, PlSmallStr),
+    /// An operator over two expressions, row by row.
     BinaryExpr {
         left: Node,
         op: Operator,
@@ -51,6 +87,7 @@ impl TryClone for AExpr {
         match self {
             AExpr::Column(name) => Ok(AExpr::Column(name.try_clone(alloc)?)),
             AExpr::Literal(value) => Ok(AExpr::Literal(value.try_clone(alloc)?)),
+            AExpr::Alias(input, name) => Ok(AExpr::Alias(*input, name.try_clone(alloc)?)),
             AExpr::BinaryExpr { left, op, right } => Ok(AExpr::BinaryExpr {
                 left: *left,
                 op: *op,

@@ -3,12 +3,18 @@ ghost use Rattle.std.specs.Prelude.{◌≡◌, IfOk};
 
 use crate::expr::ExprIR;
 use crate::scan::{FileInfo, FileScan, ScanSources};
-use plan_core::{FileScanOptions, Node, Schema, TryClone};
+use plan_core::{FileScanOptions, Items, Node, ProjectionOptions, Schema, TryClone};
 use std::alloc::{AllocError, Global};
 
 /// A node of a plan; it names its inputs and its expressions by their numbers.
 #[derive(Drop, PartialEq, Eq, Debug)]
 pub enum IR {
+    /// The rows from a first one on, as many as there are up to `len`. An offset below zero counts from the end.
+    Slice {
+        input: Node,
+        offset: i64,
+        len: u32,
+    },
     /// The rows for which the predicate is true.
     Filter {
         input: Node,
@@ -23,10 +29,31 @@ pub enum IR {
         scan_type: FileScan,
         file_options: FileScanOptions,
     },
+    /// The columns of a frame that is handed in under a number; without a number the frame without rows and columns.
+    DataFrameScan {
+        df: Option<u32>,
+        schema: Schema,
+        output_schema: Option<Schema>,
+    },
     /// Some columns of the input, in the order of `columns`.
     SimpleProjection {
         input: Node,
         columns: Schema,
+    },
+    /// A column for each expression, and no others; `schema` lists them. It has one row where all are scalar.
+    Select {
+        input: Node,
+        expr: Items<ExprIR>,
+        schema: Schema,
+        options: ProjectionOptions,
+    },
+    /// The columns of the input, and one for each expression: in the place of the input's column of its name, or last.
+    /// `schema` lists them all.
+    HStack {
+        input: Node,
+        exprs: Items<ExprIR>,
+        schema: Schema,
+        options: ProjectionOptions,
     },
     /// No node: what `take` leaves behind.
     Invalid,
@@ -48,6 +75,11 @@ impl TryClone for IR {
         ensures { IfOk result (λ r. r ≡ self.now) }
     {
         match self {
+            IR::Slice { input, offset, len } => Ok(IR::Slice {
+                input: *input,
+                offset: *offset,
+                len: *len,
+            }),
             IR::Filter { input, predicate } => Ok(IR::Filter {
                 input: *input,
                 predicate: predicate.try_clone(alloc)?,
@@ -67,9 +99,40 @@ impl TryClone for IR {
                 scan_type: *scan_type,
                 file_options: file_options.try_clone(alloc)?,
             }),
+            IR::DataFrameScan {
+                df,
+                schema,
+                output_schema,
+            } => Ok(IR::DataFrameScan {
+                df: *df,
+                schema: schema.try_clone(alloc)?,
+                output_schema: output_schema.try_clone(alloc)?,
+            }),
             IR::SimpleProjection { input, columns } => Ok(IR::SimpleProjection {
                 input: *input,
                 columns: columns.try_clone(alloc)?,
+            }),
+            IR::Select {
+                input,
+                expr,
+                schema,
+                options,
+            } => Ok(IR::Select {
+                input: *input,
+                expr: expr.try_clone(alloc)?,
+                schema: schema.try_clone(alloc)?,
+                options: *options,
+            }),
+            IR::HStack {
+                input,
+                exprs,
+                schema,
+                options,
+            } => Ok(IR::HStack {
+                input: *input,
+                exprs: exprs.try_clone(alloc)?,
+                schema: schema.try_clone(alloc)?,
+                options: *options,
             }),
             IR::Invalid => Ok(IR::Invalid),
         }

@@ -23,6 +23,10 @@ impl Entry for AExpr {
         match self {
             AExpr::Column(_) => Ok(()),
             AExpr::Literal(_) => Ok(()),
+            AExpr::Alias(input, _) => {
+                out.push(*input)?;
+                Ok(())
+            }
             AExpr::BinaryExpr { left, right, .. } => {
                 out.push(*left)?;
                 out.push(*right)?;
@@ -45,23 +49,22 @@ impl Entry for IR {
 
     fn copy_inputs(&self, out: &mut Items<Node>) -> Result<(), AllocError> {
         match self {
-            IR::Filter { input, .. } => {
+            IR::Slice { input, .. }
+            | IR::Filter { input, .. }
+            | IR::SimpleProjection { input, .. }
+            | IR::Select { input, .. }
+            | IR::HStack { input, .. } => {
                 out.push(*input)?;
                 Ok(())
             }
-            IR::Scan { .. } => Ok(()),
-            IR::SimpleProjection { input, .. } => {
-                out.push(*input)?;
-                Ok(())
-            }
-            IR::Invalid => Ok(()),
+            IR::Scan { .. } | IR::DataFrameScan { .. } | IR::Invalid => Ok(()),
         }
     }
 }
 
 impl IR {
-    /// The expressions, in order: for a filter its predicate, for a scan the predicate that it may have. Refuses for
-    /// want of memory alone.
+    /// The expressions, in order: for a filter its predicate, for a scan the predicate that it may have, for a selection
+    /// and an addition of columns those that make them. Refuses for want of memory alone.
     pub fn exprs(&self, alloc: Global) -> Result<Items<&ExprIR>, AllocError>
         ensures { IfOk result (λ exprs. map (λ e. e.now) exprs ≡ exprs_of self.now) }
     {
@@ -75,8 +78,15 @@ impl IR {
                     exprs.push(predicate)?;
                 }
             }
-            IR::SimpleProjection { .. } => {}
-            IR::Invalid => {}
+            IR::Select { expr: list, .. } | IR::HStack { exprs: list, .. } => {
+                for expr in list.as_slice() {
+                    exprs.push(expr)?;
+                }
+            }
+            IR::Slice { .. }
+            | IR::DataFrameScan { .. }
+            | IR::SimpleProjection { .. }
+            | IR::Invalid => {}
         }
         Ok(exprs)
     }
@@ -107,6 +117,11 @@ impl IR {
         ensures node { IfOk result (λ node. node ≡ over_parts self.now exprs inputs) }
     {
         match self {
+            IR::Slice { offset, len, .. } => Ok(IR::Slice {
+                input: only(inputs),
+                offset: *offset,
+                len: *len,
+            }),
             IR::Filter { .. } => Ok(IR::Filter {
                 input: only(inputs),
                 predicate: only(exprs),
@@ -126,9 +141,34 @@ impl IR {
                 scan_type: *scan_type,
                 file_options: file_options.try_clone(alloc)?,
             }),
+            IR::DataFrameScan {
+                df,
+                schema,
+                output_schema,
+            } => Ok(IR::DataFrameScan {
+                df: *df,
+                schema: schema.try_clone(alloc)?,
+                output_schema: output_schema.try_clone(alloc)?,
+            }),
             IR::SimpleProjection { columns, .. } => Ok(IR::SimpleProjection {
                 input: only(inputs),
                 columns: columns.try_clone(alloc)?,
+            }),
+            IR::Select {
+                schema, options, ..
+            } => Ok(IR::Select {
+                input: only(inputs),
+                expr: exprs,
+                schema: schema.try_clone(alloc)?,
+                options: *options,
+            }),
+            IR::HStack {
+                schema, options, ..
+            } => Ok(IR::HStack {
+                input: only(inputs),
+                exprs,
+                schema: schema.try_clone(alloc)?,
+                options: *options,
             }),
             IR::Invalid => Ok(IR::Invalid),
         }
@@ -145,6 +185,7 @@ impl AExpr {
         match self {
             AExpr::Column(name) => Ok(AExpr::Column(name.try_clone(alloc)?)),
             AExpr::Literal(value) => Ok(AExpr::Literal(value.try_clone(alloc)?)),
+            AExpr::Alias(_, name) => Ok(AExpr::Alias(operands[0], name.try_clone(alloc)?)),
             AExpr::BinaryExpr { op, .. } => Ok(AExpr::BinaryExpr {
                 left: operands[0],
                 op: *op,

@@ -1,19 +1,20 @@
 //! What scans read from their files.
 ghost use Rattle.std.specs.Prelude.{◌≡◌, IfOk, IsTrue};
 ghost use Rattle.plan_core.specs.Columns.{names_of};
-ghost use Rattle.plan_ir.specs.Reads.{is_scan, once, reads_of, scan_reads_of};
+ghost use Rattle.plan_ir.specs.Reads.{is_scan, once, read_names, reads_of, scan_reads_of};
 
 use crate::copy::PlanCopy;
 use crate::ir::IR;
-use plan_core::{Items, Names, Node, PlSmallStr, Schema};
+use crate::scan::FileInfo;
+use plan_core::{FileScanOptions, Items, Names, Node, PlSmallStr, Schema};
 use std::alloc::{AllocError, Global};
 
 impl IR {
-    /// Whether the node is a scan.
+    /// Whether the node is a scan, of files or of a frame that is handed in.
     pub fn is_scan(&self) -> bool
         ensures { result ≡ is_scan self.now }
     {
-        matches!(self, IR::Scan { .. })
+        matches!(self, IR::Scan { .. } | IR::DataFrameScan { .. })
     }
 }
 
@@ -42,24 +43,42 @@ fn column_names(alloc: Global, schema: &Schema) -> Result<Items<PlSmallStr>, All
     Ok(names)
 }
 
-/// The names of the columns that a scan reads from its files, each once: those that `with_columns` asks for, in its
-/// order, or else all that a reader finds. Refuses for want of memory alone.
+/// The names of the columns that a scan reads from its files.
+fn file_reads(
+    alloc: Global,
+    info: &FileInfo,
+    options: &FileScanOptions,
+) -> Result<Items<PlSmallStr>, AllocError>
+    ensures { IfOk result (λ names. names ≡ read_names info.now options.now) }
+{
+    match (&options.with_columns, &info.reader_schema) {
+        (Some(names), _) => each_once(alloc, names.as_slice()),
+        (None, Some(schema)) => column_names(alloc, schema),
+        (None, None) => Ok(Items::new(alloc)),
+    }
+}
+
+/// The names of the columns that a scan reads, each once. From files those that `with_columns` asks for, in its order,
+/// or else all that a reader finds; from a frame those that it puts out. Refuses for want of memory alone.
 pub fn reads(alloc: Global, ir: &IR) -> Result<Items<PlSmallStr>, AllocError>
     requires { IsTrue (is_scan ir.now) }
     ensures { IfOk result (λ names. names ≡ reads_of ir.now) }
 {
-    let IR::Scan {
-        file_info,
-        file_options,
-        ..
-    } = ir
-    else {
-        unreachable!()
-    };
-    match (&file_options.with_columns, &file_info.reader_schema) {
-        (Some(names), _) => each_once(alloc, names.as_slice()),
-        (None, Some(schema)) => column_names(alloc, schema),
-        (None, None) => Ok(Items::new(alloc)),
+    match ir {
+        IR::Scan {
+            file_info,
+            file_options,
+            ..
+        } => file_reads(alloc, file_info, file_options),
+        IR::DataFrameScan {
+            schema,
+            output_schema,
+            ..
+        } => match output_schema {
+            Some(output) => column_names(alloc, output),
+            None => column_names(alloc, schema),
+        },
+        _ => unreachable!(),
     }
 }
 

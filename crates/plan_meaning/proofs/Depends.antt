@@ -4,10 +4,10 @@ use Rattle.plan_core.specs.Names.{has}
 use Rattle.plan_core.specs.Columns.{Columns, type_of}
 use Rattle.plan_core.specs.declared.data_type.DataType.{DataType}
 use Rattle.plan_tree.specs.Rose.{Roses, rose, no_roses, more}
-use Rattle.plan_ir.specs.Plans.{ExprOp, column as column_of, literal, binary, Expr}
+use Rattle.plan_ir.specs.Plans.{ExprOp, column as column_of, literal, alias, binary, Expr}
 use Rattle.plan_meaning.specs.Exprs.{Name, own_leaves, leaves, leaves_all, type_by, expr_type, expr_types}
 use Rattle.plan_meaning.specs.Frames.{Frame, Agree}
-use Rattle.plan_meaning.specs.Meaning.{many, Meaning, spread, compared, meaning, val, vals}
+use Rattle.plan_meaning.specs.Meaning.{many, Meaning, spread, operated, meaning, val, vals}
 use Rattle.plan_meaning.proofs.NameSets.{has_first, has_front, has_back}
 use Rattle.plan_meaning.proofs.FrameLemmas.{or_same}
 
@@ -22,9 +22,12 @@ AllDepend l (m ∷ ms) = Depends l m × AllDepend l ms
 meaning_depends : (op : ExprOp) (l : List Name) (ms : List Meaning) → ((a : Name) → has (own_leaves op) a ≡ true → has l a ≡ true) → AllDepend l ms → Depends l (meaning op ms)
 meaning_depends (column_of a) l ms own d = record { on = λ f g h. ap many (or_same f g a a h.height (h.same a (own a (has_first a [])))) }
 meaning_depends (literal v) l ms own d = record { on = λ f g h. refl }
+meaning_depends (alias a) l [] own d = record { on = λ f g h. refl }
+meaning_depends (alias a) l (m ∷ []) own d = record { on = λ f g h. d.0.on f g h }
+meaning_depends (alias a) l (m ∷ n ∷ ms) own d = record { on = λ f g h. refl }
 meaning_depends (binary o) l [] own d = record { on = λ f g h. refl }
 meaning_depends (binary o) l (m ∷ []) own d = record { on = λ f g h. refl }
-meaning_depends (binary o) l (m ∷ n ∷ []) own d = record { on = λ f g h. ap₂ (spread (compared o)) (d.0.on f g h) (d.1.0.on f g h) }
+meaning_depends (binary o) l (m ∷ n ∷ []) own d = record { on = λ f g h. ap₂ (spread (operated o)) (d.0.on f g h) (d.1.0.on f g h) }
 meaning_depends (binary o) l (m ∷ n ∷ k ∷ ms) own d = record { on = λ f g h. refl }
 
 mutual
@@ -44,6 +47,7 @@ val_depends e f g h = (val_on e (leaves e) (λ a i. i)).on f g h
 type_by_same : (op : ExprOp) (ts : List (Option DataType)) (r s : Columns) → ((a : Name) → has (own_leaves op) a ≡ true → type_of r a ≡ type_of s a) → type_by op ts r ≡ type_by op ts s
 type_by_same (column_of a) ts r s h = h a (has_first a [])
 type_by_same (literal v) ts r s h = refl
+type_by_same (alias a) ts r s h = refl
 type_by_same (binary o) ts r s h = refl
 
 mutual

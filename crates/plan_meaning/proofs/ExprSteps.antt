@@ -6,13 +6,13 @@ use Rattle.plan_core.specs.Columns.{Columns, type_of}
 use Rattle.plan_core.specs.declared.data_type.DataType.{DataType}
 use Rattle.plan_tree.specs.Rose.{Rose, Roses, rose, no_roses, more}
 use Rattle.plan_ir.specs.declared.expr.AExpr.{AExpr}
-use Rattle.plan_ir.specs.declared.expr.AExpr.TheVariants.{Column, Literal, BinaryExpr}
+use Rattle.plan_ir.specs.declared.expr.AExpr.TheVariants.{Column, Literal, Alias, BinaryExpr}
 use Rattle.plan_ir.specs.declared.expr.LiteralValue.{LiteralValue}
 use Rattle.plan_ir.specs.declared.expr.Operator.{Operator}
 use Rattle.plan_ir.specs.Parts.{IsExpr}
-use Rattle.plan_ir.specs.Plans.{Expr, expr_at, literal, column, binary}
+use Rattle.plan_ir.specs.Plans.{Expr, expr_at, literal, column, alias, binary}
 use Rattle.plan_ir.proofs.ExprLemmas.{expr_open}
-use Rattle.plan_meaning.specs.Exprs.{Name, leaves, all_known, expr_type, literal_type, both_alike, Naming, by_column, by_literal, unnamed, naming, or_naming}
+use Rattle.plan_meaning.specs.Exprs.{Name, leaves, all_known, expr_type, literal_type, operator_type, Naming, by_column, by_literal, by_alias, unnamed, naming, or_naming}
 
 and_true : (b : Bool) → (b && true) ≡ b
 and_true true = refl
@@ -33,6 +33,10 @@ module _ (ex : List AExpr) (n : Node) (h : IsExpr ex n) where
   pub known-literal : (v : LiteralValue) (s : Columns) → slice_get ex n.0 ≡ Some (Literal v) → true ≡ all_known (leaves (expr_at ex n)) s
   known-literal v s e = ap (λ (x : Expr). all_known (leaves x) s) (sym (expr_open ex n (Literal v) h e))
 
+  pub known-alias : (i : Node) (name : Name) (s : Columns) → slice_get ex n.0 ≡ Some (Alias i name) → all_known (leaves (expr_at ex i)) s ≡ all_known (leaves (expr_at ex n)) s
+  known-alias i name s e =
+      ap (λ (x : List Name). all_known x s) (sym (append-nil (leaves (expr_at ex i)))) ∙ ap (λ (x : Expr). all_known (leaves x) s) (sym (expr_open ex n (Alias i name) h e))
+
   pub known-binary : (l r : Node) (o : Operator) (s : Columns) → slice_get ex n.0 ≡ Some (BinaryExpr l o r) → (all_known (leaves (expr_at ex l)) s && all_known (leaves (expr_at ex r)) s) ≡ all_known (leaves (expr_at ex n)) s
   known-binary l r o s e =
       let a = leaves (expr_at ex l) in
@@ -45,7 +49,10 @@ module _ (ex : List AExpr) (n : Node) (h : IsExpr ex n) where
   pub type-literal : (v : LiteralValue) (s : Columns) → slice_get ex n.0 ≡ Some (Literal v) → ◌≡◌ {A = Option DataType} (Some (literal_type v)) (expr_type (expr_at ex n) s)
   type-literal v s e = ap (λ (x : Expr). expr_type x s) (sym (expr_open ex n (Literal v) h e))
 
-  pub type-binary : (l r : Node) (o : Operator) (s : Columns) → slice_get ex n.0 ≡ Some (BinaryExpr l o r) → both_alike (expr_type (expr_at ex l) s) (expr_type (expr_at ex r) s) ≡ expr_type (expr_at ex n) s
+  pub type-alias : (i : Node) (name : Name) (s : Columns) → slice_get ex n.0 ≡ Some (Alias i name) → expr_type (expr_at ex i) s ≡ expr_type (expr_at ex n) s
+  type-alias i name s e = ap (λ (x : Expr). expr_type x s) (sym (expr_open ex n (Alias i name) h e))
+
+  pub type-binary : (l r : Node) (o : Operator) (s : Columns) → slice_get ex n.0 ≡ Some (BinaryExpr l o r) → operator_type o (expr_type (expr_at ex l) s) (expr_type (expr_at ex r) s) ≡ expr_type (expr_at ex n) s
   type-binary l r o s e = ap (λ (x : Expr). expr_type x s) (sym (expr_open ex n (BinaryExpr l o r) h e))
 
   pub naming-column : (name : Name) → slice_get ex n.0 ≡ Some (Column name) → by_column name ≡ naming (expr_at ex n)
@@ -53,6 +60,9 @@ module _ (ex : List AExpr) (n : Node) (h : IsExpr ex n) where
 
   pub naming-literal : (v : LiteralValue) → slice_get ex n.0 ≡ Some (Literal v) → by_literal (codes "literal") ≡ naming (expr_at ex n)
   naming-literal v e = ap naming (sym (expr_open ex n (Literal v) h e))
+
+  pub naming-alias : (i : Node) (name : Name) → slice_get ex n.0 ≡ Some (Alias i name) → by_alias name ≡ naming (expr_at ex n)
+  naming-alias i name e = ap naming (sym (expr_open ex n (Alias i name) h e))
 
   pub naming-binary : (l r : Node) (o : Operator) → slice_get ex n.0 ≡ Some (BinaryExpr l o r) → or_naming (naming (expr_at ex l)) (or_naming (naming (expr_at ex r)) unnamed) ≡ naming (expr_at ex n)
   naming-binary l r o e = ap naming (sym (expr_open ex n (BinaryExpr l o r) h e))

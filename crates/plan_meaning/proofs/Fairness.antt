@@ -7,7 +7,7 @@ use Rattle.plan_core.specs.declared.error.PolarsError.TheVariants.{SchemaFieldNo
 use Rattle.plan_core.specs.Columns.{Columns, names_of, type_of}
 use Rattle.plan_core.specs.Names.{has, with_names, AreDistinct}
 use Rattle.plan_tree.specs.Rose.{Roses, rose, no_roses, more}
-use Rattle.plan_ir.specs.Plans.{Op, filter, scan, simple_projection, invalid, Plan}
+use Rattle.plan_ir.specs.Plans.{Op, slice, filter, scan, frame_scan, simple_projection, select, hstack, invalid, Plan}
 use Rattle.plan_meaning.specs.Exprs.{Name, leaves, is_type}
 use Rattle.plan_meaning.specs.Typing.{is_empty, each, is_known, is_column, has_columns, names_or, columns_or, file_columns, all_read, put_out_checks, scan_name_checks, schema_by, schemas, checks, AllHold, AllValid}
 use Rattle.plan_meaning.specs.Steps.{IsValid}
@@ -96,6 +96,10 @@ fair_asks (scan sources info predicate output kind options) a [] good f = tt
 fair_asks (simple_projection cols) a (s ∷ []) good f =
     let known = each_pass SchemaFieldNotFound 1 (λ (c : Name × DataType). is_known s c.0) cols (hold_front (each SchemaFieldNotFound 1 (λ (c : Name × DataType). is_known s c.0) cols) (each SchemaMismatch 1 (is_column s) cols) good.1) in
     (fair_columns cols a s known, tt)
+fair_asks (slice offset len) a (s ∷ []) good f = (f, tt)
+fair_asks (frame_scan df schema output) a [] good f = tt
+fair_asks (select es stored options) a (s ∷ []) good f = (tt, tt)
+fair_asks (hstack es stored options) a (s ∷ []) good f = (tt, tt)
 fair_asks op a ss good f = absurd (cc)
 
 -- scans
@@ -146,6 +150,25 @@ site_fair (scan sources info predicate output kind options) a [] good f =
         let parts = scan_good predicate output info options good in
         let out = asked (names wanted) f b i in
         read_of options.with_columns (file_columns info) b (out_read output options.with_columns (file_columns info) parts.put_out b out) (out_found output options.with_columns (file_columns info) parts.known b out)
+site_fair (frame_scan df schema output) a [] good f =
+    (record { asked = λ b i. asked a f b i; allowed = λ b i. may_read a f b i }, tt)
+  where
+    here : Op
+    here = frame_scan df schema output
+
+    asked : (x : Asked) → IsFair x (schema_by here []) → (b : Name) → has (asked_names x) b ≡ true → has (names_of (schema_by here [])) b ≡ true
+    asked all f b i = cc
+    asked cached f b i = cc
+    asked (names wanted) f b i = sym (some-type_of (schema_by here []) b) ∙ f.known b i
+
+    may_read : (x : Asked) → IsFair x (schema_by here []) → (b : Name) → has (allowed here x) b ≡ true → has (reads here) b ≡ true
+    may_read all f b i = i
+    may_read cached f b i = i
+    may_read (names wanted) f b i = asked (names wanted) f b i
+site_fair (slice offset len) a ss good f = tt
+site_fair (select es stored options) a ss good f = tt
+site_fair (hstack es stored options) a ss good f = tt
+site_fair (frame_scan df schema output) a (s ∷ ss) good f = cc
 site_fair (filter predicate) a ss good f = tt
 site_fair (simple_projection cols) a ss good f = tt
 site_fair invalid a ss good f = tt

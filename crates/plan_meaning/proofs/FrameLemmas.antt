@@ -4,11 +4,11 @@ use Rattle.std.specs.List.{AllByRecursion}
 use Rattle.std.specs.Str.{bytes_eq}
 use Rattle.plan_core.specs.declared.data_type.DataType.{DataType}
 use Rattle.plan_core.specs.declared.data_type.DataType.TheVariants as types
-use Rattle.plan_core.specs.Columns.{Columns, names_of, type_of}
+use Rattle.plan_core.specs.Columns.{Columns, names_of, type_of, with_type}
 use Rattle.plan_core.specs.Names.{has}
 use Rattle.plan_meaning.specs.Exprs.{Name, same_type, is_type}
 use Rattle.plan_meaning.specs.Values.{Value, null, IsOf, AllOf}
-use Rattle.plan_meaning.specs.Frames.{Column, Frame, found, column, column_or, HaveTypes, HasSchema, Holds, HoldsAll, row, picked, picked_columns, rows_at, table_columns, table, cut, AgreeBy, Agree}
+use Rattle.plan_meaning.specs.Frames.{Column, Frame, found, column, column_or, HaveTypes, HasSchema, Holds, HoldsAll, row, picked, picked_columns, rows_at, table_columns, table, with_column, cut, AgreeBy, Agree}
 use Rattle.plan_meaning.specs.Contents.{total_height, stacked}
 use Rattle.plan_meaning.proofs.NameSets.{named, same_named, has_cons, has_first, has_later}
 
@@ -50,6 +50,10 @@ pub some_type_is : (t : DataType) → is_type (Some t) t ≡ true
 some_type_is types.Int64 = refl
 some_type_is types.String = refl
 some_type_is types.Boolean = refl
+
+pub replicate_of : (t : DataType) (v : Value) (n : ℕ) → IsOf t v → AllOf t (replicate n v)
+replicate_of t v zero h = tt
+replicate_of t v (suc n) h = (h, replicate_of t v n h)
 
 -- rows of a frame
 
@@ -134,6 +138,21 @@ found_table_at v a b names false e r i = r (⊎_elim (λ q. other q) (λ q. q) (
 pub found-table : (v : Name → List Value) (names : List Name) (b : Name) → has names b ≡ true → found (table_columns names v) b ≡ Some (v b)
 found-table v [] b e = cc
 found-table v (a ∷ names) b e = found_table_at v a b names (bytes_eq b a) refl (found-table v names b) e
+
+-- columns beside others
+
+with_at : (h : ℕ) (c d : Column) (cs : List Column) (s : Name × DataType) (ss : Columns) (t : DataType) (b : Bool) → bytes_eq c.name d.name ≡ b → d.name ≡ s.0 → length d.values ≡ h → AllOf s.1 d.values → length c.values ≡ h → AllOf t c.values → HaveTypes h cs ss → HaveTypes h (with_column cs c) (with_type ss c.name t) → HaveTypes h (cond b (c ∷ cs) (d ∷ with_column cs c)) (cond b ((s.0, t) ∷ ss) (s ∷ with_type ss c.name t))
+with_at h c d cs s ss t true e n l o lc oc k r = (named c.name d.name e ∙ n, lc, oc, k)
+with_at h c d cs s ss t false e n l o lc oc k r = (n, l, o, r)
+
+-- a column stands in the place of the one of its name, or last, with its type
+pub with_has : (h : ℕ) (cs : List Column) (s : Columns) (c : Column) (t : DataType) → HaveTypes h cs s → length c.values ≡ h → AllOf t c.values → HaveTypes h (with_column cs c) (with_type s c.name t)
+with_has h [] [] c t k l o = (refl, l, o, tt)
+with_has h (d ∷ cs) (s ∷ ss) c t k l o =
+    subst (λ (b : Bool). HaveTypes h (with_column (d ∷ cs) c) (cond b ((s.0, t) ∷ ss) (s ∷ with_type ss c.name t))) (ap (bytes_eq c.name) k.0)
+    (with_at h c d cs s ss t (bytes_eq c.name d.name) refl k.0 k.1 k.2 l o k.3 (with_has h cs ss c t k.3 l o))
+with_has h [] (s ∷ ss) c t k l o = absurd k
+with_has h (d ∷ cs) [] c t k l o = absurd k
 
 -- frames that agree
 

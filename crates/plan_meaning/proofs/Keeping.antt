@@ -3,7 +3,7 @@ use Rattle.std.proofs.Common.{◌≡◌, true, List, [], ◌∷◌, ◌++◌, ma
 use Rattle.std.proofs.lemmas.List.{map-append}
 use Rattle.plan_core.specs.Names.{has}
 use Rattle.plan_tree.specs.Rose.{Rose, Roses, rose, no_roses, more}
-use Rattle.plan_ir.specs.Plans.{Op, filter, scan, simple_projection, invalid, Plan}
+use Rattle.plan_ir.specs.Plans.{Op, slice, filter, scan, frame_scan, simple_projection, select, hstack, invalid, Plan}
 use Rattle.plan_meaning.specs.Exprs.{Name}
 use Rattle.plan_meaning.specs.Typing.{schemas}
 use Rattle.plan_meaning.specs.Relating.{Asked}
@@ -21,8 +21,12 @@ all_join (o ∷ os) ss h k = (h.0, all_join os ss h.1 k)
 
 own_scans : (op : Op) → AllScans (own_scan op)
 own_scans (scan sources info predicate output kind options) = ((refl, refl), tt)
+own_scans (frame_scan df schema output) = (refl, tt)
+own_scans (slice offset len) = tt
 own_scans (filter predicate) = tt
 own_scans (simple_projection columns) = tt
+own_scans (select es stored options) = tt
+own_scans (hstack es stored options) = tt
 own_scans invalid = tt
 
 mutual
@@ -43,6 +47,7 @@ keeps_refl p = keep_refl (scans p) (are_scans p)
 
 same_trans : (o s r : Op) → SameScan o s → SameScan s r → SameScan o r
 same_trans (scan a b c d e f) (scan a' b' c' d' e' f') (scan a'' b'' c'' d'' e'' f'') h k = (h.0 ∙ k.0, h.1 ∙ k.1)
+same_trans (frame_scan a b c) (frame_scan a' b' c') (frame_scan a'' b'' c'') h k = h ∙ k
 same_trans o s r h k = absurd (first_of (search k, search h))
 
 keep_trans : (os ss rs : List Op) → KeepScans os ss → KeepScans ss rs → KeepScans os rs
@@ -58,8 +63,12 @@ keeps_trans r q p h k = keep_trans (scans r) (scans q) (scans p) h k
 
 own-site : (op : Op) (a : Asked) → map (λ (s : Site). s.at_scan) (own_site op a) ≡ own_scan op
 own-site (scan sources info predicate output kind options) a = refl
+own-site (frame_scan df schema output) a = refl
+own-site (slice offset len) a = refl
 own-site (filter predicate) a = refl
 own-site (simple_projection columns) a = refl
+own-site (select es stored options) a = refl
+own-site (hstack es stored options) a = refl
 own-site invalid a = refl
 
 pub sites-scans : (ts : Roses (Unit {0}) Op) (asked : List Asked) → map (λ (s : Site). s.at_scan) (sites ts asked) ≡ scans_in ts

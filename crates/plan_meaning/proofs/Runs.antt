@@ -1,20 +1,24 @@
 -- What a node gives has its columns, and it gives something; so for plans.
-use Rattle.std.proofs.Common.{◌≡◌, ◌&&◌, true, List, [], ◌∷◌, map, Option, Some, None, unwrap_or, refl, sym, ap, subst}
+use Rattle.std.proofs.Common.{◌≡◌, ℕ, ◌&&◌, ◌||◌, Bool, true, false, cond, List, [], ◌∷◌, map, Option, Some, None, is_some, unwrap_or, refl, sym, ap, subst}
 use Rattle.std.specs.List.{AllByRecursion}
 use Rattle.std.proofs.lemmas.Bool.{and_parts}
 use Rattle.plan_core.specs.declared.data_type.DataType.{DataType}
 use Rattle.plan_core.specs.declared.error.PolarsError.TheVariants.{SchemaFieldNotFound, SchemaMismatch}
-use Rattle.plan_core.specs.Columns.{Columns, names_of, type_of}
+use Rattle.plan_core.specs.Columns.{Columns, names_of, type_of, with_types}
 use Rattle.plan_tree.specs.Rose.{Roses, rose, no_roses, more}
-use Rattle.plan_ir.specs.Plans.{Op, filter, scan, simple_projection, Plan}
-use Rattle.plan_meaning.specs.Exprs.{Name}
-use Rattle.plan_meaning.specs.Typing.{each, is_known, is_column, columns_or, file_columns, has_columns, put_out_checks, schema_by, schema, schemas, checks, AllHold, AllValid}
-use Rattle.plan_meaning.specs.Frames.{Frame, HasSchema, Holds, HoldsAll, cut}
-use Rattle.plan_meaning.specs.Meaning.{val}
-use Rattle.plan_meaning.specs.Contents.{Contents, Source, frame_or, no_frame, HasFrame, sources_of, frames_of, stack, FitsAt, FitsAll, Fits}
-use Rattle.plan_meaning.specs.Steps.{Step, MayAll, May, IsValid, filtered, true_rows}
-use Rattle.plan_meaning.proofs.FrameLemmas.{rows_schema, schema_holds, all_hold, cut_schema, stack_has, is_type_some}
-use Rattle.plan_meaning.proofs.CheckParts.{hold_back, each_pass, scan_good}
+use Rattle.plan_ir.specs.Plans.{Op, slice, filter, scan, frame_scan, simple_projection, select, hstack, Named, Plan}
+use Rattle.plan_core.specs.declared.data_type.DataType.TheVariants as types
+use Rattle.plan_meaning.specs.Exprs.{Name, name_of, expr_type, is_scalar}
+use Rattle.plan_meaning.specs.Typing.{each, is_known, is_column, is_empty, columns_or, file_columns, has_columns, put_out_checks, made_column, made_schema, schema_by, schema, schemas, checks, AllHold, AllValid}
+use Rattle.plan_meaning.specs.Frames.{Frame, Column, HaveTypes, HasSchema, Holds, HoldsAll, with_columns, cut}
+use Rattle.plan_meaning.specs.Meaning.{val, filled}
+use Rattle.plan_meaning.specs.Contents.{Contents, Source, frame, frame_or, no_frame, handed_in, HasFrame, HasHandedIn, sources_of, frames_of, stack, FitsAt, FitsAll, Fits}
+use Rattle.plan_meaning.specs.Steps.{Step, MayAll, May, IsValid, filtered, true_rows, slice_rows, all_scalar, made_columns, made, selected}
+use Rattle.plan_meaning.specs.Frames.{rows_at}
+use Rattle.std.proofs.lemmas.Bool.{and_parts as parts_of}
+use Rattle.plan_meaning.proofs.FrameLemmas.{rows_schema, schema_holds, all_hold, cut_schema, stack_has, is_type_some, with_has}
+use Rattle.plan_meaning.proofs.Sound.{val_sound, val_single, Fills, cell_fills, one_fills}
+use Rattle.plan_meaning.proofs.CheckParts.{hold_back, each_pass, scan_good, FrameGood, frame_good, made_good}
 
 -- frames have these columns, one for one
 abbrev pub HaveSchemas : List Frame → List Columns → Type 0
@@ -43,6 +47,56 @@ frames_hold c file out (s ∷ ss) by h =
     let is : frame_or c s ≡ h.0.given = ap (λ (o : Option Frame). unwrap_or o no_frame) h.0.found in
     (subst (λ (g : Frame). HoldsAll g out) (sym is) (by h.0.given h.0.holds), frames_hold c file out ss by h.1)
 
+-- a frame that is handed in holds what is put out of it
+handed_holds : (c : Contents) (df : Option ℕ) (schema : Columns) (output : Option Columns) → FrameGood df schema (columns_or output []) → HasHandedIn c schema df → HoldsAll (handed_in c df) (columns_or output schema)
+handed_holds c (Some i) schema None g h = subst (λ (f : Frame). HoldsAll f schema) (sym (ap (λ (o : Option Frame). unwrap_or o no_frame) h.found)) h.holds
+handed_holds c (Some i) schema (Some out) g h =
+    subst (λ (f : Frame). HoldsAll f out) (sym (ap (λ (o : Option Frame). unwrap_or o no_frame) h.found))
+    (among_hold (λ a t. Holds h.given (a, t)) schema out (λ a t e. all_hold h.given schema a t h.holds e) g.typed)
+handed_holds c None [] None g h = tt
+handed_holds c None [] (Some []) g h = tt
+handed_holds c None [] (Some (o ∷ out)) g h = let k = g.known in absurd (no k.0)
+  where
+    no : false ≡ true → ⊥
+    no e = cc
+handed_holds c None (s ∷ schema) output g h = let n = g.number in absurd (no n)
+  where
+    no : false ≡ true → ⊥
+    no e = cc
+
+-- the columns that expressions make, beside others
+made_have : (h : ℕ) (g : Frame) (s : Columns) (es : List Named) (cs : List Column) (base : Columns) → HaveTypes h cs base → AllByRecursion (λ (e : Named). Fills (unwrap_or (expr_type e.expr s) types.Int64) h (val e.expr g)) es → HaveTypes h (with_columns cs (made_columns h g es)) (made_schema base es s)
+made_have h g s [] cs base k a = k
+made_have h g s (e ∷ es) cs base k a =
+    made_have h g s es _ _ (with_has h cs base (record { name = name_of e.name; values = filled h (val e.expr g) }) (unwrap_or (expr_type e.expr s) types.Int64) k a.0.0 a.0.1) a.1
+
+typed_some : (o : Option DataType) → is_some o ≡ true → o ≡ Some (unwrap_or o types.Int64)
+typed_some None e = cc
+typed_some (Some t) e = refl
+
+-- expressions that have types fill columns as high as the frame
+typed_fill : (g : Frame) (s : Columns) (es : List Named) → HasSchema g s → AllByRecursion (λ (e : Named). is_some (expr_type e.expr s) ≡ true) es → AllByRecursion (λ (e : Named). Fills (unwrap_or (expr_type e.expr s) types.Int64) g.height (val e.expr g)) es
+typed_fill g s [] has a = tt
+typed_fill g s (e ∷ es) has a =
+    let t = unwrap_or (expr_type e.expr s) types.Int64 in
+    (cell_fills t g.height (val e.expr g) ((val_sound s e.expr).by g t has (typed_some (expr_type e.expr s) a.0)), typed_fill g s es has a.1)
+
+-- and where they are scalar, columns of any height
+scalar_fill : (h : ℕ) (g : Frame) (s : Columns) (es : List Named) → HasSchema g s → all_scalar es ≡ true → AllByRecursion (λ (e : Named). is_some (expr_type e.expr s) ≡ true) es → AllByRecursion (λ (e : Named). Fills (unwrap_or (expr_type e.expr s) types.Int64) h (val e.expr g)) es
+scalar_fill h g s [] has q a = tt
+scalar_fill h g s (e ∷ es) has q a =
+    let t = unwrap_or (expr_type e.expr s) types.Int64 in
+    let p = parts_of (is_scalar e.expr) (all_scalar es) q in
+    (one_fills t h g.height (val e.expr g) ((val_single e.expr p.0).at g) ((val_sound s e.expr).by g t has (typed_some (expr_type e.expr s) a.0)), scalar_fill h g s es has p.1 a.1)
+
+-- a selection has a column for each expression
+selected_has : (g : Frame) (s : Columns) (es : List Named) → HasSchema g s → AllByRecursion (λ (e : Named). is_some (expr_type e.expr s) ≡ true) es → HasSchema (selected es g) (made_schema [] es s)
+selected_has g s es has a = at (all_scalar es) refl
+  where
+    at : (b : Bool) → all_scalar es ≡ b → HasSchema (made (cond b 1 g.height) [] es g) (made_schema [] es s)
+    at true q = made_have 1 g s es [] [] tt (scalar_fill 1 g s es has q a)
+    at false q = made_have g.height g s es [] [] tt (typed_fill g s es has a)
+
 -- per node: what it gives has its columns
 step_has : (c : Contents) (op : Op) (ss : List Columns) (fs : List Frame) (f : Frame) → AllHold (checks op ss) → FitsAt c op → HaveSchemas fs ss → Step c op fs f → HasSchema f (schema_by op ss)
 step_has c (filter predicate) (s ∷ []) (g ∷ []) f good fit has st =
@@ -52,6 +106,15 @@ step_has c (scan sources info predicate output kind options) [] [] f good fit ha
     let out = columns_or output file in
     let parts = scan_good predicate output info options good in
     subst (λ (x : Frame). HasSchema x out) (sym st) (stack_has (frames_of c sources) out (frames_hold c file out (sources_of sources) (out_known output options.with_columns file parts.put_out) fit))
+step_has c (slice offset len) (s ∷ []) (g ∷ []) f good fit has st =
+    subst (λ (x : Frame). HasSchema x s) (sym st) (rows_schema (slice_rows offset len g.height) g s has.0)
+step_has c (frame_scan df schema output) [] [] f good fit has st =
+    let out = columns_or output schema in
+    subst (λ (x : Frame). HasSchema x out) (sym st) (cut_schema (handed_in c df) out (handed_holds c df schema output (frame_good df schema (columns_or output []) good) fit))
+step_has c (select es stored options) (s ∷ []) (g ∷ []) f good fit has st =
+    subst (λ (x : Frame). HasSchema x (made_schema [] es s)) (sym st) (selected_has g s es has.0 (made_good [] es stored s good.1).typed)
+step_has c (hstack es stored options) (s ∷ []) (g ∷ []) f good fit has st =
+    subst (λ (x : Frame). HasSchema x (made_schema s es s)) (sym st) (made_have g.height g s es g.columns s has.0 (typed_fill g s es has.0 (made_good s es stored s good).typed))
 step_has c (simple_projection cols) (s ∷ []) (g ∷ []) f good fit has st =
     let typed = each_pass SchemaMismatch 1 (is_column s) cols (hold_back (each SchemaFieldNotFound 1 (λ (c : Name × DataType). is_known s c.0) cols) (each SchemaMismatch 1 (is_column s) cols) good.1) in
     subst (λ (x : Frame). HasSchema x cols) (sym st) (cut_schema g cols (among_hold (λ a t. Holds g (a, t)) s cols (λ a t e. schema_holds g s a t has.0 e) typed))
@@ -61,6 +124,10 @@ step_has c op ss fs f good fit has st = absurd (first_of (search st, cc))
 step_runs : (c : Contents) (op : Op) (ss : List Columns) (fs : List Frame) → AllHold (checks op ss) → FitsAt c op → HaveSchemas fs ss → (f : Frame) × Step c op fs f
 step_runs c (filter predicate) (s ∷ []) (g ∷ []) good fit has = (filtered predicate.expr g, refl)
 step_runs c (scan sources info predicate output kind options) [] [] good fit has = (stack (names_of (columns_or output (file_columns info))) (frames_of c sources), refl)
+step_runs c (slice offset len) (s ∷ []) (g ∷ []) good fit has = (rows_at (slice_rows offset len g.height) g, refl)
+step_runs c (frame_scan df schema output) [] [] good fit has = (cut (names_of (columns_or output schema)) (handed_in c df), refl)
+step_runs c (select es stored options) (s ∷ []) (g ∷ []) good fit has = (selected es g, refl)
+step_runs c (hstack es stored options) (s ∷ []) (g ∷ []) good fit has = (made g.height g.columns es g, refl)
 step_runs c (simple_projection cols) (s ∷ []) (g ∷ []) good fit has = (cut (names_of cols) g, refl)
 step_runs c op ss fs good fit has = absurd (first_of (search has, cc))
 

@@ -5,9 +5,9 @@ use Rattle.plan_core.specs.declared.data_type.DataType.{DataType}
 use Rattle.plan_core.specs.Columns.{Columns, names_of, type_of}
 use Rattle.plan_core.specs.Names.{has, with_names, AreDistinct}
 use Rattle.plan_tree.specs.Rose.{Roses, rose, no_roses, more}
-use Rattle.plan_ir.specs.Plans.{Op, filter, scan, simple_projection, invalid, Plan}
+use Rattle.plan_ir.specs.Plans.{Op, slice, filter, scan, frame_scan, simple_projection, select, hstack, invalid, Plan}
 use Rattle.plan_meaning.specs.Exprs.{Name, leaves}
-use Rattle.plan_meaning.specs.Typing.{is_empty, names_or, file_columns, schema_by, schemas}
+use Rattle.plan_meaning.specs.Typing.{is_empty, names_or, columns_or, file_columns, schema_by, schemas}
 use Rattle.plan_meaning.specs.Relating.{Asked, all, names, cached}
 
 -- the names that are asked, where not everything is
@@ -45,9 +45,13 @@ asks_columns cs cached = cached
 
 -- what a node asks of its inputs, by the columns of these
 abbrev pub asks : Op → Asked → List Columns → List Asked
+asks (slice offset len) a ss = a ∷ []
 asks (filter predicate) a ss = with_more (leaves predicate.expr) a ∷ []
 asks (scan sources info predicate output kind options) a ss = []
+asks (frame_scan df schema output) a ss = []
 asks (simple_projection columns) a ss = asks_columns columns a ∷ []
+asks (select exprs schema options) a ss = all ∷ []
+asks (hstack exprs schema options) a ss = all ∷ []
 asks invalid a ss = []
 
 -- the first of what is asked, everything where there is none
@@ -68,8 +72,12 @@ pub record Site : Type 0 where
 -- the site that a node is by itself: a scan is one
 abbrev pub own_site : Op → Asked → List Site
 own_site (scan sources info predicate output kind options) a = record { at_scan = scan sources info predicate output kind options; asked = a } ∷ []
+own_site (frame_scan df schema output) a = record { at_scan = frame_scan df schema output; asked = a } ∷ []
+own_site (slice offset len) a = []
 own_site (filter predicate) a = []
 own_site (simple_projection columns) a = []
+own_site (select exprs schema options) a = []
+own_site (hstack exprs schema options) a = []
 own_site invalid a = []
 
 -- the scans of plans from left to right, where each plan is asked what the list says
@@ -82,11 +90,15 @@ sites (more (rose n op ts) rest) asked =
 abbrev pub sites_of : Plan → List Site
 sites_of p = sites (more p no_roses) (all ∷ [])
 
--- the columns that a scan reads: those that it names, else all that a reader finds
+-- the columns that a scan reads: of files those that it names, else all that a reader finds; of a frame those that it puts out
 abbrev pub reads : Op → List Name
 reads (scan sources info predicate output kind options) = names_or options.with_columns (names_of (file_columns info))
+reads (frame_scan df schema output) = names_of (columns_or output schema)
+reads (slice offset len) = []
 reads (filter predicate) = []
 reads (simple_projection columns) = []
+reads (select exprs schema options) = []
+reads (hstack exprs schema options) = []
 reads invalid = []
 
 -- what a scan may read for what it is asked

@@ -1,5 +1,5 @@
 -- Contents: what the sources of scans hold, and when they fit a plan.
-use Rattle.std.specs.Prelude.{◌≡◌, ℕ, ◌+◌, ◌==◌, Bool, false, List, [], ◌∷◌, ◌++◌, map, Option, Some, unwrap_or}
+use Rattle.std.specs.Prelude.{◌≡◌, ℕ, ◌+◌, ◌==◌, Bool, false, List, [], ◌∷◌, ◌++◌, map, Option, Some, None, unwrap_or}
 use Rattle.std.specs.List.{AllByRecursion}
 use Rattle.std.specs.Map.{lookup}
 use Rattle.std.specs.Str.{bytes_eq}
@@ -7,7 +7,7 @@ use Rattle.plan_core.specs.Columns.{Columns}
 use Rattle.plan_tree.specs.Rose.{Roses, rose, no_roses, more}
 use Rattle.plan_ir.specs.declared.scan.ScanSources.{ScanSources}
 use Rattle.plan_ir.specs.declared.scan.ScanSources.TheVariants.{Paths}
-use Rattle.plan_ir.specs.Plans.{Op, filter, scan, simple_projection, invalid, Plan}
+use Rattle.plan_ir.specs.Plans.{Op, slice, filter, scan, frame_scan, simple_projection, select, hstack, invalid, Plan}
 use Rattle.plan_meaning.specs.Exprs.{Name}
 use Rattle.plan_meaning.specs.Values.{Value}
 use Rattle.plan_meaning.specs.Frames.{Frame, IsFrame, HoldsAll, column_or, table}
@@ -50,6 +50,11 @@ sources_of (Paths paths) = map path paths
 abbrev pub frames_of : Contents → ScanSources → List Frame
 frames_of c sources = map (frame_or c) (sources_of sources)
 
+-- the frame that is handed in under a number; without a number the one without rows and columns
+abbrev pub handed_in : Contents → Option ℕ → Frame
+handed_in c None = no_frame
+handed_in c (Some i) = frame_or c (frame i)
+
 -- a source has a well-formed frame that holds these columns
 pub record HasFrame (c : Contents) (file : Columns) (s : Source) : Type 0 where
   pub given : Frame
@@ -57,11 +62,20 @@ pub record HasFrame (c : Contents) (file : Columns) (s : Source) : Type 0 where
   pub formed : IsFrame given
   pub holds : HoldsAll given file
 
--- contents fit a node: each source of a scan has a frame with the columns that its reader finds
+-- under a number there is a well-formed frame that holds these columns
+abbrev pub HasHandedIn : Contents → Columns → Option ℕ → Type 0
+HasHandedIn c schema None = Unit {0}
+HasHandedIn c schema (Some i) = HasFrame c schema (frame i)
+
+-- contents fit a node: each source of a scan has a frame with the columns that its reader finds, and a frame that is handed in holds its columns
 abbrev pub FitsAt : Contents → Op → Type 0
+FitsAt c (slice offset len) = Unit {0}
 FitsAt c (filter predicate) = Unit {0}
 FitsAt c (scan sources info predicate output kind options) = AllByRecursion (HasFrame c (file_columns info)) (sources_of sources)
+FitsAt c (frame_scan df schema output) = HasHandedIn c schema df
 FitsAt c (simple_projection columns) = Unit {0}
+FitsAt c (select exprs schema options) = Unit {0}
+FitsAt c (hstack exprs schema options) = Unit {0}
 FitsAt c invalid = Unit {0}
 
 -- contents fit each node of each plan

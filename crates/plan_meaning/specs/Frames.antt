@@ -1,5 +1,5 @@
 -- Frames: a height and named columns of that length; rows and columns taken from them.
-use Rattle.std.specs.Prelude.{◌≡◌, ℕ, zero, suc, true, List, [], ◌∷◌, map, length, Option, Some, None, replicate, unwrap_or, if◌then◌else◌}
+use Rattle.std.specs.Prelude.{◌≡◌, ℕ, zero, suc, true, List, [], ◌∷◌, map, fold, length, Option, Some, None, replicate, unwrap_or, if◌then◌else◌}
 use Rattle.std.specs.List.{AllByRecursion}
 use Rattle.std.specs.Str.{bytes_eq}
 use Rattle.plan_core.specs.declared.data_type.DataType.{DataType}
@@ -82,6 +82,15 @@ table_columns names values = map (λ (a : Name). record { name = a; values = val
 -- the frame of these names, each with the values that a function gives it
 abbrev pub table : ℕ → List Name → (Name → List Value) → Frame
 table h names values = record { height = h; columns = table_columns names values }
+
+-- the columns where this one stands in the place of the first of its name, or last
+abbrev pub with_column : List Column → Column → List Column
+with_column [] c = c ∷ []
+with_column (d ∷ cs) c = if bytes_eq c.name d.name then c ∷ cs else d ∷ with_column cs c
+
+-- the columns where each of others, in order, stands in the place of the first of its name, or last
+abbrev pub with_columns : List Column → List Column → List Column
+with_columns cs others = fold with_column cs others
 
 -- the frame cut to these names, in this order
 abbrev pub cut : List Name → Frame → Frame

@@ -2,15 +2,19 @@
 use Rattle.std.specs.Prelude.{◌≡◌, ℕ, true, List, [], ◌∷◌, ◌++◌}
 use Rattle.plan_core.specs.Names.{has}
 use Rattle.plan_tree.specs.Rose.{Rose, Roses, rose, no_roses, more, size}
-use Rattle.plan_ir.specs.Plans.{Op, filter, scan, simple_projection, invalid, Plan}
+use Rattle.plan_ir.specs.Plans.{Op, slice, filter, scan, frame_scan, simple_projection, select, hstack, invalid, Plan}
 use Rattle.plan_meaning.specs.Exprs.{Name}
 use Rattle.plan_meaning.specs.Asked.{reads}
 
 -- a node, if it is a scan
 abbrev pub own_scan : Op → List Op
 own_scan (scan sources info predicate output kind options) = scan sources info predicate output kind options ∷ []
+own_scan (frame_scan df schema output) = frame_scan df schema output ∷ []
+own_scan (slice offset len) = []
 own_scan (filter predicate) = []
 own_scan (simple_projection columns) = []
+own_scan (select exprs schema options) = []
+own_scan (hstack exprs schema options) = []
 own_scan invalid = []
 
 -- the scans of a plan from left to right
@@ -22,9 +26,10 @@ abbrev mutual
   scans_in no_roses = []
   scans_in (more p rest) = scans p ++ scans_in rest
 
--- two scans are of one kind, over the same sources in the same order
+-- two scans are of one kind, over the same sources in the same order, or of the frame that is handed in under one number
 abbrev pub SameScan : Op → Op → Type 0
 SameScan (scan sources info predicate output kind options) (scan sources' info' predicate' output' kind' options') = (sources ≡ sources') × (kind ≡ kind')
+SameScan (frame_scan df schema output) (frame_scan df' schema' output') = df ≡ df'
 SameScan _ _ = ⊥
 
 -- scans stand one for one for others, and each reads only columns that the other reads

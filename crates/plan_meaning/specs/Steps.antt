@@ -1,12 +1,14 @@
 -- What a plan may give: a frame for each node, from those of its inputs.
-use Rattle.std.specs.Prelude.{◌≡◌, ℕ, List, [], ◌∷◌}
+use Rattle.std.specs.Prelude.{◌≡◌, ℕ, ℤ, pos, negsuc, ◌+ℤ◌, ◌-◌, min, Bool, true, ◌&&◌, List, [], ◌∷◌, map, if◌then◌else◌}
+use Rattle.std.specs.List.{range_with_len}
 use Rattle.plan_core.specs.Columns.{names_of}
 use Rattle.plan_tree.specs.Rose.{Roses, rose, no_roses, more}
-use Rattle.plan_ir.specs.Plans.{Op, filter, scan, simple_projection, invalid, Plan, Expr}
+use Rattle.plan_ir.specs.Plans.{Op, slice, filter, scan, frame_scan, simple_projection, select, hstack, invalid, Named, Plan, Expr}
+use Rattle.plan_meaning.specs.Exprs.{name_of, is_scalar}
 use Rattle.plan_meaning.specs.Values.{is_true}
-use Rattle.plan_meaning.specs.Frames.{Frame, rows_at, cut}
-use Rattle.plan_meaning.specs.Meaning.{Cell, val, value_at, places_from}
-use Rattle.plan_meaning.specs.Contents.{Contents, frames_of, stack}
+use Rattle.plan_meaning.specs.Frames.{Frame, Column, rows_at, with_columns, cut}
+use Rattle.plan_meaning.specs.Meaning.{Cell, val, value_at, filled, places_from}
+use Rattle.plan_meaning.specs.Contents.{Contents, frames_of, handed_in, stack}
 use Rattle.plan_meaning.specs.Typing.{file_columns, columns_or, schemas, checks, AllHold, AllValid}
 
 -- there is no input
@@ -27,11 +29,52 @@ true_rows c h = places_from (λ i. is_true (value_at c i)) 0 h
 abbrev pub filtered : Expr → Frame → Frame
 filtered e f = rows_at (true_rows (val e f) f.height) f
 
--- whether a node may give this frame from its inputs' frames: a filter the rows that are true, a scan its sources one after another, a projection its columns in their order
+-- the place at an offset, which below zero counts from the end
+abbrev pub start_of : ℤ → ℕ → ℤ
+start_of (pos n) h = pos n
+start_of (negsuc n) h = pos h +ℤ negsuc n
+
+-- a place cut to 0 and the height
+abbrev pub cut_to : ℕ → ℤ → ℕ
+cut_to h (pos n) = min n h
+cut_to h (negsuc n) = 0
+
+-- the rows from a start to so many rows after it, both cut to the height
+abbrev pub rows_between : ℕ → ℤ → ℕ → List ℕ
+rows_between h start len =
+    let first = cut_to h start in
+    range_with_len first (cut_to h (start +ℤ pos len) - first)
+
+-- the rows of a slice of so many rows
+abbrev pub slice_rows : ℤ → ℕ → ℕ → List ℕ
+slice_rows offset len h = rows_between h (start_of offset h) len
+
+-- all expressions are scalar
+abbrev pub all_scalar : List Named → Bool
+all_scalar [] = true
+all_scalar (e ∷ es) = is_scalar e.expr && all_scalar es
+
+-- the columns that expressions make over a frame, each of so many rows
+abbrev pub made_columns : ℕ → Frame → List Named → List Column
+made_columns h g es = map (λ (e : Named). record { name = name_of e.name; values = filled h (val e.expr g) }) es
+
+-- columns of a height, and those that expressions make over a frame: each in the place of the one of its name, or last
+abbrev pub made : ℕ → List Column → List Named → Frame → Frame
+made h base es g = record { height = h; columns = with_columns base (made_columns h g es) }
+
+-- what a selection makes of a frame: one row where all its expressions are scalar, else as many as the frame has
+abbrev pub selected : List Named → Frame → Frame
+selected es g = made (if all_scalar es then 1 else g.height) [] es g
+
+-- whether a node may give this frame from its inputs' frames: a slice or a filter some of the rows, a scan its sources one after another or a frame that is handed in, a projection its columns in their order, a selection what its expressions make, and an addition that beside the input's columns
 abbrev pub Step : Contents → Op → List Frame → Frame → Type 0
+Step c (slice offset len) fs f = OnOne fs (λ g. f ≡ rows_at (slice_rows offset len g.height) g)
 Step c (filter predicate) fs f = OnOne fs (λ g. f ≡ filtered predicate.expr g)
 Step c (scan sources info predicate output kind options) fs f = OnNone fs (f ≡ stack (names_of (columns_or output (file_columns info))) (frames_of c sources))
+Step c (frame_scan df schema output) fs f = OnNone fs (f ≡ cut (names_of (columns_or output schema)) (handed_in c df))
 Step c (simple_projection columns) fs f = OnOne fs (λ g. f ≡ cut (names_of columns) g)
+Step c (select exprs schema options) fs f = OnOne fs (λ g. f ≡ selected exprs g)
+Step c (hstack exprs schema options) fs f = OnOne fs (λ g. f ≡ made g.height g.columns exprs g)
 Step c invalid fs f = ⊥
 
 -- plans may give these frames, one for one: each the frame of its root, by a step from frames that its inputs may give

@@ -1,5 +1,5 @@
 -- Which plans are valid: the schema of a plan, and the checks on its nodes in the order in which faults are told.
-use Rattle.std.specs.Prelude.{◌≡◌, ℕ, suc, ◌+◌, min, Bool, true, false, not, ◌&&◌, ◌||◌, List, [], ◌∷◌, ◌++◌, map, length, Option, Some, None, is_some, if◌then◌else◌, Result, Ok, Err}
+use Rattle.std.specs.Prelude.{◌≡◌, ℕ, suc, ◌+◌, min, Bool, true, false, not, ◌&&◌, ◌||◌, List, [], ◌∷◌, ◌++◌, map, length, Option, Some, None, is_some, unwrap_or, if◌then◌else◌, Result, Ok, Err}
 use Rattle.std.specs.List.{list_any}
 use Rattle.std.specs.Str.{bytes_eq}
 use Rattle.plan_core.specs.declared.arena.Node.{Node}
@@ -8,12 +8,12 @@ use Rattle.plan_core.specs.declared.error.PolarsError.{PolarsError}
 use Rattle.plan_core.specs.declared.error.PolarsError.TheVariants.{SchemaFieldNotFound, Duplicate, SchemaMismatch, InvalidOperation, ComputeError, OutOfMemory}
 use Rattle.plan_core.specs.declared.data_type.DataType.{DataType}
 use Rattle.plan_core.specs.declared.options.FileScanOptions.{FileScanOptions}
-use Rattle.plan_core.specs.Columns.{Columns, type_of, same_columns}
+use Rattle.plan_core.specs.Columns.{Columns, type_of, with_types, same_columns}
 use Rattle.plan_core.specs.Names.{has}
 use Rattle.plan_tree.specs.Rose.{Rose, Roses, rose, no_roses, more}
 use Rattle.plan_ir.specs.declared.scan.FileInfo.{FileInfo}
-use Rattle.plan_ir.specs.Plans.{Op, filter, scan, simple_projection, invalid, Named}
-use Rattle.plan_meaning.specs.Exprs.{Name, leaves, all_known, expr_type, is_type, same_type, naming, may_be_named}
+use Rattle.plan_ir.specs.Plans.{Op, slice, filter, scan, frame_scan, simple_projection, select, hstack, invalid, Named}
+use Rattle.plan_meaning.specs.Exprs.{Name, leaves, all_known, expr_type, is_type, same_type, naming, may_be_named, name_of}
 use Rattle.plan_core.specs.declared.data_type.DataType.TheVariants as types
 
 -- Schemas
@@ -32,11 +32,23 @@ abbrev pub first_schema : List Columns → Columns
 first_schema [] = []
 first_schema (s ∷ ss) = s
 
+-- the column that an expression makes over some columns: its output name, with its type
+abbrev pub made_column : Columns → Named → Name × DataType
+made_column s e = (name_of e.name, unwrap_or (expr_type e.expr s) types.Int64)
+
+-- columns, and those that expressions make over some: each in the place of the one of its name, or last
+abbrev pub made_schema : Columns → List Named → Columns → Columns
+made_schema base es s = with_types base (map (made_column s) es)
+
 -- the columns of a node, from those of its inputs
 abbrev pub schema_by : Op → List Columns → Columns
+schema_by (slice offset len) ss = first_schema ss
 schema_by (filter predicate) ss = first_schema ss
 schema_by (scan sources info predicate output kind options) ss = columns_or output (file_columns info)
+schema_by (frame_scan df schema output) ss = columns_or output schema
 schema_by (simple_projection columns) ss = columns
+schema_by (select exprs schema options) ss = made_schema [] exprs (first_schema ss)
+schema_by (hstack exprs schema options) ss = made_schema (first_schema ss) exprs (first_schema ss)
 schema_by invalid ss = []
 
 -- the columns of plans, from left to right
@@ -147,6 +159,26 @@ scan_checks predicate output info options =
     check InvalidOperation 0 (is_built_scan predicate info options)
     ∷ scan_column_checks output options.with_columns info.schema (file_columns info)
 
+-- what a scan of a frame puts out are columns of the frame; without a number there are none
+unfoldable pub frame_checks : Option ℕ → Columns → Columns → List Check
+frame_checks df schema outs =
+    each SchemaFieldNotFound 1 (λ (c : Name × DataType). is_known schema c.0) outs
+    ++ (check SchemaMismatch 0 (is_some df || is_empty schema)
+    ∷ each SchemaMismatch 1 (is_column schema) outs)
+
+-- the names under which expressions are put out, in order
+abbrev pub out_names : List Named → List Name
+out_names es = map (λ (e : Named). name_of e.name) es
+
+-- expressions read some columns and have types there, no two have one name, the stored columns are those that they make, and each is named as it may be
+unfoldable pub made_checks : Columns → List Named → Columns → Columns → List Check
+made_checks base es stored s =
+    each SchemaFieldNotFound 1 (λ (e : Named). all_known (leaves e.expr) s) es
+    ++ (each SchemaMismatch 1 (λ (e : Named). is_some (expr_type e.expr s)) es
+    ++ (each_new 1 [] (out_names es)
+    ++ (check SchemaMismatch 0 (same_columns stored (made_schema base es s))
+    ∷ each SchemaMismatch 1 (λ (e : Named). may_be_named e.name (naming e.expr)) es)))
+
 -- the checks where a node has no inputs; else one that fails
 abbrev pub with_none : List Columns → List Check → List Check
 with_none [] cs = cs
@@ -159,9 +191,13 @@ with_one _ cs = check ComputeError 0 false ∷ []
 
 -- the checks on a node over the columns of its inputs
 abbrev pub checks : Op → List Columns → List Check
+checks (slice offset len) ss = with_one ss (λ s. [])
 checks (filter predicate) ss = with_one ss (filter_checks predicate)
 checks (scan sources info predicate output kind options) ss = with_none ss (scan_checks predicate output info options)
+checks (frame_scan df schema output) ss = with_none ss (frame_checks df schema (columns_or output []))
 checks (simple_projection columns) ss = with_one ss (projection_checks columns)
+checks (select exprs schema options) ss = with_one ss (λ s. check InvalidOperation 0 (not (is_empty exprs)) ∷ made_checks [] exprs schema s)
+checks (hstack exprs schema options) ss = with_one ss (λ s. made_checks s exprs schema s)
 checks invalid ss = check ComputeError 0 false ∷ []
 
 -- all checks hold
@@ -202,3 +238,8 @@ Says (Err (Duplicate a)) fault = fault ≡ Some (Duplicate a)
 Says (Err (SchemaMismatch a)) fault = fault ≡ Some (SchemaMismatch a)
 Says (Err (InvalidOperation a)) fault = fault ≡ Some (InvalidOperation a)
 Says (Err (ComputeError a)) fault = fault ≡ Some (ComputeError a)
+
+-- the answer is the columns that expressions make over some, beside others, or the first fault of the checks on them
+abbrev pub IsMade : Result Columns PolarsError → Node → Columns → List Named → Columns → Columns → Type 0
+IsMade (Ok t) n base es stored s = (first_fault n (made_checks base es stored s) ≡ None) × (t ≡ made_schema base es s)
+IsMade (Err e) n base es stored s = Says {A = Columns} (Err e) (first_fault n (made_checks base es stored s))

@@ -1,9 +1,9 @@
 -- Values: their types, and how two of one type stand to each other.
-use Rattle.std.specs.Prelude.{ℕ, ℤ, Bool, false, List}
+use Rattle.std.specs.Prelude.{ℕ, ℤ, Bool, true, false, List}
 use Rattle.std.specs.List.{AllByRecursion}
 use Rattle.std.specs.declared.cmp.Ordering.{Ordering}
 use Rattle.std.specs.declared.cmp.Ordering.TheVariants.{Equal}
-use Rattle.std.specs.Ordering.{int_cmp, nat_cmp, bool_cmp}
+use Rattle.std.specs.Ordering.{int_cmp, nat_cmp, bool_cmp, is_eq}
 use Rattle.std.specs.Cmp.Lexicographic.{slice_cmp}
 use Rattle.plan_core.specs.declared.data_type.DataType.{DataType}
 use Rattle.plan_core.specs.declared.data_type.DataType.TheVariants as types
@@ -33,6 +33,13 @@ value_cmp (whole a) (whole b) = int_cmp a b
 value_cmp (text a) (text b) = slice_cmp nat_cmp a b
 value_cmp (truth a) (truth b) = bool_cmp a b
 value_cmp _ _ = Equal
+
+-- whether two values of one type are the same, null being the same as null alone
+abbrev pub same_value : Value → Value → Bool
+same_value null null = true
+same_value null y = false
+same_value x null = false
+same_value x y = is_eq (value_cmp x y)
 
 -- whether a value is the truth value true
 abbrev pub is_true : Value → Bool

@@ -2,11 +2,11 @@
 ghost use Rattle.std.specs.Prelude.{◌≡◌};
 ghost use Rattle.plan_ir.specs.Parts.{IsExpr};
 ghost use Rattle.plan_ir.specs.Plans.{expr_at};
-ghost use Rattle.plan_meaning.specs.Exprs.{all_known, leaves, expr_type as type_of_expr, literal_type as type_of_literal, both_alike, naming, may_be_named as may_be};
+ghost use Rattle.plan_meaning.specs.Exprs.{all_known, leaves, expr_type as type_of_expr, literal_type as type_of_literal, takes as is_taken, gives as is_given, operator_type as type_of_operator, naming, may_be_named as may_be, name_of};
 ghost use Rattle.plan_meaning.specs.Seen.{naming_seen};
 
 use plan_core::{Arena, DataType, Node, Schema};
-use plan_ir::{AExpr, LiteralValue, OutputName};
+use plan_ir::{AExpr, LiteralValue, Operator, OutputName};
 
 /// Whether each column of the expression is one of the schema's.
 pub fn reads_only(node: Node, ex: &Arena<AExpr>, schema: &Schema) -> bool
@@ -16,6 +16,7 @@ pub fn reads_only(node: Node, ex: &Arena<AExpr>, schema: &Schema) -> bool
     match ex.get(node) {
         AExpr::Column(name) => schema.get(name.as_str()).is_some(),
         AExpr::Literal(_) => true,
+        AExpr::Alias(input, _) => reads_only(*input, ex, schema),
         AExpr::BinaryExpr { left, right, .. } => {
             reads_only(*left, ex, schema) && reads_only(*right, ex, schema)
         }
@@ -27,16 +28,66 @@ fn literal_type(value: &LiteralValue) -> DataType
     ensures { result ≡ type_of_literal value.now }
 {
     match value {
+        LiteralValue::Null(plain) => DataType::from(*plain),
         LiteralValue::Int64(_) => DataType::Int64,
+        LiteralValue::String(_) => DataType::String,
+        LiteralValue::Boolean(_) => DataType::Boolean,
     }
 }
 
-/// The type of a comparison: its two sides have one type.
-fn comparison_type(left: Option<DataType>, right: Option<DataType>) -> Option<DataType>
-    ensures { result ≡ both_alike left right }
+/// Whether an operator takes operands of these types: a comparison two of one type, logic truth values, arithmetic
+/// whole numbers.
+fn takes(op: Operator, left: DataType, right: DataType) -> bool
+    ensures { result ≡ is_taken op left right }
+{
+    match op {
+        Operator::Eq
+        | Operator::NotEq
+        | Operator::Lt
+        | Operator::LtEq
+        | Operator::Gt
+        | Operator::GtEq
+        | Operator::EqValidity
+        | Operator::NotEqValidity => left == right,
+        Operator::And | Operator::Or | Operator::Xor => {
+            left == DataType::Boolean && right == DataType::Boolean
+        }
+        Operator::Plus | Operator::Minus | Operator::Multiply => {
+            left == DataType::Int64 && right == DataType::Int64
+        }
+    }
+}
+
+/// The type of what an operator gives.
+fn gives(op: Operator) -> DataType
+    ensures { result ≡ is_given op }
+{
+    match op {
+        Operator::Plus | Operator::Minus | Operator::Multiply => DataType::Int64,
+        Operator::Eq
+        | Operator::NotEq
+        | Operator::Lt
+        | Operator::LtEq
+        | Operator::Gt
+        | Operator::GtEq
+        | Operator::EqValidity
+        | Operator::NotEqValidity
+        | Operator::And
+        | Operator::Or
+        | Operator::Xor => DataType::Boolean,
+    }
+}
+
+/// The type of an operator over two operands, where these have types that it takes.
+fn operator_type(
+    op: Operator,
+    left: Option<DataType>,
+    right: Option<DataType>,
+) -> Option<DataType>
+    ensures { result ≡ type_of_operator op left right }
 {
     match (left, right) {
-        (Some(left), Some(right)) if left == right => Some(DataType::Boolean),
+        (Some(left), Some(right)) if takes(op, left, right) => Some(gives(op)),
         _ => None,
     }
 }
@@ -49,22 +100,27 @@ pub fn expr_type(node: Node, ex: &Arena<AExpr>, schema: &Schema) -> Option<DataT
     match ex.get(node) {
         AExpr::Column(name) => schema.get(name.as_str()).copied(),
         AExpr::Literal(value) => Some(literal_type(value)),
-        AExpr::BinaryExpr { left, right, .. } => {
+        AExpr::Alias(input, _) => expr_type(*input, ex, schema),
+        AExpr::BinaryExpr { left, op, right } => {
             let left = expr_type(*left, ex, schema);
             let right = expr_type(*right, ex, schema);
-            comparison_type(left, right)
+            operator_type(*op, left, right)
         }
     }
 }
 
-/// What names an expression that has no alias.
+/// What names an expression.
 #[derive(Clone, Copy)]
 pub enum Naming<'a> {
+    /// The column of this name.
     Column(&'a str),
+    /// A literal.
     Literal,
+    /// An alias of this name.
+    Alias(&'a str),
 }
 
-/// The first column or literal of the expression, in walk order.
+/// The first column, literal or alias of the expression, in walk order.
 pub fn decided_name(node: Node, ex: &Arena<AExpr>) -> Naming<'_>
     requires { IsExpr ex.now node }
     ensures { naming_seen result ≡ naming (expr_at ex.now node) }
@@ -72,21 +128,36 @@ pub fn decided_name(node: Node, ex: &Arena<AExpr>) -> Naming<'_>
     match ex.get(node) {
         AExpr::Column(name) => Naming::Column(name.as_str()),
         AExpr::Literal(_) => Naming::Literal,
+        AExpr::Alias(_, name) => Naming::Alias(name.as_str()),
         AExpr::BinaryExpr { left, .. } => decided_name(*left, ex),
     }
 }
 
-/// Whether the expression may be put out under this name.
+/// The name under which an expression is put out; the empty text where it has none.
+pub fn output_name(name: &OutputName) -> &str
+    ensures { result.now ≡ name_of name.now }
+{
+    match name {
+        OutputName::None => "",
+        OutputName::LiteralLhs(name) | OutputName::ColumnLhs(name) | OutputName::Alias(name) => {
+            name.as_str()
+        }
+    }
+}
+
+/// Whether the expression may be put out under this name: the name that it gives itself or, where no alias in it gives
+/// one, any name as an alias.
 pub fn may_be_named(name: &OutputName, node: Node, ex: &Arena<AExpr>) -> bool
     requires { IsExpr ex.now node }
     ensures { result ≡ may_be name.now (naming (expr_at ex.now node)) }
 {
     match (name, decided_name(node, ex)) {
         (OutputName::None, _) => false,
-        (OutputName::Alias(_), _) => true,
+        (OutputName::Alias(name), Naming::Alias(alias)) => name.as_str() == alias,
+        (OutputName::Alias(_), Naming::Column(_) | Naming::Literal) => true,
         (OutputName::ColumnLhs(name), Naming::Column(column)) => name.as_str() == column,
         (OutputName::LiteralLhs(name), Naming::Literal) => name.as_str() == "literal",
-        (OutputName::ColumnLhs(_), Naming::Literal) => false,
-        (OutputName::LiteralLhs(_), Naming::Column(_)) => false,
+        (OutputName::ColumnLhs(_), Naming::Literal | Naming::Alias(_)) => false,
+        (OutputName::LiteralLhs(_), Naming::Column(_) | Naming::Alias(_)) => false,
     }
 }

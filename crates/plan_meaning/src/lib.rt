@@ -10,8 +10,8 @@ mod plan;
 mod tests;
 mod tree;
 
-pub use check::{check_filter, check_projection, check_scan};
+pub use check::{check_filter, check_frame_scan, check_made, check_projection, check_scan};
 pub use depth::{Depth, depth_of};
-pub use exprs::{Naming, decided_name, expr_type, may_be_named, reads_only};
+pub use exprs::{Naming, decided_name, expr_type, may_be_named, output_name, reads_only};
 pub use plan::{check_nodes, check_plan};
 pub use tree::check_tree;

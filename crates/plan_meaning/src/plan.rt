@@ -1,7 +1,8 @@
 //! The schema of a plan, or its first fault.
-ghost use Rattle.std.specs.Prelude.{◌≡◌, [], ◌∷◌, IfOk, None, option_map};
+ghost use Rattle.std.specs.Prelude.{◌≡◌, [], ◌∷◌, All, IfOk, None, option_map};
 ghost use Rattle.plan_ir.specs.Parts.{IsExpr, IsPlan};
-ghost use Rattle.plan_ir.specs.Plans.{filter, scan, simple_projection, named_at, plans_at};
+ghost use Rattle.plan_core.specs.declared.options.ProjectionOptions.{ProjectionOptions};
+ghost use Rattle.plan_ir.specs.Plans.{filter, scan, frame_scan, simple_projection, select, hstack, named_at, all_named_at, plans_at};
 ghost use Rattle.plan_ir.specs.declared.scan.FileScan.{FileScan};
 ghost use Rattle.plan_ir.specs.declared.scan.ScanSources.{ScanSources};
 ghost use Rattle.plan_meaning.specs.Typing.{columns_or, file_columns};
@@ -10,7 +11,7 @@ ghost use Rattle.plan_meaning.specs.Steps.{IsValid};
 ghost use Rattle.plan_meaning.specs.TreeFaults.{tree_fault};
 ghost use Rattle.plan_meaning.specs.Typed.{typed, IsNodeTyped, IsPlanTyped, IsTyped};
 
-use crate::check::{at, check_filter, check_projection, check_scan};
+use crate::check::{at, check_filter, check_frame_scan, check_made, check_projection, check_scan};
 use crate::tree::check_tree;
 use plan_core::{Arena, FileScanOptions, Node, PolarsError, PolarsResult, Schema, TryClone};
 use plan_ir::{AExpr, ExprIR, FileInfo, IR};
@@ -76,12 +77,65 @@ fn scan_typed(
     Ok(scan_schema(alloc, output, info)?)
 }
 
+/// The columns of a scan of a frame that is handed in, or its first fault.
+fn frame_scan_schema(
+    alloc: Global,
+    node: Node,
+    df: Option<u32>,
+    schema: &Schema,
+    output: &Option<Schema>,
+) -> PolarsResult<Schema>
+    ensures { IsNodeTyped result node (frame_scan df schema.now output.now) [] }
+{
+    check_frame_scan(node, df, schema, output)?;
+    match output {
+        Some(output) => Ok(output.try_clone(alloc)?),
+        None => Ok(schema.try_clone(alloc)?),
+    }
+}
+
+/// The columns of a selection over those of its input, or its first fault.
+fn select_schema(
+    alloc: Global,
+    node: Node,
+    exprs: &[ExprIR],
+    stored: &Schema,
+    ex: &Arena<AExpr>,
+    schema: Schema,
+) -> PolarsResult<Schema>
+    requires { All (λ e. IsExpr ex.now e.node) exprs.now }
+    ensures { (options : ProjectionOptions) → IsNodeTyped result node (select (all_named_at ex.now exprs.now) stored.now options) (schema ∷ []) }
+{
+    if exprs.is_empty() {
+        return Err(PolarsError::InvalidOperation(at(node, 0)));
+    }
+    let base = Schema::new(alloc);
+    check_made(alloc, node, base, exprs, stored, ex, &schema)
+}
+
+/// The columns of an addition of columns over those of its input, or its first fault.
+fn hstack_schema(
+    alloc: Global,
+    node: Node,
+    exprs: &[ExprIR],
+    stored: &Schema,
+    ex: &Arena<AExpr>,
+    schema: Schema,
+) -> PolarsResult<Schema>
+    requires { All (λ e. IsExpr ex.now e.node) exprs.now }
+    ensures { (options : ProjectionOptions) → IsNodeTyped result node (hstack (all_named_at ex.now exprs.now) stored.now options) (schema ∷ []) }
+{
+    let base = schema.try_clone(alloc)?;
+    check_made(alloc, node, base, exprs, stored, ex, &schema)
+}
+
 /// The columns of the plan at a number, or the first fault among its nodes, inputs before the node.
 fn schema_of(alloc: Global, node: Node, lp: &Arena<IR>, ex: &Arena<AExpr>) -> PolarsResult<Schema>
     requires { IsPlan lp.now ex.now node }
     ensures { IsPlanTyped result (plans_at lp.now ex.now (node ∷ [])) }
 {
     match lp.get(node) {
+        IR::Slice { input, .. } => Ok(schema_of(alloc, *input, lp, ex)?),
         IR::Filter { input, predicate } => {
             let schema = schema_of(alloc, *input, lp, ex)?;
             filter_schema(node, predicate, ex, schema)
@@ -101,9 +155,32 @@ fn schema_of(alloc: Global, node: Node, lp: &Arena<IR>, ex: &Arena<AExpr>) -> Po
             file_options,
             ex,
         ),
+        IR::DataFrameScan {
+            df,
+            schema,
+            output_schema,
+        } => frame_scan_schema(alloc, node, *df, schema, output_schema),
         IR::SimpleProjection { input, columns } => {
             let schema = schema_of(alloc, *input, lp, ex)?;
             projection_schema(alloc, node, columns, schema)
+        }
+        IR::Select {
+            input,
+            expr,
+            schema: stored,
+            ..
+        } => {
+            let schema = schema_of(alloc, *input, lp, ex)?;
+            select_schema(alloc, node, expr.as_slice(), stored, ex, schema)
+        }
+        IR::HStack {
+            input,
+            exprs,
+            schema: stored,
+            ..
+        } => {
+            let schema = schema_of(alloc, *input, lp, ex)?;
+            hstack_schema(alloc, node, exprs.as_slice(), stored, ex, schema)
         }
         IR::Invalid => Err(PolarsError::ComputeError(at(node, 0))),
     }

@@ -1,0 +1,128 @@
+//! The columns that expressions make, in a selection or beside the columns of the input: the expressions read columns of
+//! the input and have types there, no two have one name, the stored columns are those that they make, and each is named
+//! as it may be.
+ghost use Rattle.std.specs.Prelude.{◌≡◌, ◌∷◌, [], All, map, unwrap_or, is_some, IfOk};
+ghost use Rattle.plan_core.specs.declared.data_type.DataType.TheVariants.{Int64};
+ghost use Rattle.plan_core.specs.declared.error.PolarsError.TheVariants.{SchemaFieldNotFound, SchemaMismatch};
+ghost use Rattle.plan_ir.specs.Parts.{IsExpr};
+ghost use Rattle.plan_ir.specs.Plans.{all_named_at};
+ghost use Rattle.plan_meaning.specs.Exprs.{all_known, leaves, expr_type as type_of_expr, naming, may_be_named as may_be};
+ghost use Rattle.plan_meaning.specs.Typing.{check, each, each_new, out_names, made_checks, made_schema as schema_made, first_fault, Says, IsMade};
+
+use crate::check::place::at;
+use crate::exprs::{expr_type, may_be_named, output_name, reads_only};
+use plan_core::{Arena, DataType, Names, Node, PlSmallStr, PolarsError, PolarsResult, Schema};
+use plan_ir::{AExpr, ExprIR};
+use std::alloc::{AllocError, Global};
+
+/// Each expression reads columns of the schema; the first expression stands at place 1.
+fn check_leaves(
+    node: Node,
+    exprs: &[ExprIR],
+    ex: &Arena<AExpr>,
+    schema: &Schema,
+) -> PolarsResult<()>
+    requires { All (λ e. IsExpr ex.now e.node) exprs.now }
+    ensures { Says result (first_fault node (each SchemaFieldNotFound 1 (λ e. all_known (leaves e.expr) schema.now) (all_named_at ex.now exprs.now))) }
+{
+    for (i, expr) in exprs.iter().enumerate() {
+        if !reads_only(expr.node, ex, schema) {
+            return Err(PolarsError::SchemaFieldNotFound(at(node, 1 + i)));
+        }
+    }
+    Ok(())
+}
+
+/// Each expression has a type; the first expression stands at place 1.
+fn check_types(
+    node: Node,
+    exprs: &[ExprIR],
+    ex: &Arena<AExpr>,
+    schema: &Schema,
+) -> PolarsResult<()>
+    requires { All (λ e. IsExpr ex.now e.node) exprs.now }
+    ensures { Says result (first_fault node (each SchemaMismatch 1 (λ e. is_some (type_of_expr e.expr schema.now)) (all_named_at ex.now exprs.now))) }
+{
+    for (i, expr) in exprs.iter().enumerate() {
+        if expr_type(expr.node, ex, schema).is_none() {
+            return Err(PolarsError::SchemaMismatch(at(node, 1 + i)));
+        }
+    }
+    Ok(())
+}
+
+/// No expression has the name of one before it; the first expression stands at place 1.
+fn check_outputs(
+    alloc: Global,
+    node: Node,
+    exprs: &[ExprIR],
+    ex: &Arena<AExpr>,
+) -> PolarsResult<()>
+    ensures { Says result (first_fault node (each_new 1 [] (out_names (all_named_at ex.now exprs.now)))) }
+{
+    let mut before = Names::new(alloc);
+    for (i, expr) in exprs.iter().enumerate() {
+        if !before.add(output_name(&expr.output_name))? {
+            return Err(PolarsError::Duplicate(at(node, 1 + i)));
+        }
+    }
+    Ok(())
+}
+
+/// Each expression is named as it may be; the first expression stands at place 1.
+fn check_namings(node: Node, exprs: &[ExprIR], ex: &Arena<AExpr>) -> PolarsResult<()>
+    requires { All (λ e. IsExpr ex.now e.node) exprs.now }
+    ensures { Says result (first_fault node (each SchemaMismatch 1 (λ e. may_be e.name (naming e.expr)) (all_named_at ex.now exprs.now))) }
+{
+    for (i, expr) in exprs.iter().enumerate() {
+        if !may_be_named(&expr.output_name, expr.node, ex) {
+            return Err(PolarsError::SchemaMismatch(at(node, 1 + i)));
+        }
+    }
+    Ok(())
+}
+
+/// The columns, and those that the expressions make over the schema: each in the place of the one of its name, or last.
+fn made_schema(
+    alloc: Global,
+    base: Schema,
+    exprs: &[ExprIR],
+    ex: &Arena<AExpr>,
+    schema: &Schema,
+) -> Result<Schema, AllocError>
+    requires { All (λ e. IsExpr ex.now e.node) exprs.now }
+    ensures { IfOk result (λ made. made ≡ schema_made base (all_named_at ex.now exprs.now) schema.now) }
+{
+    let mut made = base;
+    for expr in exprs {
+        let name = PlSmallStr::new(alloc, output_name(&expr.output_name))?;
+        let dtype = expr_type(expr.node, ex, schema).unwrap_or(DataType::Int64);
+        let _ = made.with_column(name, dtype)?;
+    }
+    Ok(made)
+}
+
+/// Checks the expressions of a node over the columns of its input, and gives the columns of the node.
+#[tactic(auto, using(crate::proofs::CheckLemmas::fault_append, crate::proofs::CheckLemmas::fault_first), unfolding(crate::specs::Typing::made_checks))]
+pub fn check_made(
+    alloc: Global,
+    node: Node,
+    base: Schema,
+    exprs: &[ExprIR],
+    stored: &Schema,
+    ex: &Arena<AExpr>,
+    schema: &Schema,
+) -> PolarsResult<Schema>
+    requires { All (λ e. IsExpr ex.now e.node) exprs.now }
+    ensures { IsMade result node base (all_named_at ex.now exprs.now) stored.now schema.now }
+{
+    check_leaves(node, exprs, ex, schema)?;
+    check_types(node, exprs, ex, schema)?;
+    check_outputs(alloc, node, exprs, ex)?;
+    let made = made_schema(alloc, base, exprs, ex, schema)?;
+    if *stored != made {
+        return Err(PolarsError::SchemaMismatch(at(node, 0)));
+    }
+    check_namings(node, exprs, ex)?;
+    Ok(made)
+}
