@@ -16,17 +16,17 @@ use Rattle.plan_tree.specs.Walk.{nodes_of, steps_to}
 use Rattle.plan_ir.specs.declared.copy.Listed.{Listed}
 use Rattle.plan_ir.specs.declared.copy.PlanCopy.{PlanCopy}
 use Rattle.plan_ir.specs.declared.expr.AExpr.{AExpr}
-use Rattle.plan_ir.specs.declared.expr.AExpr.TheVariants.{Column, Literal, BinaryExpr}
+use Rattle.plan_ir.specs.declared.expr.AExpr.TheVariants.{Column, Literal, Alias, BinaryExpr}
 use Rattle.plan_ir.specs.declared.expr.ExprIR.{ExprIR}
 use Rattle.plan_ir.specs.declared.ir.IR.{IR}
-use Rattle.plan_ir.specs.declared.ir.IR.TheVariants.{Filter, Scan, SimpleProjection, Invalid}
+use Rattle.plan_ir.specs.declared.ir.IR.TheVariants.{Slice, Filter, Scan, DataFrameScan, SimpleProjection, Select, HStack, Invalid}
 use Rattle.plan_ir.specs.Copies.{IsRenumbered, Lists}
 use Rattle.plan_ir.specs.Moved.{entries_at, moved_expr, moved_named, moved_node, new_number}
 use Rattle.plan_ir.specs.Parts.{expr_shape, plan_shape, operands_of, inputs_of, is_invalid, roots_of, roots_in, StandsPlan, IsPlan}
-use Rattle.plan_ir.specs.Plans.{Expr, Named, Op, filter, scan, expr_op, expr_at, exprs_at, named_at, op_at, plans_of, bare}
+use Rattle.plan_ir.specs.Plans.{Expr, Named, Op, filter, scan, select, hstack, all_named_at, expr_op, expr_at, exprs_at, named_at, op_at, plans_of, bare}
 use Rattle.plan_ir.proofs.EntryLemmas.{entries_at-labels}
 use Rattle.plan_ir.proofs.ExprLemmas.{exprs_at-is}
-use Rattle.plan_ir.proofs.MovedLemmas.{labels-map_roses, StandsOnce-moved}
+use Rattle.plan_ir.proofs.MovedLemmas.{labels-map_roses, map_twice, StandsOnce-moved}
 
 all_append : {A : Type 0} (P : A → Type 0) (xs ys : List A) → AllByRecursion P xs → AllByRecursion P ys → AllByRecursion P (xs ++ ys)
 all_append P [] ys a b = b
@@ -78,31 +78,48 @@ module _ (table : List Node) where
   pub operands-moved : (e : AExpr) → operands_of (moved_expr table e) ≡ map (new_number table) (operands_of e)
   operands-moved (Column name) = refl
   operands-moved (Literal value) = refl
+  operands-moved (Alias input name) = refl
   operands-moved (BinaryExpr left op right) = refl
 
   op-moved : (e : AExpr) → expr_op (moved_expr table e) ≡ expr_op e
   op-moved (Column name) = refl
   op-moved (Literal value) = refl
+  op-moved (Alias input name) = refl
   op-moved (BinaryExpr left op right) = refl
 
 module _ (nodes exprs : List Node) where
   pub inputs-moved : (p : IR) → inputs_of (moved_node nodes exprs p) ≡ map (new_number nodes) (inputs_of p)
+  inputs-moved (Slice input offset len) = refl
   inputs-moved (Filter input predicate) = refl
   inputs-moved (Scan sources file_info predicate output_schema scan_type file_options) = refl
+  inputs-moved (DataFrameScan df schema output_schema) = refl
   inputs-moved (SimpleProjection input columns) = refl
+  inputs-moved (Select input expr schema options) = refl
+  inputs-moved (HStack input own schema options) = refl
   inputs-moved Invalid = refl
 
   pub invalid-moved : (p : IR) → is_invalid (moved_node nodes exprs p) ≡ is_invalid p
+  invalid-moved (Slice input offset len) = refl
   invalid-moved (Filter input predicate) = refl
   invalid-moved (Scan sources file_info predicate output_schema scan_type file_options) = refl
+  invalid-moved (DataFrameScan df schema output_schema) = refl
   invalid-moved (SimpleProjection input columns) = refl
+  invalid-moved (Select input expr schema options) = refl
+  invalid-moved (HStack input own schema options) = refl
   invalid-moved Invalid = refl
 
+  nodes-moved : (es : List ExprIR) → map (λ (e : ExprIR). e.node) (map (moved_named exprs) es) ≡ map (new_number exprs) (map (λ (e : ExprIR). e.node) es)
+  nodes-moved es = sym (map_twice (λ (e : ExprIR). e.node) (moved_named exprs) es) ∙ map_twice (new_number exprs) (λ (e : ExprIR). e.node) es
+
   roots-moved : (p : IR) → roots_of (moved_node nodes exprs p) ≡ map (new_number exprs) (roots_of p)
+  roots-moved (Slice input offset len) = refl
   roots-moved (Filter input predicate) = refl
   roots-moved (Scan sources file_info None output_schema scan_type file_options) = refl
   roots-moved (Scan sources file_info (Some predicate) output_schema scan_type file_options) = refl
+  roots-moved (DataFrameScan df schema output_schema) = refl
   roots-moved (SimpleProjection input columns) = refl
+  roots-moved (Select input expr schema options) = nodes-moved expr
+  roots-moved (HStack input own schema options) = nodes-moved own
   roots-moved Invalid = refl
 
   roots_in-moved : (t : Trees IR) → roots_in (map_roses (new_number nodes) (moved_node nodes exprs) t) ≡ map (new_number exprs) (roots_in t)
@@ -123,11 +140,19 @@ module _ (ex ex' : List AExpr) (nodes exprs : List Node) where
   named-moved : (e : ExprIR) → Same e.node → named_at ex' (moved_named exprs e) ≡ named_at ex e
   named-moved e same = ap (λ (x : Expr). let n : Named = record { name = e.output_name; expr = x } in n) same
 
+  all-moved : (es : List ExprIR) → AllByRecursion Same (map (λ (e : ExprIR). e.node) es) → all_named_at ex' (map (moved_named exprs) es) ≡ all_named_at ex es
+  all-moved [] same = refl
+  all-moved (e ∷ es) same = ap₂ (λ (n : Named) (ns : List Named). n ∷ ns) (named-moved e same.0) (all-moved es same.1)
+
   op_at-moved : (p : IR) → AllByRecursion Same (roots_of p) → op_at ex' (moved_node nodes exprs p) ≡ op_at ex p
+  op_at-moved (Slice input offset len) same = refl
   op_at-moved (Filter input predicate) same = ap filter (named-moved predicate same.0)
   op_at-moved (Scan sources file_info None output_schema scan_type file_options) same = refl
   op_at-moved (Scan sources file_info (Some predicate) output_schema scan_type file_options) same = ap (λ (n : Named). scan sources file_info (Some n) output_schema scan_type file_options) (named-moved predicate same.0)
+  op_at-moved (DataFrameScan df schema output_schema) same = refl
   op_at-moved (SimpleProjection input columns) same = refl
+  op_at-moved (Select input expr schema options) same = ap (λ (ns : List Named). select ns schema options) (all-moved expr same)
+  op_at-moved (HStack input own schema options) same = ap (λ (ns : List Named). hstack ns schema options) (all-moved own same)
   op_at-moved Invalid same = refl
 
   bare-moved : (t : Trees IR) → AllByRecursion Same (roots_in t) → bare (plans_of ex' (map_roses (new_number nodes) (moved_node nodes exprs) t)) ≡ bare (plans_of ex t)

@@ -90,3 +90,8 @@ module _ {P : Type 0} (S : Shape P) (table : List Node) (g : P → P) (inputs : 
             let u : Some m ≡ Some n = sym (place m a) ∙ ap (slice_get (labels f)) e ∙ place n b in
             cc);
       }
+
+-- one function after another
+pub map_twice : {A B C : Type 0} (f : B → C) (g : A → B) (xs : List A) → map (λ x. f (g x)) xs ≡ map f (map g xs)
+map_twice f g [] = refl
+map_twice f g (x ∷ xs) = ap (λ l. f (g x) ∷ l) (map_twice f g xs)

@@ -1,5 +1,5 @@
 -- Checks made one after another.
-use Rattle.std.proofs.Common.{◌≡◌, ℕ, zero, suc, ◌+◌, ◌<◌, ◌≤◌, ◌^◌, ◌-◌, min, Bool, true, false, not, List, [], ◌∷◌, ◌++◌, length, take, drop, Option, Some, None, refl, sym, ap, ◌∙◌, arith, add-one, add-zero, if◌then◌else◌}
+use Rattle.std.proofs.Common.{◌≡◌, ℕ, zero, suc, ◌+◌, ◌<◌, ◌≤◌, ◌^◌, ◌-◌, min, Bool, true, false, not, List, [], ◌∷◌, ◌++◌, length, map, take, drop, Option, Some, None, refl, sym, ap, ◌∙◌, arith, add-one, add-zero, if◌then◌else◌}
 use Rattle.std.specs.List.{slice_get}
 use Rattle.plan_core.specs.declared.arena.Node.{Node}
 use Rattle.plan_core.specs.declared.error.At.{At}
@@ -57,6 +57,11 @@ fault_append n (c ∷ cs) ds = go c.holds (fault_append n cs ds)
     go : (b : Bool) → first_fault n (cs ++ ds) ≡ or_fault (first_fault n cs) (first_fault n ds) → (if b then first_fault n (cs ++ ds) else Some (c.fault (at n c.place))) ≡ or_fault (if b then first_fault n cs else Some (c.fault (at n c.place))) (first_fault n ds)
     go true e = e
     go false e = refl
+
+-- checks on what a function gives for items are checks on the items
+pub each-map : {A B : Type 0} (fault : At → PolarsError) (k : ℕ) (holds : B → Bool) (f : A → B) (xs : List A) → each fault k (λ x. holds (f x)) xs ≡ each fault k holds (map f xs)
+each-map fault k holds f [] = refl
+each-map fault k holds f (x ∷ xs) = ap (λ (cs : List Check). check fault k (holds (f x)) ∷ cs) (each-map fault (suc k) holds f xs)
 
 -- a place that isn't past the end has an item
 pub past : {A : Type 0} (xs : List A) (i : ℕ) → slice_get xs i ≡ None → i < length xs → ⊥

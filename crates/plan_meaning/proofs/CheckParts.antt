@@ -12,7 +12,7 @@ use Rattle.plan_ir.specs.declared.scan.FileInfo.{FileInfo}
 use Rattle.plan_ir.specs.Plans.{Named}
 use Rattle.plan_core.specs.declared.data_type.DataType.{DataType}
 use Rattle.plan_meaning.specs.Exprs.{Name, leaves, all_known, expr_type, naming, may_be_named}
-use Rattle.plan_meaning.specs.Typing.{Check, check, each, each_new, names_or, columns_or, file_columns, put_out_checks, scan_name_checks, is_built_scan, scan_column_checks, scan_checks, frame_checks, is_known, is_column, is_empty, made_schema, made_checks, out_names, AllHold}
+use Rattle.plan_meaning.specs.Typing.{Check, check, each, each_new, names_or, columns_or, file_columns, put_out_checks, scan_name_checks, is_built_scan, scan_column_checks, scan_checks, frame_checks, is_known, is_column, is_empty, number_checks, made_schema, leaf_checks, type_checks, once_checks, stored_checks, naming_checks, made_checks, out_names, AllHold}
 use Rattle.plan_meaning.proofs.NameSets.{has_cons, has_first, has_later}
 
 pub hold_front : (xs ys : List Check) → AllHold (xs ++ ys) → AllHold xs
@@ -63,24 +63,24 @@ pub record ScanGood (predicate : Option Named) (output : Option Columns) (info :
   pub stored : same_columns info.schema (file_columns info) ≡ true
 
 pub scan_good : (predicate : Option Named) (output : Option Columns) (info : FileInfo) (options : FileScanOptions) → AllHold (scan_checks predicate output info options) → ScanGood predicate output info options
-unfolding scan_column_checks
+unfolding scan_column_checks stored_checks
 scan_good predicate output info options h =
     let a = scan_name_checks (columns_or output []) (names_or options.with_columns []) (file_columns info) in
     let b = put_out_checks output options.with_columns (file_columns info) in
     let c = each_new (suc (length (columns_or output []))) [] (names_or options.with_columns []) in
-    let d = check SchemaMismatch 0 (same_columns info.schema (file_columns info)) ∷ [] in
+    let d = stored_checks info.schema (file_columns info) in
     let bcd = hold_back a (b ++ (c ++ d)) h.1 in
     let cd = hold_back b (c ++ d) bcd in
     let last = hold_back c d cd in
     record { built = h.0; known = hold_front a (b ++ (c ++ d)) h.1; put_out = hold_front b (c ++ d) bcd; once = hold_front c d cd; stored = last.0 }
 
 pub good_scan : (predicate : Option Named) (output : Option Columns) (info : FileInfo) (options : FileScanOptions) → ScanGood predicate output info options → AllHold (scan_checks predicate output info options)
-unfolding scan_column_checks
+unfolding scan_column_checks stored_checks
 good_scan predicate output info options g =
     let a = scan_name_checks (columns_or output []) (names_or options.with_columns []) (file_columns info) in
     let b = put_out_checks output options.with_columns (file_columns info) in
     let c = each_new (suc (length (columns_or output []))) [] (names_or options.with_columns []) in
-    let d = check SchemaMismatch 0 (same_columns info.schema (file_columns info)) ∷ [] in
+    let d = stored_checks info.schema (file_columns info) in
     (g.built, hold_join a (b ++ (c ++ d)) g.known (hold_join b (c ++ d) g.put_out (hold_join c d g.once (g.stored, tt))))
 
 -- scans of frames
@@ -92,25 +92,25 @@ pub record FrameGood (df : Option ℕ) (schema outs : Columns) : Type 0 where
   pub typed : AllByRecursion (λ (c : Name × DataType). is_column schema c ≡ true) outs
 
 pub frame_good : (df : Option ℕ) (schema outs : Columns) → AllHold (frame_checks df schema outs) → FrameGood df schema outs
-unfolding frame_checks
+unfolding frame_checks number_checks
 frame_good df schema outs h =
     let a = each SchemaFieldNotFound 1 (λ (c : Name × DataType). is_known schema c.0) outs in
     let b = each SchemaMismatch 1 (is_column schema) outs in
-    let n = check SchemaMismatch 0 (is_some df || is_empty schema) in
-    let rest = hold_back a (n ∷ b) h in
+    let n = number_checks df schema in
+    let rest = hold_back a (n ++ b) h in
     record {
-      known = each_pass SchemaFieldNotFound 1 (λ (c : Name × DataType). is_known schema c.0) outs (hold_front a (n ∷ b) h);
+      known = each_pass SchemaFieldNotFound 1 (λ (c : Name × DataType). is_known schema c.0) outs (hold_front a (n ++ b) h);
       number = rest.0;
       typed = each_pass SchemaMismatch 1 (is_column schema) outs rest.1;
     }
 
 pub good_frame : (df : Option ℕ) (schema outs : Columns) → FrameGood df schema outs → AllHold (frame_checks df schema outs)
-unfolding frame_checks
+unfolding frame_checks number_checks
 good_frame df schema outs g =
     let a = each SchemaFieldNotFound 1 (λ (c : Name × DataType). is_known schema c.0) outs in
     let b = each SchemaMismatch 1 (is_column schema) outs in
-    let n = check SchemaMismatch 0 (is_some df || is_empty schema) in
-    hold_join a (n ∷ b) (pass_each SchemaFieldNotFound 1 (λ (c : Name × DataType). is_known schema c.0) outs g.known) (g.number, pass_each SchemaMismatch 1 (is_column schema) outs g.typed)
+    let n = number_checks df schema in
+    hold_join a (n ++ b) (pass_each SchemaFieldNotFound 1 (λ (c : Name × DataType). is_known schema c.0) outs g.known) (g.number, pass_each SchemaMismatch 1 (is_column schema) outs g.typed)
 
 -- columns that expressions make
 
@@ -119,24 +119,24 @@ pub record MadeGood (base : Columns) (es : List Named) (stored s : Columns) : Ty
   pub known : AllByRecursion (λ (e : Named). all_known (leaves e.expr) s ≡ true) es
   pub typed : AllByRecursion (λ (e : Named). is_some (expr_type e.expr s) ≡ true) es
   pub once : AllHold (each_new 1 [] (out_names es))
-  pub stored : same_columns stored (made_schema base es s) ≡ true
+  pub same : same_columns stored (made_schema base es s) ≡ true
   pub named : AllByRecursion (λ (e : Named). may_be_named e.name (naming e.expr) ≡ true) es
 
 pub made_good : (base : Columns) (es : List Named) (stored s : Columns) → AllHold (made_checks base es stored s) → MadeGood base es stored s
-unfolding made_checks
+unfolding made_checks leaf_checks type_checks once_checks stored_checks naming_checks
 made_good base es stored s h =
-    let a = each SchemaFieldNotFound 1 (λ (e : Named). all_known (leaves e.expr) s) es in
-    let b = each SchemaMismatch 1 (λ (e : Named). is_some (expr_type e.expr s)) es in
-    let c = each_new 1 [] (out_names es) in
-    let d = each SchemaMismatch 1 (λ (e : Named). may_be_named e.name (naming e.expr)) es in
-    let n = check SchemaMismatch 0 (same_columns stored (made_schema base es s)) in
-    let bcd = hold_back a (b ++ (c ++ (n ∷ d))) h in
-    let cd = hold_back b (c ++ (n ∷ d)) bcd in
-    let last = hold_back c (n ∷ d) cd in
+    let a = leaf_checks es s in
+    let b = type_checks es s in
+    let c = once_checks es in
+    let d = naming_checks es in
+    let n = stored_checks stored (made_schema base es s) in
+    let bcd = hold_back a (b ++ (c ++ (n ++ d))) h in
+    let cd = hold_back b (c ++ (n ++ d)) bcd in
+    let last = hold_back c (n ++ d) cd in
     record {
-      known = each_pass SchemaFieldNotFound 1 (λ (e : Named). all_known (leaves e.expr) s) es (hold_front a (b ++ (c ++ (n ∷ d))) h);
-      typed = each_pass SchemaMismatch 1 (λ (e : Named). is_some (expr_type e.expr s)) es (hold_front b (c ++ (n ∷ d)) bcd);
-      once = hold_front c (n ∷ d) cd;
-      stored = last.0;
+      known = each_pass SchemaFieldNotFound 1 (λ (e : Named). all_known (leaves e.expr) s) es (hold_front a (b ++ (c ++ (n ++ d))) h);
+      typed = each_pass SchemaMismatch 1 (λ (e : Named). is_some (expr_type e.expr s)) es (hold_front b (c ++ (n ++ d)) bcd);
+      once = hold_front c (n ++ d) cd;
+      same = last.0;
       named = each_pass SchemaMismatch 1 (λ (e : Named). may_be_named e.name (naming e.expr)) es last.1;
     }

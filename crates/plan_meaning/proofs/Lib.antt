@@ -1,5 +1,6 @@
 mod ExprSteps
 mod CheckLemmas
+mod MadeLemmas
 mod ReadLemmas
 mod TreeFaultLemmas
 mod TypedLemmas

@@ -1,6 +1,8 @@
 -- The values of an expression that has a type are of this type, and as many as the frame has rows.
 use Rattle.std.proofs.Common.{◌≡◌, ℕ, ℤ, suc, Bool, true, false, cond, not, ◌&&◌, List, [], ◌∷◌, map, length, Option, Some, None, refl, sym, ap, ◌∙◌, subst, arith}
-use Rattle.plan_core.specs.Columns.{Columns}
+use Rattle.std.specs.Ordering.{is_eq, is_ne, is_lt, is_le, is_gt, is_ge}
+use Rattle.std.specs.Int.{w64, int_wrapping_add, int_wrapping_sub, int_wrapping_mul}
+use Rattle.plan_core.specs.Columns.{Columns, plain}
 use Rattle.plan_core.specs.declared.data_type.DataType.{DataType}
 use Rattle.plan_core.specs.declared.data_type.DataType.TheVariants as types
 use Rattle.std.specs.declared.cmp.Ordering.{Ordering}
@@ -107,20 +109,20 @@ reckoned_of f (truth a) y = tt
 
 -- an operator gives values of its type, whatever its sides are
 operated_of : (o : Operator) (x y : Value) → IsOf (gives o) (operated o x y)
-operated_of Eq x y = compared_of _ x y
-operated_of NotEq x y = compared_of _ x y
-operated_of Lt x y = compared_of _ x y
-operated_of LtEq x y = compared_of _ x y
-operated_of Gt x y = compared_of _ x y
-operated_of GtEq x y = compared_of _ x y
+operated_of Eq x y = compared_of is_eq x y
+operated_of NotEq x y = compared_of is_ne x y
+operated_of Lt x y = compared_of is_lt x y
+operated_of LtEq x y = compared_of is_le x y
+operated_of Gt x y = compared_of is_gt x y
+operated_of GtEq x y = compared_of is_ge x y
 operated_of EqValidity x y = tt
 operated_of NotEqValidity x y = tt
 operated_of And x y = both_of x y
 operated_of Or x y = one_of_two x y
 operated_of Xor x y = differ_of x y
-operated_of Plus x y = reckoned_of _ x y
-operated_of Minus x y = reckoned_of _ x y
-operated_of Multiply x y = reckoned_of _ x y
+operated_of Plus x y = reckoned_of (int_wrapping_add w64) x y
+operated_of Minus x y = reckoned_of (int_wrapping_sub w64) x y
+operated_of Multiply x y = reckoned_of (int_wrapping_mul w64) x y
 
 module _ (t : DataType) (f : Value → Value → Value) (by : (x y : Value) → IsOf t (f x y)) where
   map_of : (g : Value → Value) → ((x : Value) → IsOf t (g x)) → (xs : List Value) → AllOf t (map g xs)
@@ -145,7 +147,7 @@ module _ (t : DataType) (f : Value → Value → Value) (by : (x y : Value) → 
   spread_has i j h (many xs) (many ys) a b = (length-zip_by xs ys (a.0 ∙ sym b.0) ∙ a.0, zip_of xs ys)
 
 literal_of : (v : LiteralValue) → IsOf (literal_type v) (literal_value v)
-literal_of (Null t) = null_of _
+literal_of (Null t) = null_of (plain t)
 literal_of (Int64 n) = tt
 literal_of (String s) = tt
 literal_of (Boolean b) = tt

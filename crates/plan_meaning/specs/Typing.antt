@@ -129,6 +129,10 @@ abbrev pub all_read : Option (List Name) → Columns → Bool
 all_read reads [] = true
 all_read reads (c ∷ cs) = has_columns reads c.0 && all_read reads cs
 
+-- the stored columns are those that are computed
+unfoldable pub stored_checks : Columns → Columns → List Check
+stored_checks stored computed = check SchemaMismatch 0 (same_columns stored computed) ∷ []
+
 -- what a scan puts out has the files' types and is read; a scan that puts out everything reads everything
 unfoldable pub put_out_checks : Option Columns → Option (List Name) → Columns → List Check
 put_out_checks None reads file = check SchemaMismatch 0 (all_read reads file) ∷ []
@@ -151,7 +155,7 @@ scan_column_checks output reads stored file =
     scan_name_checks (columns_or output []) (names_or reads []) file
     ++ (put_out_checks output reads file
     ++ (each_new (suc (length (columns_or output []))) [] (names_or reads [])
-    ++ check SchemaMismatch 0 (same_columns stored file) ∷ []))
+    ++ stored_checks stored file))
 
 -- a scan has a form that is built, and its columns are as they must be
 abbrev pub scan_checks : Option Named → Option Columns → FileInfo → FileScanOptions → List Check
@@ -159,25 +163,45 @@ scan_checks predicate output info options =
     check InvalidOperation 0 (is_built_scan predicate info options)
     ∷ scan_column_checks output options.with_columns info.schema (file_columns info)
 
+-- without a number a frame has no columns
+unfoldable pub number_checks : Option ℕ → Columns → List Check
+number_checks df schema = check SchemaMismatch 0 (is_some df || is_empty schema) ∷ []
+
 -- what a scan of a frame puts out are columns of the frame; without a number there are none
 unfoldable pub frame_checks : Option ℕ → Columns → Columns → List Check
 frame_checks df schema outs =
     each SchemaFieldNotFound 1 (λ (c : Name × DataType). is_known schema c.0) outs
-    ++ (check SchemaMismatch 0 (is_some df || is_empty schema)
-    ∷ each SchemaMismatch 1 (is_column schema) outs)
+    ++ (number_checks df schema
+    ++ each SchemaMismatch 1 (is_column schema) outs)
 
 -- the names under which expressions are put out, in order
 abbrev pub out_names : List Named → List Name
 out_names es = map (λ (e : Named). name_of e.name) es
 
--- expressions read some columns and have types there, no two have one name, the stored columns are those that they make, and each is named as it may be
+-- each expression reads columns that there are
+unfoldable pub leaf_checks : List Named → Columns → List Check
+leaf_checks es s = each SchemaFieldNotFound 1 (λ (e : Named). all_known (leaves e.expr) s) es
+
+-- each expression has a type
+unfoldable pub type_checks : List Named → Columns → List Check
+type_checks es s = each SchemaMismatch 1 (λ (e : Named). is_some (expr_type e.expr s)) es
+
+-- no two expressions are put out under one name
+unfoldable pub once_checks : List Named → List Check
+once_checks es = each_new 1 [] (out_names es)
+
+-- each expression is named as it may be
+unfoldable pub naming_checks : List Named → List Check
+naming_checks es = each SchemaMismatch 1 (λ (e : Named). may_be_named e.name (naming e.expr)) es
+
+-- expressions read some columns and have types there, no two have one name, the stored columns are those that they make beside others, and each is named as it may be
 unfoldable pub made_checks : Columns → List Named → Columns → Columns → List Check
 made_checks base es stored s =
-    each SchemaFieldNotFound 1 (λ (e : Named). all_known (leaves e.expr) s) es
-    ++ (each SchemaMismatch 1 (λ (e : Named). is_some (expr_type e.expr s)) es
-    ++ (each_new 1 [] (out_names es)
-    ++ (check SchemaMismatch 0 (same_columns stored (made_schema base es s))
-    ∷ each SchemaMismatch 1 (λ (e : Named). may_be_named e.name (naming e.expr)) es)))
+    leaf_checks es s
+    ++ (type_checks es s
+    ++ (once_checks es
+    ++ (stored_checks stored (made_schema base es s)
+    ++ naming_checks es)))
 
 -- the checks where a node has no inputs; else one that fails
 abbrev pub with_none : List Columns → List Check → List Check

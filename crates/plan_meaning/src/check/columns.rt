@@ -2,7 +2,7 @@
 ghost use Rattle.std.specs.Prelude.{◌≡◌, ◌+◌, ◌<◌, ◌^◌, length, [], ◌&&◌, IfOk, option_map};
 ghost use Rattle.plan_core.specs.declared.error.PolarsError.TheVariants.{SchemaFieldNotFound, SchemaMismatch};
 ghost use Rattle.plan_core.specs.Names.{with_names};
-ghost use Rattle.plan_meaning.specs.Typing.{all_read as are_all_read, each, each_new, has_columns, is_column as is_one, is_known, first_fault, Says};
+ghost use Rattle.plan_meaning.specs.Typing.{all_read as are_all_read, each, each_new, has_columns, is_column as is_one, is_known, stored_checks, first_fault, Says};
 
 use crate::check::place::at;
 use plan_core::{DataType, Names, Node, PlSmallStr, PolarsError, PolarsResult, Schema};
@@ -137,4 +137,16 @@ pub fn all_read(schema: &Schema, reads: &Option<Names>) -> bool
         }
     }
     true
+}
+
+/// The stored columns are those that are computed; else a `SchemaMismatch` at place 0.
+#[tactic(auto, unfolding(crate::specs::Typing::stored_checks))]
+pub fn check_stored(node: Node, stored: &Schema, computed: &Schema) -> PolarsResult<()>
+    ensures { Says result (first_fault node (stored_checks stored.now computed.now)) }
+{
+    if *stored == *computed {
+        Ok(())
+    } else {
+        Err(PolarsError::SchemaMismatch(at(node, 0)))
+    }
 }

@@ -1,14 +1,12 @@
 //! The columns that expressions make, in a selection or beside the columns of the input: the expressions read columns of
 //! the input and have types there, no two have one name, the stored columns are those that they make, and each is named
 //! as it may be.
-ghost use Rattle.std.specs.Prelude.{◌≡◌, ◌∷◌, [], All, map, unwrap_or, is_some, IfOk};
-ghost use Rattle.plan_core.specs.declared.data_type.DataType.TheVariants.{Int64};
-ghost use Rattle.plan_core.specs.declared.error.PolarsError.TheVariants.{SchemaFieldNotFound, SchemaMismatch};
+ghost use Rattle.std.specs.Prelude.{◌≡◌, All, IfOk};
 ghost use Rattle.plan_ir.specs.Parts.{IsExpr};
 ghost use Rattle.plan_ir.specs.Plans.{all_named_at};
-ghost use Rattle.plan_meaning.specs.Exprs.{all_known, leaves, expr_type as type_of_expr, naming, may_be_named as may_be};
-ghost use Rattle.plan_meaning.specs.Typing.{check, each, each_new, out_names, made_checks, made_schema as schema_made, first_fault, Says, IsMade};
+ghost use Rattle.plan_meaning.specs.Typing.{leaf_checks, type_checks, once_checks, naming_checks, made_schema as schema_made, first_fault, Says, IsMade};
 
+use crate::check::columns::check_stored;
 use crate::check::place::at;
 use crate::exprs::{expr_type, may_be_named, output_name, reads_only};
 use plan_core::{Arena, DataType, Names, Node, PlSmallStr, PolarsError, PolarsResult, Schema};
@@ -23,7 +21,7 @@ fn check_leaves(
     schema: &Schema,
 ) -> PolarsResult<()>
     requires { All (λ e. IsExpr ex.now e.node) exprs.now }
-    ensures { Says result (first_fault node (each SchemaFieldNotFound 1 (λ e. all_known (leaves e.expr) schema.now) (all_named_at ex.now exprs.now))) }
+    ensures { Says result (first_fault node (leaf_checks (all_named_at ex.now exprs.now) schema.now)) }
 {
     for (i, expr) in exprs.iter().enumerate() {
         if !reads_only(expr.node, ex, schema) {
@@ -41,7 +39,7 @@ fn check_types(
     schema: &Schema,
 ) -> PolarsResult<()>
     requires { All (λ e. IsExpr ex.now e.node) exprs.now }
-    ensures { Says result (first_fault node (each SchemaMismatch 1 (λ e. is_some (type_of_expr e.expr schema.now)) (all_named_at ex.now exprs.now))) }
+    ensures { Says result (first_fault node (type_checks (all_named_at ex.now exprs.now) schema.now)) }
 {
     for (i, expr) in exprs.iter().enumerate() {
         if expr_type(expr.node, ex, schema).is_none() {
@@ -58,7 +56,7 @@ fn check_outputs(
     exprs: &[ExprIR],
     ex: &Arena<AExpr>,
 ) -> PolarsResult<()>
-    ensures { Says result (first_fault node (each_new 1 [] (out_names (all_named_at ex.now exprs.now)))) }
+    ensures { Says result (first_fault node (once_checks (all_named_at ex.now exprs.now))) }
 {
     let mut before = Names::new(alloc);
     for (i, expr) in exprs.iter().enumerate() {
@@ -72,7 +70,7 @@ fn check_outputs(
 /// Each expression is named as it may be; the first expression stands at place 1.
 fn check_namings(node: Node, exprs: &[ExprIR], ex: &Arena<AExpr>) -> PolarsResult<()>
     requires { All (λ e. IsExpr ex.now e.node) exprs.now }
-    ensures { Says result (first_fault node (each SchemaMismatch 1 (λ e. may_be e.name (naming e.expr)) (all_named_at ex.now exprs.now))) }
+    ensures { Says result (first_fault node (naming_checks (all_named_at ex.now exprs.now))) }
 {
     for (i, expr) in exprs.iter().enumerate() {
         if !may_be_named(&expr.output_name, expr.node, ex) {
@@ -103,7 +101,7 @@ fn made_schema(
 }
 
 /// Checks the expressions of a node over the columns of its input, and gives the columns of the node.
-#[tactic(auto, using(crate::proofs::CheckLemmas::fault_append, crate::proofs::CheckLemmas::fault_first), unfolding(crate::specs::Typing::made_checks))]
+#[tactic(auto, using(crate::proofs::CheckLemmas::fault_append), unfolding(crate::specs::Typing::made_checks))]
 pub fn check_made(
     alloc: Global,
     node: Node,
@@ -120,9 +118,7 @@ pub fn check_made(
     check_types(node, exprs, ex, schema)?;
     check_outputs(alloc, node, exprs, ex)?;
     let made = made_schema(alloc, base, exprs, ex, schema)?;
-    if *stored != made {
-        return Err(PolarsError::SchemaMismatch(at(node, 0)));
-    }
+    check_stored(node, stored, &made)?;
     check_namings(node, exprs, ex)?;
     Ok(made)
 }

@@ -1,14 +1,13 @@
 //! A scan: it has a form that is built; what it puts out and reads are columns of its files, each read once; its stored
 //! columns are those of the files.
 ghost use Rattle.std.specs.Prelude.{◌≡◌, ◌+◌, ◌&&◌, [], ◌∷◌, length, suc, option_map, IfOk, Some, None};
-ghost use Rattle.plan_core.specs.Columns.{same_columns};
 ghost use Rattle.plan_core.specs.Names.{with_names};
-ghost use Rattle.plan_core.specs.declared.error.PolarsError.TheVariants.{SchemaMismatch};
 ghost use Rattle.plan_ir.specs.Plans.{named_at};
-ghost use Rattle.plan_meaning.specs.Typing.{check, columns_or, names_or, is_none, each_new, put_out_checks, scan_checks, scan_column_checks, scan_name_checks, first_fault, Says};
+ghost use Rattle.plan_meaning.specs.Typing.{columns_or, names_or, is_none, each_new, put_out_checks, scan_checks, scan_column_checks, scan_name_checks, first_fault, Says};
 
 use crate::check::columns::{
-    all_read, check_columns_known, check_columns_read, check_names_known, check_names_new, set_of,
+    all_read, check_columns_known, check_columns_read, check_names_known, check_names_new,
+    check_stored, set_of,
 };
 use crate::check::place::at;
 use plan_core::{
@@ -120,17 +119,6 @@ fn check_new(
         Some(output) => output.len(),
     };
     check_names_new(alloc, node, 1 + outs, reads)
-}
-
-/// The stored columns are those of the files.
-fn check_stored(node: Node, stored: &Schema, file: &Schema) -> PolarsResult<()>
-    ensures { Says result (first_fault node (check SchemaMismatch 0 (same_columns stored.now file.now) ∷ [])) }
-{
-    if *stored == *file {
-        Ok(())
-    } else {
-        Err(PolarsError::SchemaMismatch(at(node, 0)))
-    }
 }
 
 /// What the scan puts out and reads are columns of the files, each read once, and its stored columns are these.

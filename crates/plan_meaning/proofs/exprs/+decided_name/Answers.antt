@@ -1,12 +1,12 @@
 use Rattle.std.proofs.Common.{◌≡◌, ◌∙◌, ap, refl, sym, arith, Some}
-use Rattle.plan_ir.specs.declared.expr.AExpr.TheVariants.{Column, Literal, BinaryExpr}
+use Rattle.plan_ir.specs.declared.expr.AExpr.TheVariants.{Column, Literal, Alias, BinaryExpr}
 use Rattle.plan_ir.proofs.ExprLemmas.{expr_down}
 use Rattle.plan_ir.specs.Plans.{expr_at}
 use Rattle.plan_meaning.specs.Exprs.{Naming, or_naming, unnamed, naming}
 use Rattle.plan_meaning.specs.Seen.{naming_seen}
 use Rattle.plan_meaning.specs.declared.exprs.Naming.{Naming as Found}
 use Rattle.plan_meaning.specs.declared.exprs.Naming.TheVariants as found
-use Rattle.plan_meaning.proofs.ExprSteps.{naming-column, naming-literal, naming-binary}
+use Rattle.plan_meaning.proofs.ExprSteps.{naming-column, naming-literal, naming-alias, naming-binary}
 use Rattle.plan_meaning.proofs.exprs.+decided_name.Goals as goal
 
 pub decided_name-requires : goal.decided_name-requires
@@ -22,10 +22,15 @@ returns-in-Column t c =
 pub returns-in-Literal : goal.returns-in-Literal
 returns-in-Literal t c = naming-literal c.args.ex.now c.args.node c.requires c.in-Literal.field-0 (c.get.ensures.entry ∙ ap Some c.in-Literal.is)
 
+pub returns-in-Alias : goal.returns-in-Alias
+returns-in-Alias t c =
+    rw c.as_str-in-Alias.ensures (naming-alias c.args.ex.now c.args.node c.requires c.in-Alias.field-0 c.in-Alias.name (c.get.ensures.entry ∙ ap Some c.in-Alias.is))
+
 -- what names the first operand names the whole
 first_names : (f : Found) (m : Naming) → naming_seen f ≡ or_naming (naming_seen f) m
 first_names (found.Column name) m = refl
 first_names found.Literal m = refl
+first_names (found.Alias name) m = refl
 
 pub returns-in-BinaryExpr : goal.returns-in-BinaryExpr
 returns-in-BinaryExpr t c =

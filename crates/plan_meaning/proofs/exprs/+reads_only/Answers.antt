@@ -1,15 +1,21 @@
 use Rattle.std.proofs.Common.{◌≡◌, ◌∙◌, ◌&&◌, ap, ap₂, refl, sym, arith, rules, Some, Bool, true, false, List}
 use Rattle.std.specs.List.{slice_get}
 use Rattle.plan_ir.specs.declared.expr.AExpr.{AExpr}
-use Rattle.plan_ir.specs.declared.expr.AExpr.TheVariants.{Column, Literal, BinaryExpr}
+use Rattle.plan_ir.specs.declared.expr.AExpr.TheVariants.{Column, Literal, Alias, BinaryExpr}
 use Rattle.plan_ir.proofs.ExprLemmas.{expr_down}
 use Rattle.plan_ir.specs.Plans.{expr_at}
 use Rattle.plan_meaning.specs.Exprs.{leaves, all_known}
-use Rattle.plan_meaning.proofs.ExprSteps.{known-column, known-literal, known-binary}
+use Rattle.plan_meaning.proofs.ExprSteps.{known-column, known-literal, known-alias, known-binary}
 use Rattle.plan_meaning.proofs.exprs.+reads_only.Goals as goal
 
 pub reads_only-requires : goal.reads_only-requires
 reads_only-requires t c =
+    let e = c.get.ensures.entry ∙ ap Some c.in-Alias.is in
+    let d = expr_down c.args.ex.now c.args.node c.in-Alias.input (Alias c.in-Alias.input c.in-Alias.field-1) 0 c.requires e refl in
+    (omega (arith, d.0, c.decreases), d.1)
+
+pub reads_only-requires-in-BinaryExpr : goal.reads_only-requires-in-BinaryExpr
+reads_only-requires-in-BinaryExpr t c =
     let e = c.get.ensures.entry ∙ ap Some c.in-BinaryExpr.is in
     let d = expr_down c.args.ex.now c.args.node c.in-BinaryExpr.left (BinaryExpr c.in-BinaryExpr.left c.in-BinaryExpr.op c.in-BinaryExpr.right) 0 c.requires e refl in
     (omega (arith, d.0, c.decreases), d.1)
@@ -28,10 +34,13 @@ returns-in-Column t c =
 pub returns-in-Literal : goal.returns-in-Literal
 returns-in-Literal t c = known-literal c.args.ex.now c.args.node c.requires c.in-Literal.field-0 c.args.schema.now (c.get.ensures.entry ∙ ap Some c.in-Literal.is)
 
+pub returns-in-Alias : goal.returns-in-Alias
+returns-in-Alias t c = c.reads_only.ensures ∙ known-alias c.args.ex.now c.args.node c.requires c.in-Alias.input c.in-Alias.field-1 c.args.schema.now (c.get.ensures.entry ∙ ap Some c.in-Alias.is)
+
 pub returns-then-reads_only : goal.returns-then-reads_only
 returns-then-reads_only t c =
     let e = c.get.ensures.entry ∙ ap Some c.in-BinaryExpr.is in
-    let l : true ≡ all_known (leaves (expr_at c.args.ex.now c.in-BinaryExpr.left)) c.args.schema.now = sym c.if-reads_only.true ∙ c.reads_only.ensures in
+    let l : true ≡ all_known (leaves (expr_at c.args.ex.now c.in-BinaryExpr.left)) c.args.schema.now = sym c.if-reads_only.true ∙ c.reads_only-in-BinaryExpr.ensures in
     c.reads_only-then-reads_only.ensures
     ∙ ap (λ (b : Bool). b && all_known (leaves (expr_at c.args.ex.now c.in-BinaryExpr.right)) c.args.schema.now) l
     ∙ known-binary c.args.ex.now c.args.node c.requires c.in-BinaryExpr.left c.in-BinaryExpr.right c.in-BinaryExpr.op c.args.schema.now e
@@ -39,7 +48,7 @@ returns-then-reads_only t c =
 pub returns-else-reads_only : goal.returns-else-reads_only
 returns-else-reads_only t c =
     let e = c.get.ensures.entry ∙ ap Some c.in-BinaryExpr.is in
-    let l : false ≡ all_known (leaves (expr_at c.args.ex.now c.in-BinaryExpr.left)) c.args.schema.now = sym c.if-reads_only.false ∙ c.reads_only.ensures in
+    let l : false ≡ all_known (leaves (expr_at c.args.ex.now c.in-BinaryExpr.left)) c.args.schema.now = sym c.if-reads_only.false ∙ c.reads_only-in-BinaryExpr.ensures in
     c.if-reads_only.false
     ∙ ap (λ (b : Bool). b && all_known (leaves (expr_at c.args.ex.now c.in-BinaryExpr.right)) c.args.schema.now) l
     ∙ known-binary c.args.ex.now c.args.node c.requires c.in-BinaryExpr.left c.in-BinaryExpr.right c.in-BinaryExpr.op c.args.schema.now e

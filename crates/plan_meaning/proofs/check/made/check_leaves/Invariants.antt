@@ -1,0 +1,9 @@
+use Rattle.std.proofs.Common.{is_some}
+use Rattle.plan_core.specs.declared.error.PolarsError.TheVariants.{SchemaFieldNotFound}
+use Rattle.plan_ir.specs.Plans.{expr_at}
+use Rattle.plan_meaning.specs.Exprs.{leaves, all_known}
+use Rattle.plan_meaning.proofs.CheckLemmas.{Left}
+use Rattle.plan_meaning.proofs.check.made.check_leaves.Given as goal
+
+abbrev pub invariant-loop-i : goal.invariant-loop-i
+invariant-loop-i l = Left l.node SchemaFieldNotFound 1 (λ e. all_known (leaves (expr_at l.ex e.node)) l.schema) l.exprs l.i
