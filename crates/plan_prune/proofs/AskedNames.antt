@@ -3,7 +3,7 @@ use Rattle.std.proofs.Common.{◌≡◌, false, List, [], ◌∷◌, refl, sym, 
 use Rattle.plan_core.specs.Columns.{Columns, names_of}
 use Rattle.plan_core.specs.Names.{with_names}
 use Rattle.plan_tree.specs.Rose.{Roses, rose, no_roses, more}
-use Rattle.plan_ir.specs.Plans.{Op, filter, scan, simple_projection, invalid, Named}
+use Rattle.plan_ir.specs.Plans.{Op, slice, filter, scan, frame_scan, simple_projection, select, hstack, invalid, Named}
 use Rattle.plan_meaning.specs.Typing.{is_empty, schema_by, schemas, checks, AllHold}
 use Rattle.plan_meaning.specs.Relating.{Asked, all, names, cached}
 use Rattle.plan_meaning.specs.Asked.{set_of, with_more, asks_columns, asks as asks_of, IsFair}
@@ -59,6 +59,17 @@ asks-each l (simple_projection cs) (more (rose n op us) (more (rose m o vs) rest
 asks-each l (simple_projection cs) no_roses good = cc
 asks-each l (scan sources info predicate output kind options) no_roses good = refl
 asks-each l (scan sources info predicate output kind options) (more (rose n op us) rest) good = cc
+asks-each l (slice o n) (more (rose m op us) no_roses) good = refl
+asks-each l (slice o n) (more (rose m op us) (more (rose k q vs) rest)) good = cc
+asks-each l (slice o n) no_roses good = cc
+asks-each l (frame_scan df schema output) no_roses good = refl
+asks-each l (frame_scan df schema output) (more (rose n op us) rest) good = cc
+asks-each l (select es schema options) (more (rose m op us) no_roses) good = refl
+asks-each l (select es schema options) (more (rose m op us) (more (rose k q vs) rest)) good = cc
+asks-each l (select es schema options) no_roses good = cc
+asks-each l (hstack es schema options) (more (rose m op us) no_roses) good = refl
+asks-each l (hstack es schema options) (more (rose m op us) (more (rose k q vs) rest)) good = cc
+asks-each l (hstack es schema options) no_roses good = cc
 asks-each l invalid ts good = cc
 
 -- what a node asks can be asked of its inputs

@@ -6,6 +6,8 @@ mod AddedNames
 pub mod AskedNames
 pub mod ProjectionNarrows
 pub mod ScanNarrows
+mod WholeNarrows
+mod FrameNarrows
 pub mod PrunedNarrows
 pub mod PrunedReads
 pub mod PlanPruned

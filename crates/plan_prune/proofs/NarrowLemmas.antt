@@ -1,15 +1,15 @@
 -- What narrowing needs of each kind of node.
-use Rattle.std.proofs.Common.{◌≡◌, ℕ, Bool, true, ◌&&◌, List, [], ◌∷◌, Option, refl, sym, ap, ap₂, ◌∙◌, subst, is_some}
+use Rattle.std.proofs.Common.{◌≡◌, ℕ, ℤ, Bool, true, ◌&&◌, List, [], ◌∷◌, Option, refl, sym, ap, ap₂, ◌∙◌, subst, is_some}
 use Rattle.plan_core.specs.declared.data_type.DataType.{DataType}
 use Rattle.plan_core.specs.Columns.{Columns, type_of}
 use Rattle.plan_core.specs.Names.{has, with_names}
-use Rattle.plan_ir.specs.Plans.{Op, filter, Named, Expr}
+use Rattle.plan_ir.specs.Plans.{Op, slice, filter, Named, Expr}
 use Rattle.plan_meaning.specs.Exprs.{Name, leaves, all_known, is_type}
 use Rattle.plan_meaning.specs.Typing.{checks, AllHold}
 use Rattle.plan_meaning.specs.Frames.{Frame, HasSchema, rows_at, Agree}
 use Rattle.plan_meaning.specs.Meaning.{val}
 use Rattle.plan_meaning.specs.Contents.{Contents}
-use Rattle.plan_meaning.specs.Steps.{Step, true_rows, filtered}
+use Rattle.plan_meaning.specs.Steps.{Step, slice_rows, true_rows, filtered}
 use Rattle.plan_meaning.specs.Relating.{Asked, all, names, cached, Holding, NarrowColumns, AgreeOn}
 use Rattle.plan_meaning.specs.Asked.{with_more}
 use Rattle.plan_meaning.proofs.NameSets.{has_first, has_later, keeps_names, adds_names}
@@ -100,3 +100,24 @@ pub local_filter : (p : Named) (a : Asked) (r s : Columns) → AllHold (checks (
 local_filter p all r s good h = subst (λ (x : Columns). Local (filter p) (filter p) (all ∷ []) all (x ∷ []) (s ∷ [])) (sym h) (same_one (filter p) s good)
 local_filter p (names wanted) r s good h = filter_names p wanted r s good h
 local_filter p cached r s good h = subst (λ (x : Columns). Local (filter p) (filter p) (cached ∷ []) cached (x ∷ []) (s ∷ [])) (sym h) (same_cached (filter p) s good)
+
+-- slices
+
+slice_agrees : (offset : ℤ) (len : ℕ) (wanted : List Name) (f g : Frame) → Agree wanted f g → Agree wanted (rows_at (slice_rows offset len f.height) f) (rows_at (slice_rows offset len g.height) g)
+slice_agrees offset len wanted f g h =
+    subst (λ (n : ℕ). Agree wanted (rows_at (slice_rows offset len f.height) f) (rows_at (slice_rows offset len n) g)) h.height (agree_rows (λ a. a) wanted (slice_rows offset len f.height) f g h)
+
+slice_names : (offset : ℤ) (len : ℕ) (wanted : List Name) (r s : Columns) → Holding wanted r s → Local (slice offset len) (slice offset len) (names wanted ∷ []) (names wanted) (r ∷ []) (s ∷ [])
+slice_names offset len wanted r s h = record {
+  good = tt;
+  schema = h;
+  fits = λ c k. k;
+  step = λ c fs gs f k hr has ag st. one_step c (slice offset len) (slice offset len) (names wanted) (names wanted) r s
+      (λ f0 g0 f hr hs ag st. (rows_at (slice_rows offset len g0.height) g0, refl, subst (λ (x : Frame). Agree wanted x (rows_at (slice_rows offset len g0.height) g0)) (sym st) (slice_agrees offset len wanted f0 g0 ag))) fs gs f hr has ag st;
+}
+
+-- a slice over an input that narrows at what the slice is asked narrows at that
+pub local_slice : (offset : ℤ) (len : ℕ) (a : Asked) (r s : Columns) → NarrowColumns a r s → Local (slice offset len) (slice offset len) (a ∷ []) a (r ∷ []) (s ∷ [])
+local_slice offset len all r s h = subst (λ (x : Columns). Local (slice offset len) (slice offset len) (all ∷ []) all (x ∷ []) (s ∷ [])) (sym h) (same_one (slice offset len) s tt)
+local_slice offset len (names wanted) r s h = slice_names offset len wanted r s h
+local_slice offset len cached r s h = subst (λ (x : Columns). Local (slice offset len) (slice offset len) (cached ∷ []) cached (x ∷ []) (s ∷ [])) (sym h) (same_cached (slice offset len) s tt)

@@ -39,6 +39,11 @@ module _ (ex : List AExpr) (n : Node) (h : IsExpr ex n) where
   pub adds-literal : (names : List Name) (v : LiteralValue) → slice_get ex n.0 ≡ Some (exprs.Literal v) → names ≡ with_names names (leaves (expr_at ex n))
   adds-literal names v e = ap (λ (x : Expr). with_names names (leaves x)) (sym (expr_open ex n (exprs.Literal v) h e))
 
+  pub adds-alias : (names : List Name) (i : Node) (a : Name) → slice_get ex n.0 ≡ Some (exprs.Alias i a) → with_names names (leaves (expr_at ex i)) ≡ with_names names (leaves (expr_at ex n))
+  adds-alias names i a e =
+      ap (with_names names) (sym (append-nil (leaves (expr_at ex i))))
+      ∙ ap (λ (x : Expr). with_names names (leaves x)) (sym (expr_open ex n (exprs.Alias i a) h e))
+
   pub adds-binary : (names : List Name) (l r : Node) (o : Operator) → slice_get ex n.0 ≡ Some (exprs.BinaryExpr l o r) → with_names (with_names names (leaves (expr_at ex l))) (leaves (expr_at ex r)) ≡ with_names names (leaves (expr_at ex n))
   adds-binary names l r o e =
       let a = leaves (expr_at ex l) in
@@ -113,29 +118,26 @@ placed-top lp c n m p cs added at is =
     ap₂ (λ (l : List IR) (ds : Columns). slice_set l n.0 (nodes.SimpleProjection m ds)) added is
     ∙ ap (λ (k : ℕ). slice_set (lp ++ p ∷ []) n.0 (nodes.SimpleProjection (record { 0 = k }) (output_of p))) at
 
--- a scan at a number is pruned
-module _ (a b : List IR) (ex : List AExpr) (n : Node) (d : IR) (t : Trees IR) (h : StandsOnce plan_shape a (n ∷ []) t) (sources : ScanSources) (info : FileInfo) (predicate : Option ExprIR) (output : Option Columns) (kind : FileScan) (options : FileScanOptions) (e : slice_get a n.0 ≡ Some (nodes.Scan sources info predicate output kind options)) (taken : b ≡ slice_set a n.0 d) where
-  abbrev p : IR
-  p = nodes.Scan sources info predicate output kind options
-
-  -- the scan's tree has nothing below
+-- a node without inputs at a number
+module _ (a b : List IR) (ex : List AExpr) (n : Node) (p d : IR) (t : Trees IR) (h : StandsOnce plan_shape a (n ∷ []) t) (leaf : inputs_of p ≡ []) (e : slice_get a n.0 ≡ Some p) (taken : b ≡ slice_set a n.0 d) where
+  -- its tree has nothing below
   alone : t ≡ more (rose n p no_roses) no_roses
   alone =
       let o = opened plan_shape a n p t h e in
-      o.is ∙ ap (λ (kids : Trees IR). more (rose n p kids) no_roses) (no_trees a o.kids o.inputs.stands)
+      o.is ∙ ap (λ (kids : Trees IR). more (rose n p kids) no_roses) (no_trees a o.kids (subst (λ (ns : List Node). Stands plan_shape a ns o.kids) leaf o.inputs.stands))
 
-  -- another scan goes back to the number
-  stays : (top : Bool) (asked : List Name) (q : IR) → inputs_of q ≡ [] → is_invalid q ≡ false → roots_of q ≡ roots_of p → rose tt (op_at ex q) no_roses ≡ rebuilt top asked (op_at ex p) no_roses → Prunes top asked a (slice_set b n.0 q) ex n t
+  -- another node without inputs goes back to the number
+  pub stays : (top : Bool) (asked : List Name) (q : IR) → inputs_of q ≡ [] → is_invalid q ≡ false → roots_of q ≡ roots_of p → rose tt (op_at ex q) no_roses ≡ rebuilt top asked (op_at ex p) no_roses → Prunes top asked a (slice_set b n.0 q) ex n t
   stays top asked q none valid roots is =
       let under : StandsOnce plan_shape b [] no_roses = record { stands = tt; once = tt } in
       rw alone (record {
         trees = more (rose n q no_roses) no_roses;
-        rewrites = Rewrites-back plan_shape a b b n p q d no_roses no_roses (rw alone at h) taken (Rewrites-refl plan_shape b [] no_roses under) none valid;
+        rewrites = Rewrites-back plan_shape a b b n p q d no_roses no_roses (rw alone at h) taken (subst (λ (ns : List Node). Rewrites plan_shape b b ns no_roses no_roses) (sym leaf) (Rewrites-refl plan_shape b [] no_roses under)) (none ∙ sym leaf) valid;
         exprs = ap (λ (l : List Node). l ++ []) roots;
         pruned = ap (λ r. more r no_roses) is;
       })
 
-  -- a scan goes to a new number, and a projection on top takes its number
+  -- it goes to a new number, and a projection on top takes its number
   goes_below : (asked : List Name) (q : IR) (cs : Columns) → inputs_of q ≡ [] → is_invalid q ≡ false → roots_of q ≡ roots_of p → rose tt (op_at ex (nodes.SimpleProjection n cs)) (more (rose tt (op_at ex q) no_roses) no_roses) ≡ rebuilt true asked (op_at ex p) no_roses → Prunes true asked a (slice_set (b ++ q ∷ []) n.0 (nodes.SimpleProjection (record { 0 = length b }) cs)) ex n t
   goes_below asked q cs none valid roots is =
       let m : Node = record { 0 = length b } in
@@ -161,10 +163,15 @@ module _ (a b : List IR) (ex : List AExpr) (n : Node) (d : IR) (t : Trees IR) (h
         pruned = ap (λ r. more r no_roses) is;
       })
 
+-- a scan at a number is pruned
+module _ (a b : List IR) (ex : List AExpr) (n : Node) (d : IR) (t : Trees IR) (h : StandsOnce plan_shape a (n ∷ []) t) (sources : ScanSources) (info : FileInfo) (predicate : Option ExprIR) (output : Option Columns) (kind : FileScan) (options : FileScanOptions) (e : slice_get a n.0 ≡ Some (nodes.Scan sources info predicate output kind options)) (taken : b ≡ slice_set a n.0 d) where
+  abbrev p : IR
+  p = nodes.Scan sources info predicate output kind options
+
   placed : (top : Bool) (asked : List Name) → Prunes top asked a (with_pruned_scan top asked b n p) ex n t
-  placed top [] = stays top [] p refl refl refl refl
-  placed true (x ∷ asked) = goes_below (x ∷ asked) (narrowed (x ∷ asked) p) (typed_names info.schema (x ∷ asked)) refl refl refl refl
-  placed false (x ∷ asked) = stays false (x ∷ asked) (narrowed (x ∷ asked) p) refl refl refl refl
+  placed top [] = stays a b ex n p d t h refl e taken top [] p refl refl refl refl
+  placed true (x ∷ asked) = goes_below a b ex n p d t h refl e taken (x ∷ asked) (narrowed (x ∷ asked) p) (typed_names info.schema (x ∷ asked)) refl refl refl refl
+  placed false (x ∷ asked) = stays a b ex n p d t h refl e taken false (x ∷ asked) (narrowed (x ∷ asked) p) refl refl refl refl
 
   pub scan_pruned : (top : Bool) (asked : List Name) (c : List IR) → c ≡ with_pruned_scan top asked b n p → Prunes top asked a c ex n t
   scan_pruned top asked c is = rw is (placed top asked)

@@ -1,5 +1,5 @@
 -- A pruned plan narrows: one case for each kind of node, and one induction.
-use Rattle.std.proofs.Common.{◌≡◌, Bool, true, false, List, [], ◌∷◌, Option, Some, refl, sym, ap, ◌∙◌, subst}
+use Rattle.std.proofs.Common.{◌≡◌, ℕ, ℤ, Bool, true, false, List, [], ◌∷◌, Option, Some, refl, sym, ap, ◌∙◌, subst}
 use Rattle.plan_core.specs.declared.options.FileScanOptions.{FileScanOptions}
 use Rattle.plan_core.specs.Columns.{Columns, names_of}
 use Rattle.plan_core.specs.Names.{with_names}
@@ -7,7 +7,7 @@ use Rattle.plan_tree.specs.Rose.{Roses, rose, no_roses, more}
 use Rattle.plan_ir.specs.declared.scan.FileInfo.{FileInfo}
 use Rattle.plan_ir.specs.declared.scan.FileScan.{FileScan}
 use Rattle.plan_ir.specs.declared.scan.ScanSources.{ScanSources}
-use Rattle.plan_ir.specs.Plans.{Op, filter, scan, simple_projection, invalid, Named, Plan}
+use Rattle.plan_ir.specs.Plans.{Op, slice, filter, scan, frame_scan, simple_projection, select, hstack, invalid, Named, Plan}
 use Rattle.plan_meaning.specs.Typing.{columns_or, file_columns, schema_by, schema, schemas, checks, AllHold, AllValid}
 use Rattle.plan_meaning.specs.Steps.{IsValid}
 use Rattle.plan_meaning.specs.Relating.{Refines, Asked, all, names, NarrowColumns, AgreeOn, Narrows}
@@ -17,9 +17,11 @@ use Rattle.plan_meaning.proofs.Refining.{relates_refines}
 use Rattle.plan_meaning.proofs.Related.{SchemasRelated, AllRelate, relates_node, relates_top}
 use Rattle.plan_meaning.proofs.Fairness.{FairAll}
 use Rattle.plan_meaning.specs.Exprs.{Name}
-use Rattle.plan_prune.specs.Pruned.{kept, typed_names, reading, projected, asks, rebuilt, pruned, pruned_all}
+use Rattle.plan_prune.specs.Pruned.{kept, pruned_output, typed_names, reading, projected, asks, rebuilt, pruned, pruned_all}
 use Rattle.plan_prune.proofs.AskedNames.{set_some, kept-is, filter_asks, each_asked, fair_each}
-use Rattle.plan_prune.proofs.NarrowLemmas.{Local, same_none, local_filter}
+use Rattle.plan_prune.proofs.NarrowLemmas.{Local, same_none, local_filter, local_slice}
+use Rattle.plan_prune.proofs.WholeNarrows.{local_whole}
+use Rattle.plan_prune.proofs.FrameNarrows.{local_frame}
 use Rattle.plan_prune.proofs.ProjectionNarrows.{local_columns, asked_some}
 use Rattle.plan_prune.proofs.ScanNarrows.{local_scan, left_holds, top_good, top_agrees}
 
@@ -99,6 +101,35 @@ scan_narrows : (top : Bool) (l : List Name) (sources : ScanSources) (info : File
 scan_narrows top [] sources info predicate output kind options rs v fair h = whole_scan sources info predicate output kind options rs v h
 scan_narrows top (a ∷ l) sources info predicate output kind options rs v fair h = top_scan sources info predicate output kind options rs v h (a ∷ l) fair top
 
+-- slices
+
+slice_narrows : (offset : ℤ) (len : ℕ) (l : List Name) (rs : Roses (Unit {0}) Op) (t : Plan) (s : Columns) → schemas (more t no_roses) ≡ s ∷ [] → IsValid (rose tt (slice offset len) (more t no_roses)) → AllNarrow (set_of l ∷ []) rs (more t no_roses) → Narrows (rose tt (slice offset len) rs) (rose tt (slice offset len) (more t no_roses)) (set_of l)
+slice_narrows offset len l rs t s is v h =
+    let o = slice offset len in
+    relates_node Asked NarrowColumns AgreeOn o o (set_of l ∷ []) (set_of l) rs (more t no_roses) v h (λ k.
+    subst (λ (ss : List Columns). Local o o (set_of l ∷ []) (set_of l) (schemas rs) ss) (sym is)
+    (one_here o o (set_of l) (set_of l) s (schemas rs) (subst (λ (ss : List Columns). NarrowSchemas (set_of l ∷ []) (schemas rs) ss) is k) (λ r q. local_slice offset len (set_of l) r s q)))
+
+-- nodes that stay as they are over all of their input
+
+whole_narrows : (op : Op) (l : List Name) (rs : Roses (Unit {0}) Op) (t : Plan) (s : Columns) → schemas (more t no_roses) ≡ s ∷ [] → IsValid (rose tt op (more t no_roses)) → IsFair (set_of l) (schema_by op (s ∷ [])) → AllNarrow (all ∷ []) rs (more t no_roses) → Narrows (rose tt op rs) (rose tt op (more t no_roses)) (set_of l)
+whole_narrows op l rs t s is v fair h =
+    let good : AllHold (checks op (s ∷ [])) = subst (λ (ss : List Columns). AllHold (checks op ss)) is v.0 in
+    relates_node Asked NarrowColumns AgreeOn op op (all ∷ []) (set_of l) rs (more t no_roses) v h (λ k.
+    subst (λ (ss : List Columns). Local op op (all ∷ []) (set_of l) (schemas rs) ss) (sym is)
+    (one_here op op all (set_of l) s (schemas rs) (subst (λ (ss : List Columns). NarrowSchemas (all ∷ []) (schemas rs) ss) is k) (λ r q. local_whole op (set_of l) r s good fair q)))
+
+-- scans of frames
+
+frame_narrows : (l : List Name) (df : Option ℕ) (columns : Columns) (output : Option Columns) (rs : Roses (Unit {0}) Op) → IsValid (rose tt (frame_scan df columns output) no_roses) → IsFair (set_of l) (columns_or output columns) → AllNarrow [] rs no_roses → Narrows (rose tt (frame_scan df columns (pruned_output l columns output)) rs) (rose tt (frame_scan df columns output) no_roses) (set_of l)
+frame_narrows [] df columns output rs v fair h =
+    let given = frame_scan df columns output in
+    relates_node Asked NarrowColumns AgreeOn given given [] all rs no_roses v h (λ k. none_here given given all (schemas rs) k (same_none given v.0))
+frame_narrows (a ∷ l) df columns output rs v fair h =
+    let given = frame_scan df columns output in
+    let left = frame_scan df columns (Some (typed_names columns (a ∷ l))) in
+    relates_node Asked NarrowColumns AgreeOn left given [] (names (a ∷ l)) rs no_roses v h (λ k. none_here left given (names (a ∷ l)) (schemas rs) k (local_frame df columns output (a ∷ l) v.0 fair))
+
 -- a node that is rebuilt over inputs that narrow at what it asks narrows at what it is asked
 rebuilt_narrows : (top : Bool) (l : List Name) (op : Op) (rs ts : Roses (Unit {0}) Op) → IsValid (rose tt op ts) → IsFair (set_of l) (schema_by op (schemas ts)) → AllNarrow (each_asked (set_of (asks l op)) ts) rs ts → Narrows (rebuilt top l op rs) (rose tt op ts) (set_of l)
 rebuilt_narrows top l (filter p) rs (more (rose n o us) no_roses) v fair h = filter_narrows p l rs (rose n o us) (schema_by o (schemas us)) refl v h
@@ -109,6 +140,17 @@ rebuilt_narrows top l (simple_projection cs) rs (more (rose n o us) (more (rose 
 rebuilt_narrows top l (simple_projection cs) rs no_roses v fair h = cc
 rebuilt_narrows top l (scan sources info predicate output kind options) rs no_roses v fair h = scan_narrows top l sources info predicate output kind options rs v fair h
 rebuilt_narrows top l (scan sources info predicate output kind options) rs (more (rose n o us) rest) v fair h = cc
+rebuilt_narrows top l (slice offset len) rs (more (rose n o us) no_roses) v fair h = slice_narrows offset len l rs (rose n o us) (schema_by o (schemas us)) refl v h
+rebuilt_narrows top l (slice offset len) rs (more (rose n o us) (more (rose m o' us') rest)) v fair h = cc
+rebuilt_narrows top l (slice offset len) rs no_roses v fair h = cc
+rebuilt_narrows top l (frame_scan df columns output) rs no_roses v fair h = frame_narrows l df columns output rs v fair h
+rebuilt_narrows top l (frame_scan df columns output) rs (more (rose n o us) rest) v fair h = cc
+rebuilt_narrows top l (select es stored options) rs (more (rose n o us) no_roses) v fair h = whole_narrows (select es stored options) l rs (rose n o us) (schema_by o (schemas us)) refl v fair h
+rebuilt_narrows top l (select es stored options) rs (more (rose n o us) (more (rose m o' us') rest)) v fair h = cc
+rebuilt_narrows top l (select es stored options) rs no_roses v fair h = cc
+rebuilt_narrows top l (hstack es stored options) rs (more (rose n o us) no_roses) v fair h = whole_narrows (hstack es stored options) l rs (rose n o us) (schema_by o (schemas us)) refl v fair h
+rebuilt_narrows top l (hstack es stored options) rs (more (rose n o us) (more (rose m o' us') rest)) v fair h = cc
+rebuilt_narrows top l (hstack es stored options) rs no_roses v fair h = cc
 rebuilt_narrows top l invalid rs ts v fair h = cc
 
 -- pruned plans narrow at what they are asked

@@ -1,9 +1,12 @@
 -- A pruned plan scans the same sources, reads only what is asked, and has few nodes more.
-use Rattle.std.proofs.Common.{◌≡◌, ◌+◌, ◌≤◌, Bool, true, false, List, [], ◌∷◌, ◌++◌, map, refl, sym, ◌∙◌, subst, append-nil, append_assoc, arith}
-use Rattle.std.specs.List.{AllByRecursion}
-use Rattle.plan_core.specs.Columns.{Columns}
+use Rattle.std.proofs.Common.{◌≡◌, ◌+◌, ◌≤◌, Bool, true, false, List, [], ◌∷◌, ◌++◌, map, Option, Some, None, option_map, refl, sym, ◌∙◌, subst, append-nil, append_assoc, arith, ⊎_elim}
+use Rattle.std.specs.List.{AllByRecursion, cons_option}
+use Rattle.plan_core.specs.declared.data_type.DataType.{DataType}
+use Rattle.plan_core.specs.Columns.{Columns, names_of, type_of}
+use Rattle.plan_core.specs.Names.{has}
+use Rattle.plan_meaning.proofs.NameSets.{has_cons, has_first, has_later}
 use Rattle.plan_tree.specs.Rose.{Roses, rose, no_roses, more, size}
-use Rattle.plan_ir.specs.Plans.{Op, filter, scan, simple_projection, invalid, Plan}
+use Rattle.plan_ir.specs.Plans.{Op, slice, filter, scan, frame_scan, simple_projection, select, hstack, invalid, Plan}
 use Rattle.plan_meaning.specs.Typing.{schemas, AllValid}
 use Rattle.plan_meaning.specs.Steps.{IsValid}
 use Rattle.plan_meaning.specs.Relating.{Asked, all}
@@ -12,7 +15,7 @@ use Rattle.plan_meaning.specs.Scans.{scans, scans_in, KeepScans, Keeps, nodes}
 use Rattle.plan_meaning.proofs.Fairness.{plan_sites_fair}
 use Rattle.plan_meaning.proofs.Keeping.{sites-scans}
 use Rattle.plan_meaning.specs.Exprs.{Name}
-use Rattle.plan_prune.specs.Pruned.{asks, rebuilt, pruned, pruned_all}
+use Rattle.plan_prune.specs.Pruned.{typed_names, asks, rebuilt, pruned, pruned_all}
 use Rattle.plan_prune.specs.Reads.{ReadWithin, own_tops, tops_in, tops}
 use Rattle.plan_prune.proofs.AskedNames.{each_asked, asks-each}
 
@@ -22,8 +25,22 @@ reads_append (o ∷ os) us (s ∷ ss) zs h k = (h.0, h.1, reads_append os us ss 
 reads_append [] us (s ∷ ss) zs h k = absurd h
 reads_append (o ∷ os) us [] zs h k = absurd h
 
+-- names with their types are among the names
+typed_asked : (s : Columns) (wanted : List Name) (a : Name) → has (names_of (typed_names s wanted)) a ≡ true → has wanted a ≡ true
+typed_asked s [] a i = i
+typed_asked s (b ∷ wanted) a i = at (type_of s b) (λ j. typed_asked s wanted a j) i
+  where
+    at : (o : Option DataType) → (has (names_of (typed_names s wanted)) a ≡ true → has wanted a ≡ true) → has (names_of (cons_option (option_map (λ (d : DataType). (b, d)) o) (typed_names s wanted))) a ≡ true → has (b ∷ wanted) a ≡ true
+    at None r i = has_later b wanted a (r i)
+    at (Some t) r i = ⊎_elim (λ (q : a ≡ b). subst (λ (x : Name). has (b ∷ wanted) x ≡ true) (sym q) (has_first b wanted)) (λ (q : has (names_of (typed_names s wanted)) a ≡ true). has_later b wanted a (r q)) (has_cons b (names_of (typed_names s wanted)) a i)
+
 -- per node: what it scans
 rebuilt_reads : (top : Bool) (l : List Name) (op : Op) (rs : Roses (Unit {0}) Op) (zs : List Site) → ReadWithin (scans_in rs) zs → ReadWithin (scans (rebuilt top l op rs)) (own_site op (set_of l) ++ zs)
+rebuilt_reads top l (slice o n) rs zs h = h
+rebuilt_reads top l (select es schema options) rs zs h = h
+rebuilt_reads top l (hstack es schema options) rs zs h = h
+rebuilt_reads top [] (frame_scan df schema output) rs zs h = (refl, (λ a i. i), h)
+rebuilt_reads top (b ∷ l) (frame_scan df schema output) rs zs h = (refl, (λ a i. typed_asked schema (b ∷ l) a i), h)
 rebuilt_reads top l (filter p) rs zs h = h
 rebuilt_reads top l (simple_projection cs) rs zs h = h
 rebuilt_reads top l invalid rs zs h = h
@@ -69,6 +86,10 @@ size-more (rose n op ts) ps = omega arith
 
 -- per node: a projection more on a scan that is asked names
 rebuilt_nodes : (top : Bool) (l : List Name) (op : Op) (ss : List Columns) (rs : Roses (Unit {0}) Op) → nodes (rebuilt top l op rs) ≤ 1 + own_tops op (set_of l) ss + size rs
+rebuilt_nodes top l (slice o n) ss rs = omega arith
+rebuilt_nodes top l (frame_scan df schema output) ss rs = omega arith
+rebuilt_nodes top l (select es schema options) ss rs = omega arith
+rebuilt_nodes top l (hstack es schema options) ss rs = omega arith
 rebuilt_nodes top l (filter p) ss rs = omega arith
 rebuilt_nodes top l (simple_projection cs) ss rs = omega arith
 rebuilt_nodes top l invalid ss rs = omega arith

@@ -93,7 +93,7 @@ new_from k before (a ∷ wanted) apart once =
 
 -- the types of what a scan puts out are those of its files
 
-all_typed : (file cs : Columns) (a : Name) (t : DataType) → AllByRecursion (λ (c : Name × DataType). is_column file c ≡ true) cs → type_of cs a ≡ Some t → type_of file a ≡ Some t
+pub all_typed : (file cs : Columns) (a : Name) (t : DataType) → AllByRecursion (λ (c : Name × DataType). is_column file c ≡ true) cs → type_of cs a ≡ Some t → type_of file a ≡ Some t
 all_typed file [] a t h e = cc
 all_typed file (c ∷ cs) a t h e = at (bytes_eq a c.0) refl (λ q. all_typed file cs a t h.1 q) e
   where

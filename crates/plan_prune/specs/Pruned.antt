@@ -9,7 +9,7 @@ use Rattle.plan_tree.specs.Rose.{Roses, rose, no_roses, more}
 use Rattle.plan_ir.specs.declared.scan.FileInfo.{FileInfo}
 use Rattle.plan_ir.specs.declared.scan.FileScan.{FileScan}
 use Rattle.plan_ir.specs.declared.scan.ScanSources.{ScanSources}
-use Rattle.plan_ir.specs.Plans.{Op, filter, scan, simple_projection, invalid, Named, Plan}
+use Rattle.plan_ir.specs.Plans.{Op, slice, filter, scan, frame_scan, simple_projection, select, hstack, invalid, Named, Plan}
 use Rattle.plan_meaning.specs.Exprs.{Name, leaves}
 
 -- the asked names with more, each last unless it is there; asked nothing, nothing
@@ -46,17 +46,30 @@ pruned_scan top (a ∷ asked) sources info predicate output kind options inputs 
     let columns = typed_names info.schema (a ∷ asked) in
     projected top columns (rose tt (scan sources info predicate (Some columns) kind (reading (a ∷ asked) options)) inputs)
 
+-- what a scan of a frame puts out where names are asked; asked nothing, what it put out
+abbrev pub pruned_output : List Name → Columns → Option Columns → Option Columns
+pruned_output [] schema output = output
+pruned_output (a ∷ asked) schema output = Some (typed_names schema (a ∷ asked))
+
 -- what a node that is asked names asks its inputs
 abbrev pub asks : List Name → Op → List Name
+asks asked (slice offset len) = asked
 asks asked (filter predicate) = asked_with asked (leaves predicate.expr)
 asks asked (scan sources info predicate output kind options) = []
+asks asked (frame_scan df schema output) = []
+asks asked (select exprs schema options) = []
+asks asked (hstack exprs schema options) = []
 asks asked (simple_projection columns) = with_names [] (names_of (kept asked columns))
 asks asked invalid = []
 
 -- a node that is asked names, over its pruned inputs
 abbrev pub rebuilt : Bool → List Name → Op → Roses (Unit {0}) Op → Plan
+rebuilt top asked (slice offset len) inputs = rose tt (slice offset len) inputs
 rebuilt top asked (filter predicate) inputs = rose tt (filter predicate) inputs
 rebuilt top asked (scan sources info predicate output kind options) inputs = pruned_scan top asked sources info predicate output kind options inputs
+rebuilt top asked (frame_scan df schema output) inputs = rose tt (frame_scan df schema (pruned_output asked schema output)) inputs
+rebuilt top asked (select exprs schema options) inputs = rose tt (select exprs schema options) inputs
+rebuilt top asked (hstack exprs schema options) inputs = rose tt (hstack exprs schema options) inputs
 rebuilt top asked (simple_projection columns) inputs = rose tt (simple_projection (kept asked columns)) inputs
 rebuilt top asked invalid inputs = rose tt invalid inputs
 

@@ -3,7 +3,7 @@ use Rattle.std.specs.Prelude.{◌≡◌, ℕ, ◌+◌, true, List, [], ◌∷◌
 use Rattle.plan_core.specs.Columns.{Columns}
 use Rattle.plan_core.specs.Names.{has}
 use Rattle.plan_tree.specs.Rose.{Roses, rose, no_roses, more}
-use Rattle.plan_ir.specs.Plans.{Op, filter, scan, simple_projection, invalid, Plan}
+use Rattle.plan_ir.specs.Plans.{Op, slice, filter, scan, frame_scan, simple_projection, select, hstack, invalid, Plan}
 use Rattle.plan_meaning.specs.Exprs.{Name}
 use Rattle.plan_meaning.specs.Typing.{schemas}
 use Rattle.plan_meaning.specs.Relating.{Asked, all, names, cached}
@@ -25,7 +25,11 @@ one_if_asked cached = 0
 -- the projections that may be put on a node: one on a scan that is asked names
 abbrev pub own_tops : Op → Asked → List Columns → ℕ
 own_tops (scan sources info predicate output kind options) a ss = one_if_asked a
+own_tops (slice offset len) a ss = 0
 own_tops (filter predicate) a ss = 0
+own_tops (frame_scan df schema output) a ss = 0
+own_tops (select exprs schema options) a ss = 0
+own_tops (hstack exprs schema options) a ss = 0
 own_tops (simple_projection columns) a ss = 0
 own_tops invalid a ss = 0
 

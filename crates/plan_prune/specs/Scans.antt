@@ -3,7 +3,7 @@ use Rattle.std.specs.Prelude.{Bool, true, false, List, [], ◌∷◌, ◌++◌, 
 use Rattle.plan_core.specs.declared.arena.Node.{Node}
 use Rattle.plan_core.specs.Columns.{Columns}
 use Rattle.plan_ir.specs.declared.ir.IR.{IR}
-use Rattle.plan_ir.specs.declared.ir.IR.TheVariants.{Filter, Scan, SimpleProjection, Invalid}
+use Rattle.plan_ir.specs.declared.ir.IR.TheVariants.{Slice, Filter, Scan, DataFrameScan, SimpleProjection, Select, HStack, Invalid}
 use Rattle.plan_meaning.specs.Exprs.{Name}
 use Rattle.plan_prune.specs.Pruned.{typed_names, reading}
 
@@ -11,7 +11,11 @@ use Rattle.plan_prune.specs.Pruned.{typed_names, reading}
 abbrev pub narrowed : List Name → IR → IR
 narrowed names (Scan sources file_info predicate output_schema scan_type file_options) =
     Scan sources file_info predicate (Some (typed_names file_info.schema names)) scan_type (reading names file_options)
+narrowed names (Slice input offset len) = Slice input offset len
 narrowed names (Filter input predicate) = Filter input predicate
+narrowed names (DataFrameScan df schema output_schema) = DataFrameScan df schema output_schema
+narrowed names (Select input expr schema options) = Select input expr schema options
+narrowed names (HStack input exprs schema options) = HStack input exprs schema options
 narrowed names (SimpleProjection input columns) = SimpleProjection input columns
 narrowed names Invalid = Invalid
 
@@ -23,7 +27,11 @@ columns_or_none (Some cs) = cs
 -- what a scan says that it puts out
 abbrev pub output_of : IR → Columns
 output_of (Scan sources file_info predicate output_schema scan_type file_options) = columns_or_none output_schema
+output_of (Slice input offset len) = []
 output_of (Filter input predicate) = []
+output_of (DataFrameScan df schema output_schema) = []
+output_of (Select input expr schema options) = []
+output_of (HStack input exprs schema options) = []
 output_of (SimpleProjection input columns) = []
 output_of Invalid = []
 

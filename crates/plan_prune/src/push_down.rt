@@ -14,6 +14,7 @@ ghost use Rattle.plan_prune.specs.Prunes.{PrunesAt};
 ghost use Rattle.plan_prune.specs.Reads.{ReadWithin, tops};
 
 mod filter;
+mod frame_scan;
 mod projection;
 mod scan;
 
@@ -78,6 +79,11 @@ impl ProjectionPushDown {
         ensures grows { length lp.old ≤ length lp.new }
     {
         match lp.take(node) {
+            IR::Slice { input, offset, len } => {
+                self.push_down(alloc, input, asked, lp, ex)?;
+                lp.put(node, IR::Slice { input, offset, len });
+                Ok(())
+            }
             IR::Filter { input, predicate } => {
                 let asked = filter::asks(asked, &predicate, ex)?;
                 self.push_down(alloc, input, asked, lp, ex)?;
@@ -93,6 +99,58 @@ impl ProjectionPushDown {
             }
             scan @ IR::Scan { .. } => {
                 scan::prune(alloc, node, scan, &asked, !self.is_count_star, lp)?;
+                Ok(())
+            }
+            IR::DataFrameScan {
+                df,
+                schema,
+                output_schema,
+            } => {
+                let output_schema = frame_scan::keep(alloc, output_schema, &schema, &asked)?;
+                lp.put(
+                    node,
+                    IR::DataFrameScan {
+                        df,
+                        schema,
+                        output_schema,
+                    },
+                );
+                Ok(())
+            }
+            IR::Select {
+                input,
+                expr,
+                schema,
+                options,
+            } => {
+                self.push_down(alloc, input, Names::new(alloc), lp, ex)?;
+                lp.put(
+                    node,
+                    IR::Select {
+                        input,
+                        expr,
+                        schema,
+                        options,
+                    },
+                );
+                Ok(())
+            }
+            IR::HStack {
+                input,
+                exprs,
+                schema,
+                options,
+            } => {
+                self.push_down(alloc, input, Names::new(alloc), lp, ex)?;
+                lp.put(
+                    node,
+                    IR::HStack {
+                        input,
+                        exprs,
+                        schema,
+                        options,
+                    },
+                );
                 Ok(())
             }
             IR::Invalid => Ok(()),

@@ -23,6 +23,10 @@ fn add_names(names: &mut Names, node: Node, ex: &Arena<AExpr>) -> Result<(), All
             Ok(())
         }
         AExpr::Literal(_) => Ok(()),
+        AExpr::Alias(input, _) => {
+            add_names(names, *input, ex)?;
+            Ok(())
+        }
         AExpr::BinaryExpr { left, right, .. } => {
             add_names(names, *left, ex)?;
             add_names(names, *right, ex)?;

@@ -24,7 +24,7 @@ fn listed(alloc: Global, names: &Names) -> Result<Items<PlSmallStr>, AllocError>
 }
 
 /// The names with their types in a schema; those that it lacks are left out.
-fn typed(alloc: Global, names: &Names, schema: &Schema) -> Result<Schema, AllocError>
+pub fn typed(alloc: Global, names: &Names, schema: &Schema) -> Result<Schema, AllocError>
     ensures { IfOk result (λ columns. columns ≡ typed_names schema.now names.now) }
 {
     let mut columns = Schema::new(alloc);
