@@ -7,17 +7,24 @@ use std::alloc::{AllocError, Global};
 /// What a binary expression does with its two sides.
 #[derive(Clone, Copy, PartialEq, Eq, Hash, Debug)]
 pub enum Operator {
+    /// Whether the sides are equal.
     Eq,
+    /// Whether the sides differ.
     NotEq,
+    /// Whether the left side is less.
     Lt,
+    /// Whether the left side is less or equal.
     LtEq,
+    /// Whether the left side is greater.
     Gt,
+    /// Whether the left side is greater or equal.
     GtEq,
 }
 
 /// A value that is written out.
 #[derive(Drop, PartialEq, Eq, Debug)]
 pub enum LiteralValue {
+    /// A whole number of 64 signed bits.
     Int64(i64),
 }
 
@@ -35,11 +42,17 @@ impl TryClone for LiteralValue {
 /// An expression; it names the expressions that it is made of by their numbers.
 #[derive(Drop, PartialEq, Eq, Debug)]
 pub enum AExpr {
+    /// The values of the column of this name.
     Column(PlSmallStr),
+    /// One value, the same for every row.
     Literal(LiteralValue),
+    /// What the operator gives for the two sides, row by row.
     BinaryExpr {
+        /// The number of the left side.
         left: Node,
+        /// What is done with the sides.
         op: Operator,
+        /// The number of the right side.
         right: Node,
     },
 }
@@ -63,6 +76,7 @@ impl TryClone for AExpr {
 /// The name under which an expression is put out, and where it comes from.
 #[derive(Drop, PartialEq, Eq, Debug)]
 pub enum OutputName {
+    /// No name; no valid plan has an expression without one.
     None,
     /// The name of a literal that decides.
     LiteralLhs(PlSmallStr),
@@ -88,7 +102,9 @@ impl TryClone for OutputName {
 /// The number of an expression, with its output name.
 #[derive(Drop, PartialEq, Eq, Debug)]
 pub struct ExprIR {
+    /// The number of the expression.
     pub node: Node,
+    /// The name under which it is put out.
     pub output_name: OutputName,
 }
 

@@ -11,21 +11,31 @@ use std::alloc::{AllocError, Global};
 pub enum IR {
     /// The rows for which the predicate is true.
     Filter {
+        /// The number of the node whose rows are filtered.
         input: Node,
+        /// A Boolean expression over the columns of the input.
         predicate: ExprIR,
     },
     /// The rows of files, one source after another.
     Scan {
+        /// The files, in order.
         sources: ScanSources,
+        /// The columns of the files.
         file_info: FileInfo,
+        /// Which rows are put out; all of them where it is absent.
         predicate: Option<ExprIR>,
+        /// The columns that are put out, in order; all columns of the files where it is absent.
         output_schema: Option<Schema>,
+        /// The format of the files.
         scan_type: FileScan,
+        /// What is read of the files, and how.
         file_options: FileScanOptions,
     },
     /// Some columns of the input, in the order of `columns`.
     SimpleProjection {
+        /// The number of the node whose columns are taken.
         input: Node,
+        /// Columns of the input, with the types that they have there.
         columns: Schema,
     },
     /// No node: what `take` leaves behind.

@@ -60,7 +60,9 @@ pub fn expr_type(node: Node, ex: &Arena<AExpr>, schema: &Schema) -> Option<DataT
 /// What names an expression that has no alias.
 #[derive(Clone, Copy)]
 pub enum Naming<'a> {
+    /// A column, by its own name.
     Column(&'a str),
+    /// A literal, by the name `literal`.
     Literal,
 }
 
