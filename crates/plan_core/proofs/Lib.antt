@@ -1,3 +1,4 @@
+-- The lemmas of this crate.
 pub mod ColumnLemmas
 pub mod NameLemmas
 pub mod PlaceLemmas

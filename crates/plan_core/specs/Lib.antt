@@ -1,3 +1,4 @@
+-- The definitions that contracts cite.
 pub mod Lending
 pub mod Columns
 pub mod Options

@@ -65,6 +65,7 @@ impl OptFlags {
     /// Checks types.
     pub const TYPE_CHECK: OptFlags = OptFlags(131072);
 
+    /// The flags by their names, in the order of their bits.
     const FLAGS: &'static [Flag<OptFlags>] = &[
         Flag {
             name: "PROJECTION_PUSHDOWN",

@@ -23,6 +23,7 @@ impl<'a> Model for SchemaIter<'a> {
 }
 
 impl<'a> SchemaIter<'a> {
+    /// A walk over the columns that these entries hold, in their order.
     pub(crate) fn new(entries: map::Iter<'a, String, DataType>) -> Self
         ensures { result ≡ map_list (λ p. (string_bytes p.0, p.1)) entries.entry }
     {

@@ -31,7 +31,7 @@ impl PlSmallStr {
         })
     }
 
-    // The text by value.
+    /// The text by value.
     pub(crate) fn into_string(self) -> String
         ensures { string_bytes result ≡ self }
     {

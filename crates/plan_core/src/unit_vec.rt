@@ -22,10 +22,14 @@ pub struct UnitVec<T> {
     store: Store<T>,
 }
 
+/// Where the values of a list are kept.
 #[derive(Drop)]
 enum Store<T> {
+    /// There is no value.
     Empty,
+    /// Just one value, kept in the list itself.
     One(SmallVec<T, 1>),
+    /// Values in memory of their own; there may be any number of them.
     Many(Vec<T>),
 }
 
@@ -109,7 +113,7 @@ impl<T> UnitVec<T> {
 impl<T> Store<T> {
     ghost use Rattle.plan_core.specs.UnitVec.{items_of, HoldsOne, IsNotOne};
 
-    // Takes the value that is kept without memory, if there is one.
+    /// Takes the value that is kept without memory, if there is one.
     fn take_only(&mut self) -> Option<T>
     where
         T: Drop,
@@ -128,7 +132,7 @@ impl<T> Store<T> {
     }
 }
 
-// The value of a list that has just one.
+/// The value of a list that has just one.
 fn only_value<T: Drop>(one: SmallVec<T, 1>) -> T
     requires full { one.capacity ≡ 1 }
     requires single { length one.items ≡ 1 }

@@ -1,3 +1,4 @@
+-- The definitions that contracts cite.
 pub mod Gives
 pub mod Each
 pub mod Parts

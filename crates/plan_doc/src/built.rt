@@ -9,10 +9,11 @@ use crate::parts::{field, nothing, truth};
 use plan_core::{Items, PlSmallStr, Schema};
 use serde_json::Value;
 
-// Clustering, eager collecting, fast projections, join collapse and order flags.
+/// The sum of the flags whose passes aren't built: CLUSTER_WITH_COLUMNS, EAGER, FAST_PROJECTION, COLLAPSE_JOINS and
+/// CHECK_ORDER_OBSERVE.
 const UNBUILT_FLAGS: u32 = 118792;
 
-/// Flags whose passes are built.
+/// The same flags, where none of them is of a pass that isn't built; else `Form`. Bits without a name stay.
 pub fn built_flags(flags: u32) -> Result<u32, Fault>
     ensures { Gives result (built_flags_of flags) }
 {
@@ -23,7 +24,7 @@ pub fn built_flags(flags: u32) -> Result<u32, Fault>
     }
 }
 
-/// False: the entries are not shared.
+/// The value of `shared`, which must be false.
 #[tactic(auto, unfolding(crate::specs::Built::unshared_of))]
 pub fn unshared(value: &Value) -> Result<bool, Fault>
     ensures { Gives result (unshared_of (view value.now)) }
@@ -32,7 +33,7 @@ pub fn unshared(value: &Value) -> Result<bool, Fault>
     if shared { Err(Fault::Form) } else { Ok(shared) }
 }
 
-/// A single path.
+/// The same paths, where there is just one; else `Form`.
 pub fn one_path(paths: Items<PlSmallStr>) -> Result<Items<PlSmallStr>, Fault>
     ensures { Gives result (one_path_of paths) }
 {
@@ -43,7 +44,7 @@ pub fn one_path(paths: Items<PlSmallStr>) -> Result<Items<PlSmallStr>, Fault>
     }
 }
 
-/// At least one column.
+/// The same columns, where there is at least one; else `Form`.
 pub fn some_columns(columns: Schema) -> Result<Schema, Fault>
     ensures { Gives result (some_columns_of columns) }
 {
@@ -54,7 +55,7 @@ pub fn some_columns(columns: Schema) -> Result<Schema, Fault>
     }
 }
 
-/// The fields of a scan that are null.
+/// Accepts a scan whose `hive`, `path_column`, `predicate`, `row_index` and `slice` are null; else `Form`.
 #[tactic(auto, unfolding(crate::specs::Built::null_fields))]
 pub fn null_fields(object: &Value) -> Result<(), Fault>
     ensures { Gives result (null_fields_of (view object.now)) }

@@ -35,10 +35,13 @@ pub struct Document {
 /// Why bytes stand for no document.
 #[derive(Clone, Copy, Debug, PartialEq, Eq, Error)]
 pub enum ReadError {
+    /// The bytes are no JSON text, or nest deeper than serde_json reads.
     #[error("the bytes are no JSON text")]
     NotJson,
+    /// The JSON value is no document: a key, a type or a number isn't as it must be, or a form isn't built.
     #[error("the value is no document")]
     Form,
+    /// There was not enough memory.
     #[error("out of memory")]
     OutOfMemory,
 }
@@ -50,6 +53,7 @@ fn named_flags(bits: u32) -> Result<OptFlags, Fault>
     OptFlags::from_bits(bits).ok_or(Fault::Form)
 }
 
+/// The passes that a number asks for.
 #[tactic(auto, unfolding(crate::specs::Document::flags_of))]
 fn flags(value: &Value) -> Result<OptFlags, Fault>
     ensures { Gives result (flags_of (view value.now)) }
@@ -58,6 +62,7 @@ fn flags(value: &Value) -> Result<OptFlags, Fault>
     named_flags(bits)
 }
 
+/// An arena of the nodes of an array, in order.
 #[tactic(auto, unfolding(crate::specs::Document::nodes_of))]
 fn nodes(alloc: Global, value: &Value) -> Result<Arena<IR>, Fault>
     ensures { Gives result (nodes_of (view value.now)) }
@@ -66,6 +71,7 @@ fn nodes(alloc: Global, value: &Value) -> Result<Arena<IR>, Fault>
     arena_of_each(alloc, entries, |entry| node(alloc, entry))
 }
 
+/// An arena of the expressions of an array, in order.
 #[tactic(auto, unfolding(crate::specs::Document::exprs_of))]
 fn exprs(alloc: Global, value: &Value) -> Result<Arena<AExpr>, Fault>
     ensures { Gives result (exprs_of (view value.now)) }
@@ -74,6 +80,7 @@ fn exprs(alloc: Global, value: &Value) -> Result<Arena<AExpr>, Fault>
     arena_of_each(alloc, entries, |entry| expr(alloc, entry))
 }
 
+/// An object with the keys of a document and no other.
 #[tactic(auto, unfolding(crate::specs::Document::document_keys))]
 fn document_object(value: &Value) -> Result<&Value, Fault>
     ensures { Shows (λ v. view v.now) result (object_of document_keys (view value.now)) }
@@ -84,6 +91,7 @@ fn document_object(value: &Value) -> Result<&Value, Fault>
     )
 }
 
+/// The document that a JSON value stands for.
 #[tactic(auto, unfolding(crate::specs::Document::document_of))]
 fn document_of(alloc: Global, value: &Value) -> Result<Document, Fault>
     ensures { Gives result (document_at (view value.now)) }
@@ -104,7 +112,7 @@ fn document_of(alloc: Global, value: &Value) -> Result<Document, Fault>
     })
 }
 
-// The value that the bytes stand for.
+/// The JSON value that the bytes stand for.
 #[tactic(auto, using(crate::proofs::ReadingLemmas::utf8_or_not), unfolding(crate::specs::Document::json_of))]
 fn json(alloc: Global, bytes: &[u8]) -> Result<Value, ReadError>
     ensures { IsJson result (json_of bytes.now) }

@@ -10,6 +10,7 @@ use plan_ir::{AExpr, LiteralValue, Operator};
 use serde_json::Value;
 use std::alloc::Global;
 
+/// The operator of a name.
 #[tactic(auto, unfolding(crate::specs::Nodes::operator_of, crate::specs::Nodes::operator_named))]
 fn operator(value: &Value) -> Result<Operator, Fault>
     ensures { Gives result (operator_of (view value.now)) }
@@ -25,6 +26,7 @@ fn operator(value: &Value) -> Result<Operator, Fault>
     }
 }
 
+/// The column of an entry.
 #[tactic(auto, unfolding(crate::specs::Nodes::column_expr_of))]
 fn column_expr(alloc: Global, value: &Value) -> Result<AExpr, Fault>
     ensures { Gives result (column_expr_of (view value.now)) }
@@ -34,6 +36,7 @@ fn column_expr(alloc: Global, value: &Value) -> Result<AExpr, Fault>
     Ok(AExpr::Column(name))
 }
 
+/// The literal of an entry.
 #[tactic(auto, unfolding(crate::specs::Nodes::literal_of))]
 fn literal(value: &Value) -> Result<AExpr, Fault>
     ensures { Gives result (literal_of (view value.now)) }
@@ -47,6 +50,7 @@ fn literal(value: &Value) -> Result<AExpr, Fault>
     }
 }
 
+/// The binary expression of an entry.
 #[tactic(auto, unfolding(crate::specs::Nodes::binary_of))]
 fn binary(value: &Value) -> Result<AExpr, Fault>
     ensures { Gives result (binary_of (view value.now)) }
@@ -58,7 +62,7 @@ fn binary(value: &Value) -> Result<AExpr, Fault>
     Ok(AExpr::BinaryExpr { left, op, right })
 }
 
-/// The expression of an entry.
+/// The expression of an entry, by its `op`.
 #[tactic(auto, unfolding(crate::specs::Nodes::expr_of))]
 pub fn expr(alloc: Global, value: &Value) -> Result<AExpr, Fault>
     ensures { Gives result (expr_of (view value.now)) }

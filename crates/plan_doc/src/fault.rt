@@ -9,6 +9,7 @@ use std::alloc::AllocError;
 pub enum Fault {
     /// The value is not of the form.
     Form,
+    /// There was not enough memory.
     Memory,
 }
 

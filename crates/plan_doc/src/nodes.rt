@@ -15,6 +15,7 @@ use plan_ir::{FileInfo, FileScan, IR, ScanSources};
 use serde_json::Value;
 use std::alloc::Global;
 
+/// The filter of an entry.
 #[tactic(auto, unfolding(crate::specs::Nodes::filter_of))]
 fn filter(alloc: Global, value: &Value) -> Result<IR, Fault>
     ensures { Gives result (filter_of (view value.now)) }
@@ -25,6 +26,7 @@ fn filter(alloc: Global, value: &Value) -> Result<IR, Fault>
     Ok(IR::Filter { input, predicate })
 }
 
+/// The projection of an entry.
 #[tactic(auto, unfolding(crate::specs::Nodes::simple_projection_of))]
 fn simple_projection(alloc: Global, value: &Value) -> Result<IR, Fault>
     ensures { Gives result (simple_projection_of (view value.now)) }
@@ -35,6 +37,7 @@ fn simple_projection(alloc: Global, value: &Value) -> Result<IR, Fault>
     Ok(IR::SimpleProjection { input, columns })
 }
 
+/// The file format of a name.
 #[tactic(auto, unfolding(crate::specs::Nodes::kind_of))]
 fn kind(value: &Value) -> Result<FileScan, Fault>
     ensures { Gives result (kind_of (view value.now)) }
@@ -45,6 +48,7 @@ fn kind(value: &Value) -> Result<FileScan, Fault>
     }
 }
 
+/// The sources of a scan: the paths of an object.
 #[tactic(auto, unfolding(crate::specs::Nodes::sources_of))]
 fn sources(alloc: Global, value: &Value) -> Result<ScanSources, Fault>
     ensures { Gives result (sources_of (view value.now)) }
@@ -54,6 +58,7 @@ fn sources(alloc: Global, value: &Value) -> Result<ScanSources, Fault>
     Ok(ScanSources::Paths(paths))
 }
 
+/// The columns of a scan's files, from the object of the scan.
 #[tactic(auto, unfolding(crate::specs::Nodes::file_info_of))]
 fn file_info(alloc: Global, object: &Value) -> Result<FileInfo, Fault>
     ensures { Gives result (file_info_of (view object.now)) }
@@ -66,6 +71,7 @@ fn file_info(alloc: Global, object: &Value) -> Result<FileInfo, Fault>
     })
 }
 
+/// The options of a scan, from the object of the scan; those that a document can't say are the default ones.
 #[tactic(auto, unfolding(crate::specs::Nodes::file_options_of))]
 fn file_options(alloc: Global, object: &Value) -> Result<FileScanOptions, Fault>
     ensures { Gives result (file_options_of (view object.now)) }
@@ -79,6 +85,7 @@ fn file_options(alloc: Global, object: &Value) -> Result<FileScanOptions, Fault>
     })
 }
 
+/// An object with the keys of a scan and no other.
 #[tactic(auto, unfolding(crate::specs::Nodes::scan_keys))]
 fn scan_object(value: &Value) -> Result<&Value, Fault>
     ensures { Shows (λ v. view v.now) result (object_of scan_keys (view value.now)) }
@@ -103,6 +110,7 @@ fn scan_object(value: &Value) -> Result<&Value, Fault>
     )
 }
 
+/// The scan of an entry.
 #[tactic(auto, unfolding(crate::specs::Nodes::scan_of))]
 fn scan(alloc: Global, value: &Value) -> Result<IR, Fault>
     ensures { Gives result (scan_of (view value.now)) }
@@ -125,7 +133,7 @@ fn scan(alloc: Global, value: &Value) -> Result<IR, Fault>
     })
 }
 
-/// The node of an entry.
+/// The node of an entry, by its `op`.
 #[tactic(auto, unfolding(crate::specs::Nodes::node_of))]
 pub fn node(alloc: Global, value: &Value) -> Result<IR, Fault>
     ensures { Gives result (node_of (view value.now)) }

@@ -12,13 +12,14 @@ use plan_ir::{ExprIR, OutputName};
 use serde_json::Value;
 use std::alloc::Global;
 
-/// The value under a key.
+/// The value under a key of an object; `Form` where the value is no object or lacks the key.
 pub fn field<'a>(value: &'a Value, key: &str) -> Result<&'a Value, Fault>
     ensures { Shows (λ v. view v.now) result (get key.now (view value.now)) }
 {
     value.get(key).ok_or(Fault::Form)
 }
 
+/// How many members an object has.
 #[tactic(auto, using(crate::proofs::EntryLemmas::members_len_view))]
 fn member_count(value: &Value) -> Result<usize, Fault>
     ensures { Gives result (count_of (view value.now)) }
@@ -29,6 +30,7 @@ fn member_count(value: &Value) -> Result<usize, Fault>
     }
 }
 
+/// Whether a value has each of these keys; it may have others.
 fn has_keys(value: &Value, keys: &[&str]) -> bool
     ensures { result ≡ has_keys_of (map (λ k. k.now) keys.now) (view value.now) }
 {
@@ -38,7 +40,7 @@ fn has_keys(value: &Value, keys: &[&str]) -> bool
     }
 }
 
-/// An object with these keys and no other.
+/// The value itself, where it is an object with these keys and no other; else `Form`. No key is given twice.
 #[tactic(auto, unfolding(crate::specs::Parts::object_of))]
 pub fn object<'a>(value: &'a Value, keys: &[&str]) -> Result<&'a Value, Fault>
     ensures { Shows (λ v. view v.now) result (object_of (map (λ k. k.now) keys.now) (view value.now)) }
@@ -72,7 +74,7 @@ pub fn number(value: &Value) -> Result<u32, Fault>
     Ok(number as u32)
 }
 
-/// The entry of a number.
+/// The number of a node or an expression; whether such an entry is there isn't asked.
 #[tactic(auto, unfolding(crate::specs::Parts::link_of))]
 pub fn link(value: &Value) -> Result<Node, Fault>
     ensures { Gives result (link_of (view value.now)) }
@@ -124,6 +126,7 @@ pub fn entries(value: &Value) -> Result<&[Value], Fault>
     }
 }
 
+/// The entries of an array of two.
 #[tactic(auto, unfolding(crate::specs::Parts::two_of))]
 fn two(value: &Value) -> Result<(&Value, &Value), Fault>
     ensures { Shows (λ p. (view p.0.now, view p.1.now)) result (two_of (view value.now)) }
@@ -134,6 +137,7 @@ fn two(value: &Value) -> Result<(&Value, &Value), Fault>
     }
 }
 
+/// The entries of an array of three.
 #[tactic(auto, unfolding(crate::specs::Parts::three_of))]
 fn three(value: &Value) -> Result<(&Value, &Value, &Value), Fault>
     ensures { Shows (λ p. (view p.0.now, view p.1.now, view p.2.now)) result
@@ -167,6 +171,7 @@ pub fn data_type(value: &Value) -> Result<DataType, Fault>
     }
 }
 
+/// The name and the type of a pair.
 #[tactic(auto, unfolding(crate::specs::Parts::column_of))]
 fn column(alloc: Global, value: &Value) -> Result<(PlSmallStr, DataType), Fault>
     ensures { Gives result (column_of (view value.now)) }

@@ -1,3 +1,4 @@
+-- The lemmas of this crate.
 pub mod ExprLemmas
 pub mod PlanLemmas
 pub mod NumberingLemmas

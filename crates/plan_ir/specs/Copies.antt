@@ -11,8 +11,7 @@ use Rattle.plan_ir.specs.declared.ir.IR.{IR}
 use Rattle.plan_ir.specs.Parts.{StandsPlan}
 use Rattle.plan_ir.specs.Plans.{plans_at, bare}
 
--- the same plan on its own: its nodes, and the expressions of its nodes, are numbered from 0 in walk order, and its
--- arenas hold nothing else
+-- the same plan on its own: nodes and their expressions numbered from 0 in walk order, and no other entries
 pub record IsRenumbered (lp : List IR) (ex : List AExpr) (root : Node) (copy : PlanCopy) : Type 0 where
   pub nodes : Trees IR
   pub exprs : Trees AExpr

@@ -1,3 +1,4 @@
+-- The definitions that contracts cite.
 pub mod Parts
 pub mod Plans
 pub mod Moved

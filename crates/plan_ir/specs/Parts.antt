@@ -84,7 +84,7 @@ pub record StandsPlan (lp : List IR) (ex : List AExpr) (n : Node) (t : Trees IR)
   pub nodes : StandsOnce plan_shape lp (n ∷ []) t
   pub exprs : StandsOnce expr_shape ex (roots_in t) e
 
--- a plan stands at a number, in two arenas
+-- a plan stands at a number: a tree of nodes, and the trees of their expressions
 pub record IsPlan (lp : List IR) (ex : List AExpr) (n : Node) : Type 0 where
   pub nodes : Trees IR
   pub exprs : Trees AExpr

@@ -42,7 +42,7 @@ pub enum Operator {
 pub enum LiteralValue {
     /// No value, of a type.
     Null(PlainType),
-    /// A whole number.
+    /// A whole number of 64 signed bits.
     Int64(i64),
     /// A text.
     String(PlSmallStr),
@@ -66,16 +66,19 @@ impl TryClone for LiteralValue {
 /// An expression; it names the expressions that it is made of by their numbers.
 #[derive(Drop, PartialEq, Eq, Debug)]
 pub enum AExpr {
-    /// The column of this name.
+    /// The values of the column of this name.
     Column(PlSmallStr),
-    /// A value that is written out.
+    /// One value, the same for every row.
     Literal(LiteralValue),
-    /// An expression under another name.
+    /// The expression of this number, under another name.
     Alias(Node, PlSmallStr),
-    /// An operator over two expressions, row by row.
+    /// What the operator gives for the two sides, row by row.
     BinaryExpr {
+        /// The number of the left side.
         left: Node,
+        /// What is done with the sides.
         op: Operator,
+        /// The number of the right side.
         right: Node,
     },
 }
@@ -100,6 +103,7 @@ impl TryClone for AExpr {
 /// The name under which an expression is put out, and where it comes from.
 #[derive(Drop, PartialEq, Eq, Debug)]
 pub enum OutputName {
+    /// No name; no valid plan has an expression without one.
     None,
     /// The name of a literal that decides.
     LiteralLhs(PlSmallStr),
@@ -125,7 +129,9 @@ impl TryClone for OutputName {
 /// The number of an expression, with its output name.
 #[derive(Drop, PartialEq, Eq, Debug)]
 pub struct ExprIR {
+    /// The number of the expression.
     pub node: Node,
+    /// The name under which it is put out.
     pub output_name: OutputName,
 }
 

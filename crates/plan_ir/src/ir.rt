@@ -11,48 +11,72 @@ use std::alloc::{AllocError, Global};
 pub enum IR {
     /// The rows from a first one on, as many as there are up to `len`. An offset below zero counts from the end.
     Slice {
+        /// The number of the node whose rows are cut.
         input: Node,
+        /// The first row that is kept, counted from 0, or below zero from the end.
         offset: i64,
+        /// How many rows are kept at most.
         len: u32,
     },
     /// The rows for which the predicate is true.
     Filter {
+        /// The number of the node whose rows are filtered.
         input: Node,
+        /// A Boolean expression over the columns of the input.
         predicate: ExprIR,
     },
     /// The rows of files, one source after another.
     Scan {
+        /// The files, in order.
         sources: ScanSources,
+        /// The columns of the files.
         file_info: FileInfo,
+        /// Which rows are put out; all of them where it is absent.
         predicate: Option<ExprIR>,
+        /// The columns that are put out, in order; all columns of the files where it is absent.
         output_schema: Option<Schema>,
+        /// The format of the files.
         scan_type: FileScan,
+        /// What is read of the files, and how.
         file_options: FileScanOptions,
     },
     /// The columns of a frame that is handed in under a number; without a number the frame without rows and columns.
     DataFrameScan {
+        /// The number of the frame; None is the frame without rows and columns.
         df: Option<u32>,
+        /// The columns of the frame.
         schema: Schema,
+        /// The columns that are put out, in order; all columns of the frame where it is absent.
         output_schema: Option<Schema>,
     },
     /// Some columns of the input, in the order of `columns`.
     SimpleProjection {
+        /// The number of the node whose columns are taken.
         input: Node,
+        /// Columns of the input, with the types that they have there.
         columns: Schema,
     },
     /// A column for each expression, and no others; `schema` lists them. It has one row where all are scalar.
     Select {
+        /// The number of the node whose columns the expressions read.
         input: Node,
+        /// The expressions, in the order of their columns.
         expr: Items<ExprIR>,
+        /// The columns of the node, in order.
         schema: Schema,
+        /// How the expressions are evaluated.
         options: ProjectionOptions,
     },
     /// The columns of the input, and one for each expression: in the place of the input's column of its name, or last.
     /// `schema` lists them all.
     HStack {
+        /// The number of the node whose columns the expressions read, and stand beside.
         input: Node,
+        /// The expressions, in order; no two of one name.
         exprs: Items<ExprIR>,
+        /// The columns of the node, in order.
         schema: Schema,
+        /// How the expressions are evaluated.
         options: ProjectionOptions,
     },
     /// No node: what `take` leaves behind.

@@ -7,12 +7,14 @@ use std::alloc::{AllocError, Global};
 /// The format of the files of a scan.
 #[derive(Clone, Copy, PartialEq, Eq, Hash, Debug)]
 pub enum FileScan {
+    /// Parquet files.
     Parquet,
 }
 
 /// Where a scan reads from, in order.
 #[derive(Drop, PartialEq, Eq, Debug)]
 pub enum ScanSources {
+    /// The paths of files, in order.
     Paths(Items<PlSmallStr>),
 }
 
@@ -29,7 +31,9 @@ impl TryClone for ScanSources {
 /// The columns of the files of a scan: those that it can put out, and those that a reader finds.
 #[derive(Drop, PartialEq, Eq, Debug)]
 pub struct FileInfo {
+    /// The columns that the files can put out, in order.
     pub schema: Schema,
+    /// The columns that a reader finds in the files, in order; absent where none has looked.
     pub reader_schema: Option<Schema>,
 }
 

@@ -1,3 +1,4 @@
+-- The lemmas of this crate.
 mod ExprSteps
 mod CheckLemmas
 mod MadeLemmas

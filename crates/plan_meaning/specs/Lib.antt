@@ -1,3 +1,4 @@
+-- The definitions that contracts cite.
 pub mod Exprs
 pub mod Typing
 pub mod Seen

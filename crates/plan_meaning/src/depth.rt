@@ -16,7 +16,9 @@ use std::alloc::{AllocError, Global};
 /// of one node has one level.
 #[derive(Clone, Copy, PartialEq, Eq, Debug)]
 pub struct Depth {
+    /// The levels of the plan, at least 1.
     pub plan: usize,
+    /// The levels of its deepest expression.
     pub exprs: usize,
 }
 

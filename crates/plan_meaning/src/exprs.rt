@@ -112,9 +112,9 @@ pub fn expr_type(node: Node, ex: &Arena<AExpr>, schema: &Schema) -> Option<DataT
 /// What names an expression.
 #[derive(Clone, Copy)]
 pub enum Naming<'a> {
-    /// The column of this name.
+    /// A column, by its own name.
     Column(&'a str),
-    /// A literal.
+    /// A literal, by the name `literal`.
     Literal,
     /// An alias of this name.
     Alias(&'a str),

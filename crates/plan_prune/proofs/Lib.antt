@@ -1,3 +1,4 @@
+-- The lemmas of this crate.
 pub mod GrowLemmas
 pub mod ListSteps
 pub mod PruneLemmas

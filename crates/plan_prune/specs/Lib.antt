@@ -1,3 +1,4 @@
+-- The definitions that contracts cite.
 pub mod Pruned
 pub mod Prunes
 pub mod Scans

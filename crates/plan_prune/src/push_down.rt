@@ -65,7 +65,7 @@ impl ProjectionPushDown {
         Ok(())
     }
 
-    // Prunes the plan at `node` to the asked names.
+    /// Prunes the plan at `node` to the asked names; no names stand for every column.
     fn push_down(
         &self,
         alloc: Global,

@@ -7,10 +7,14 @@ ghost use Rattle.plan_stream.specs.declared.reading.ReadFault.TheVariants.{Memor
 use crate::{Failed, Source};
 use std::alloc::{AllocError, AllocFailed, Global};
 
+/// Why a source wasn't read to its end.
 #[derive(Clone, Copy, Debug, PartialEq, Eq)]
 pub enum ReadFault {
+    /// The source has more bytes than the limit.
     Limit,
+    /// A read failed.
     Failed,
+    /// There was not enough memory for the bytes.
     Memory,
 }
 
@@ -30,9 +34,10 @@ impl From<AllocError> for ReadFault {
     }
 }
 
+/// How many bytes a read asks for at most.
 const BUFFER: usize = 4096;
 
-/// All that is left, which is at most `limit` bytes.
+/// All bytes that are left, which are at most `limit`. On a fault some of them have been taken from the source.
 pub fn read_all<S: Source>(
     alloc: Global,
     source: &mut S,

@@ -5,9 +5,11 @@ ghost use Rattle.std.specs.Io.{ReadsAtMost};
 ghost use Rattle.std.specs.Io.KnownBytes.{ReadConsumes, WriteAppends, Keeps};
 ghost use Rattle.plan_stream.specs.Causes.{HasCause};
 
+/// A read, a write or a flush failed; the count of faults says so too.
 #[derive(Clone, Copy, Debug, PartialEq, Eq)]
 pub struct Failed;
 
+/// What bytes are read from.
 pub trait Source {
     /// The bytes left, where the source tells them.
     ghost left: { Self → Option (List ℕ) };
@@ -15,6 +17,7 @@ pub trait Source {
     /// How often it has failed; a count at its last value stays there.
     ghost faults: { Self → ℕ };
 
+    /// Puts the next bytes at the front of `buf` and gives how many; 0 says that the source is at its end.
     fn read(&mut self, buf: &mut [u8]) -> Result<usize, Failed>
         requires { 0 < length buf.old }
         ensures bound { ReadsAtMost result buf.new }
@@ -22,6 +25,7 @@ pub trait Source {
         ensures cause { HasCause (faults self.old) (faults self.new) result };
 }
 
+/// What bytes are written to.
 pub trait Sink {
     /// The bytes held, where the sink tells them.
     ghost held: { Self → Option (List ℕ) };
@@ -29,8 +33,10 @@ pub trait Sink {
     /// Nothing was written since the last flush that succeeded.
     ghost clean: { Self → Bool };
 
+    /// How often it has failed; a count at its last value stays there.
     ghost faults: { Self → ℕ };
 
+    /// Takes bytes from the front of `piece` and gives how many, at least one.
     fn write(&mut self, piece: &[u8]) -> Result<usize, Failed>
         requires { 0 < length piece.now }
         ensures bound { IfOk result (λ n. (0 < n) × (n ≤ length piece.now)) }
@@ -38,6 +44,7 @@ pub trait Sink {
         ensures dirty { OnOk result (clean self.new ≡ false) }
         ensures cause { HasCause (faults self.old) (faults self.new) result };
 
+    /// Passes on all that was written.
     fn flush(&mut self) -> Result<(), Failed>
         ensures bytes { Keeps (held self.old) (held self.new) }
         ensures clean { OnOk result (clean self.new ≡ true) }

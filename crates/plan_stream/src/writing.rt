@@ -5,6 +5,7 @@ ghost use Rattle.plan_stream.specs.Texts.{Leaves};
 
 use crate::{Failed, Sink};
 
+/// Why a text isn't known to be written.
 #[derive(Clone, Copy, Debug, PartialEq, Eq)]
 pub enum WriteFault {
     /// A write failed.
@@ -13,7 +14,7 @@ pub enum WriteFault {
     Unflushed,
 }
 
-/// Each write is offered all that is left of the text, and one flush follows.
+/// Writes a text whole and flushes the sink. Each write is offered all that is left of the text, and one flush follows.
 pub fn write_text<K: Sink>(text: &[u8], sink: &mut K) -> Result<(), WriteFault>
     ensures leaves { Leaves (K.held sink.old) (K.held sink.new) (K.clean sink.new) text.now result }
     ensures cause { HasCause (K.faults sink.old) (K.faults sink.new) result }

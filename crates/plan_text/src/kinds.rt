@@ -5,6 +5,7 @@ ghost use Rattle.plan_text.specs.Kinds.{type_text, operator_text, format_text, f
 use plan_core::{At, DataType, PolarsError};
 use plan_ir::{FileScan, Operator};
 
+/// The name of a type in a document: `Int64`, `String` or `Boolean`.
 pub fn type_name(data_type: DataType) -> &'static str
     ensures { result.now ≡ type_text data_type }
 {
@@ -15,6 +16,7 @@ pub fn type_name(data_type: DataType) -> &'static str
     }
 }
 
+/// The name of an operator in a document, as `GtEq`.
 pub fn operator_name(operator: Operator) -> &'static str
     ensures { result.now ≡ operator_text operator }
 {
@@ -28,6 +30,7 @@ pub fn operator_name(operator: Operator) -> &'static str
     }
 }
 
+/// The name of a file format in a document: the `kind` of a scan.
 pub fn format_name(format: FileScan) -> &'static str
     ensures { result.now ≡ format_text format }
 {
@@ -36,6 +39,7 @@ pub fn format_name(format: FileScan) -> &'static str
     }
 }
 
+/// The `kind` of an error in its text.
 pub fn fault_name(error: &PolarsError) -> &'static str
     ensures { result.now ≡ fault_text error.now }
 {
@@ -49,6 +53,7 @@ pub fn fault_name(error: &PolarsError) -> &'static str
     }
 }
 
+/// The node and the place of an error; for `OutOfMemory` no node and place 0.
 pub fn place(error: &PolarsError) -> At
     ensures { result ≡ place_of error.now }
 {

@@ -11,12 +11,14 @@ use plan_ir::{ExprIR, OutputName, ScanSources};
 use serde_json::{Value, json};
 use std::alloc::{AllocError, Global};
 
+/// The pair of a column: its name and the name of its type.
 fn field(alloc: Global, name: &str, data_type: DataType) -> Result<Value, AllocError>
     ensures { IfOk result (λ v. view v ≡ field_data (name.now, data_type)) }
 {
     json!(in alloc; [name, type_name(data_type)])
 }
 
+/// The array of the columns of a schema, in order, each a pair of its name and its type.
 pub fn columns(alloc: Global, schema: &Schema) -> Result<Value, AllocError>
     ensures { IfOk result (λ v. view v ≡ columns_data schema.now) }
 {
@@ -27,6 +29,7 @@ pub fn columns(alloc: Global, schema: &Schema) -> Result<Value, AllocError>
     Ok(Value::Array(written))
 }
 
+/// The array of names, in order.
 pub fn names(alloc: Global, names: &Items<PlSmallStr>) -> Result<Value, AllocError>
     ensures { IfOk result (λ v. view v ≡ names_data names.now) }
 {
@@ -36,6 +39,7 @@ pub fn names(alloc: Global, names: &Items<PlSmallStr>) -> Result<Value, AllocErr
     Ok(Value::Array(written))
 }
 
+/// Where an output name comes from: `none`, `lit`, `col` or `alias`.
 fn origin(name: &OutputName) -> &'static str
     ensures { result.now ≡ origin_text name.now }
 {
@@ -47,6 +51,7 @@ fn origin(name: &OutputName) -> &'static str
     }
 }
 
+/// An output name's text, empty where there is none.
 fn name_of(name: &OutputName) -> &str
     ensures { result.now ≡ name_text name.now }
 {
@@ -58,6 +63,7 @@ fn name_of(name: &OutputName) -> &str
     }
 }
 
+/// The array of three that an output expression is: its number, where its name comes from, and its name.
 #[tactic(auto, unfolding(crate::specs::Written::output_data))]
 pub fn output(alloc: Global, expr: &ExprIR) -> Result<Value, AllocError>
     ensures { IfOk result (λ v. view v ≡ output_data expr.now) }
@@ -66,6 +72,7 @@ pub fn output(alloc: Global, expr: &ExprIR) -> Result<Value, AllocError>
     json!(in alloc; [expr.node.0, origin(name), name_of(name)])
 }
 
+/// The number of a node, or null.
 pub fn optional_link(link: Option<Node>) -> Value
     ensures { view result ≡ nullable_data link_data link }
 {
@@ -75,6 +82,7 @@ pub fn optional_link(link: Option<Node>) -> Value
     }
 }
 
+/// The array of the columns of a schema, or null.
 pub fn optional_columns(alloc: Global, given: &Option<Schema>) -> Result<Value, AllocError>
     ensures { IfOk result (λ v. view v ≡ nullable_data columns_data given.now) }
 {
@@ -84,6 +92,7 @@ pub fn optional_columns(alloc: Global, given: &Option<Schema>) -> Result<Value, 
     }
 }
 
+/// The array of names, or null.
 pub fn optional_names(alloc: Global, given: &Option<Items<PlSmallStr>>) -> Result<Value, AllocError>
     ensures { IfOk result (λ v. view v ≡ nullable_data names_data given.now) }
 {
@@ -93,6 +102,7 @@ pub fn optional_names(alloc: Global, given: &Option<Items<PlSmallStr>>) -> Resul
     }
 }
 
+/// A name, or null.
 pub fn optional_name(alloc: Global, given: &Option<PlSmallStr>) -> Result<Value, AllocError>
     ensures { IfOk result (λ v. view v ≡ nullable_data string given.now) }
 {
@@ -102,6 +112,7 @@ pub fn optional_name(alloc: Global, given: &Option<PlSmallStr>) -> Result<Value,
     }
 }
 
+/// The array of three that an output expression is, or null.
 pub fn optional_output(alloc: Global, given: &Option<ExprIR>) -> Result<Value, AllocError>
     ensures { IfOk result (λ v. view v ≡ nullable_data output_data given.now) }
 {
@@ -111,6 +122,7 @@ pub fn optional_output(alloc: Global, given: &Option<ExprIR>) -> Result<Value, A
     }
 }
 
+/// The pair of the name of the column that numbers the rows and the number of the first row, or null.
 pub fn optional_row_index(alloc: Global, given: &Option<RowIndex>) -> Result<Value, AllocError>
     ensures { IfOk result (λ v. view v ≡ nullable_data row_index_data given.now) }
 {
@@ -120,6 +132,7 @@ pub fn optional_row_index(alloc: Global, given: &Option<RowIndex>) -> Result<Val
     }
 }
 
+/// The pair of the first row and how many rows, or null.
 pub fn optional_slice(alloc: Global, given: Option<(i64, usize)>) -> Result<Value, AllocError>
     ensures { IfOk result (λ v. view v ≡ nullable_data slice_data given) }
 {
@@ -129,6 +142,7 @@ pub fn optional_slice(alloc: Global, given: Option<(i64, usize)>) -> Result<Valu
     }
 }
 
+/// The object of what a scan reads from.
 pub fn sources(alloc: Global, given: &ScanSources) -> Result<Value, AllocError>
     ensures { IfOk result (λ v. view v ≡ sources_data given.now) }
 {

@@ -15,6 +15,7 @@ use plan_ir::{AExpr, ExprIR, FileInfo, FileScan, IR, LiteralValue, PlanCopy, Sca
 use serde_json::{Value, json};
 use std::alloc::{AllocError, Global};
 
+/// The object of an expression.
 #[tactic(auto, unfolding(crate::specs::Written::expr_data))]
 fn expr(alloc: Global, expr: &AExpr) -> Result<Value, AllocError>
     ensures { IfOk result (λ v. view v ≡ expr_data expr.now) }
@@ -33,6 +34,7 @@ fn expr(alloc: Global, expr: &AExpr) -> Result<Value, AllocError>
     }
 }
 
+/// The object of a scan.
 #[tactic(auto, unfolding(crate::specs::Written::scan_data))]
 fn scan(
     alloc: Global,
@@ -75,6 +77,7 @@ fn scan(
     object(alloc, entries)
 }
 
+/// The object of a node.
 #[tactic(auto, unfolding(crate::specs::Written::node_data))]
 fn node(alloc: Global, node: &IR) -> Result<Value, AllocError>
     ensures { IfOk result (λ v. view v ≡ node_data node.now) }
@@ -111,6 +114,7 @@ fn node(alloc: Global, node: &IR) -> Result<Value, AllocError>
     }
 }
 
+/// The array of the nodes of an arena, by their numbers.
 fn nodes(alloc: Global, arena: &Arena<IR>) -> Result<Value, AllocError>
     ensures { IfOk result (λ v. view v ≡ list_data node_data arena.now) }
 {
@@ -118,6 +122,7 @@ fn nodes(alloc: Global, arena: &Arena<IR>) -> Result<Value, AllocError>
     Ok(Value::Array(written))
 }
 
+/// The array of the expressions of an arena, by their numbers.
 fn exprs(alloc: Global, arena: &Arena<AExpr>) -> Result<Value, AllocError>
     ensures { IfOk result (λ v. view v ≡ list_data expr_data arena.now) }
 {
@@ -125,6 +130,7 @@ fn exprs(alloc: Global, arena: &Arena<AExpr>) -> Result<Value, AllocError>
     Ok(Value::Array(written))
 }
 
+/// The object of a plan: its `exprs`, its `nodes` and its `root`. Refuses for want of memory alone.
 #[tactic(auto, unfolding(crate::specs::Written::plan_data))]
 pub fn plan(alloc: Global, plan: &PlanCopy) -> Result<Value, AllocError>
     ensures { IfOk result (λ v. view v ≡ plan_data plan.now.lp plan.now.ex plan.now.root) }

@@ -39,6 +39,7 @@ fn line(alloc: Global, value: &Value) -> Result<String, AllocError>
     Ok(text)
 }
 
+/// The array of what each scan reads, from left to right, each an array of names.
 fn reads_value(alloc: Global, reads: &[Items<PlSmallStr>]) -> Result<Value, AllocError>
     ensures { IfOk result (λ v. view v ≡ list_data names_data reads.now) }
 {
@@ -46,6 +47,7 @@ fn reads_value(alloc: Global, reads: &[Items<PlSmallStr>]) -> Result<Value, Allo
     Ok(Value::Array(written))
 }
 
+/// The object of a listing: its `plan`, its `reads` and its `rows`, which are null.
 #[tactic(auto, unfolding(crate::specs::Written::listing_data))]
 fn listing(alloc: Global, plan: &PlanCopy, reads: &[Items<PlSmallStr>]) -> Result<Value, AllocError>
     ensures { IfOk result (λ v. view v
@@ -72,6 +74,7 @@ pub fn write_listing(
     line(alloc, &value)
 }
 
+/// The object of an error.
 #[tactic(auto, unfolding(crate::specs::Written::fault_data))]
 fn fault(alloc: Global, error: &PolarsError) -> Result<Value, AllocError>
     ensures { IfOk result (λ v. view v ≡ fault_data error.now) }

@@ -1,3 +1,4 @@
+-- The definitions that contracts cite.
 pub mod Statuses
 pub mod Stops
 pub mod Limits

@@ -15,6 +15,7 @@ pub enum Stop {
     Limit,
     /// The plan has this fault, which isn't want of memory.
     Fault(PolarsError),
+    /// There was not enough memory.
     OutOfMemory,
 }
 

@@ -1,3 +1,4 @@
+-- The lemmas of this crate.
 pub mod LevelLemmas
 pub mod Numbers
 pub mod SplitLemmas

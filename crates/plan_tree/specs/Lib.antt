@@ -1,3 +1,4 @@
+-- The definitions that contracts cite.
 pub mod Rose
 pub mod Stands
 pub mod Read

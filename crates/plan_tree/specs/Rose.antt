@@ -1,6 +1,7 @@
 -- Trees of any number of inputs: a label (a number, or nothing), an item, and the trees of the inputs.
 use Rattle.std.specs.Prelude.{ℕ, ◌+◌, max, List, [], ◌∷◌, ◌++◌}
 
+-- a tree, and a list of trees
 mutual
   pub data Rose (N P : Type 0) : Type 0 where
     rose : (label : N) → (item : P) → (inputs : Roses N P) → Rose N P

@@ -32,7 +32,7 @@ fn is_put_out(schema: &Schema, reads: &Option<Names>, name: &str, dtype: DataTyp
     is_column(schema, name, dtype) && is_read(reads, name)
 }
 
-/// Each column's name is one of the schema's; the first column stands at place 1.
+/// Each column's name is one of the schema's, else `SchemaFieldNotFound` at the column; the first one is at place 1.
 pub fn check_columns_known(node: Node, columns: &Schema, schema: &Schema) -> PolarsResult<()>
     ensures { Says result (first_fault node (each SchemaFieldNotFound 1 (λ c. is_known schema.now c.0) columns.now)) }
 {
@@ -46,7 +46,7 @@ pub fn check_columns_known(node: Node, columns: &Schema, schema: &Schema) -> Pol
     Ok(())
 }
 
-/// Each column is one of the schema's, with its type; the first column stands at place 1.
+/// Each column is one of the schema's, with its type, else `SchemaMismatch` at the column; the first one is at place 1.
 pub fn check_columns_typed(node: Node, columns: &Schema, schema: &Schema) -> PolarsResult<()>
     ensures { Says result (first_fault node (each SchemaMismatch 1 (is_one schema.now) columns.now)) }
 {
@@ -60,7 +60,8 @@ pub fn check_columns_typed(node: Node, columns: &Schema, schema: &Schema) -> Pol
     Ok(())
 }
 
-/// Each column is one of the schema's, with its type, and is read; the first column stands at place 1.
+/// Each column is one of the schema's, with its type, and is read, else `SchemaMismatch` at the column; the first one is
+/// at place 1.
 pub fn check_columns_read(
     node: Node,
     columns: &Schema,
@@ -79,7 +80,7 @@ pub fn check_columns_read(
     Ok(())
 }
 
-/// Each name is one of the schema's; the first name stands at a place.
+/// Each name is one of the schema's, else `SchemaFieldNotFound` at the name; the first one is at `place`.
 pub fn check_names_known(
     node: Node,
     place: usize,
@@ -96,7 +97,7 @@ pub fn check_names_known(
     Ok(())
 }
 
-/// No name is one before it; the first name stands at a place.
+/// No name is one before it, else `Duplicate` at the name; the first one is at `place`.
 pub fn check_names_new(
     alloc: Global,
     node: Node,
@@ -114,7 +115,7 @@ pub fn check_names_new(
     Ok(())
 }
 
-/// The names of a list, each once.
+/// The names of a list, each once, in the order in which they first come.
 pub fn set_of(alloc: Global, names: &[PlSmallStr]) -> Result<Names, AllocError>
     ensures { IfOk result (λ set. set ≡ with_names [] names.now) }
 {

@@ -18,7 +18,8 @@ fn is_boolean(dtype: Option<DataType>) -> bool
     matches!(dtype, Some(DataType::Boolean))
 }
 
-/// Checks a filter over the columns of its input.
+/// Checks a filter over the columns of its input. Each fault is at place 1: `SchemaFieldNotFound` where the predicate
+/// reads another column, and then `SchemaMismatch` where it isn't Boolean or isn't named as it may be.
 pub fn check_filter(
     node: Node,
     predicate: &ExprIR,

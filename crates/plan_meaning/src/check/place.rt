@@ -4,7 +4,7 @@ ghost use Rattle.plan_meaning.specs.Typing.{at as at_place};
 
 use plan_core::{At, Node};
 
-/// A place of a node. A place above the last one that can be said is said as that.
+/// A place of a node, for a fault. A place above 4294967295 is given as 4294967295.
 pub fn at(node: Node, place: usize) -> At
     ensures { result ≡ at_place node place }
 {

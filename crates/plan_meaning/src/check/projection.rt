@@ -6,7 +6,8 @@ use crate::check::columns::{check_columns_known, check_columns_typed};
 use crate::check::place::at;
 use plan_core::{Node, PolarsError, PolarsResult, Schema};
 
-/// Checks a simple projection over the columns of its input.
+/// Checks a simple projection over the columns of its input: `InvalidOperation` at place 0 where it has no columns,
+/// `SchemaFieldNotFound` at the first column that isn't there, and then `SchemaMismatch` at the first of another type.
 #[tactic(auto, using(crate::proofs::CheckLemmas::fault_append))]
 pub fn check_projection(node: Node, columns: &Schema, schema: &Schema) -> PolarsResult<()>
     ensures { Says result (first_fault node (projection_checks columns.now schema.now)) }

@@ -49,7 +49,7 @@ fn reads_of(
     }
 }
 
-/// What the scan puts out, and then what it reads, are columns of the files.
+/// What the scan puts out, and then what it reads, are columns of the files, else `SchemaFieldNotFound` at the name.
 #[tactic(auto, using(crate::proofs::CheckLemmas::fault_append), unfolding(crate::specs::Typing::scan_name_checks))]
 fn check_names(
     node: Node,
@@ -90,7 +90,8 @@ fn check_put_out_of(
     }
 }
 
-/// What the scan puts out has the files' types and is read; a scan that puts out everything reads everything.
+/// What the scan puts out has the files' types and is read, else `SchemaMismatch` at the column; a scan that puts out
+/// everything reads everything, else `SchemaMismatch` at place 0.
 #[tactic(auto, using(crate::proofs::ReadLemmas::put_out_same))]
 fn check_put_out(
     alloc: Global,
@@ -105,7 +106,7 @@ fn check_put_out(
     check_put_out_of(node, output, &reads, file)
 }
 
-/// No name that the scan reads is one before it.
+/// No name that the scan reads is one before it, else `Duplicate` at the name.
 fn check_new(
     alloc: Global,
     node: Node,
@@ -139,7 +140,8 @@ fn check_scan_columns(
     check_stored(node, stored, file)
 }
 
-/// Checks a scan.
+/// Checks a scan: `InvalidOperation` at place 0 where it has a form that isn't built; then its columns, those of its
+/// `output` from place 1 on, and after them the names that it reads.
 #[tactic(auto, unfolding(crate::specs::Typing::is_built_scan))]
 pub fn check_scan(
     alloc: Global,

@@ -35,7 +35,8 @@ fn add_names(names: &mut Names, node: Node, ex: &Arena<AExpr>) -> Result<(), All
     }
 }
 
-/// What a filter asks its input.
+/// What a filter asks its input: the asked names, and then the other names that the predicate reads; no names stand for
+/// every column, and then it asks none.
 pub fn asks(asked: Names, predicate: &ExprIR, ex: &Arena<AExpr>) -> Result<Names, AllocError>
     requires { IsExpr ex.now predicate.now.node }
     ensures { IfOk result (λ names. names ≡ asked_with asked (leaves (expr_at ex.now predicate.now.node))) }

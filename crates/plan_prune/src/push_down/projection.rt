@@ -8,7 +8,7 @@ ghost use Rattle.plan_prune.specs.Pruned.{kept as kept_of};
 use plan_core::{Names, PlSmallStr, Schema};
 use std::alloc::{AllocError, Global};
 
-/// The columns that a projection keeps.
+/// The columns that a projection keeps: those that are asked, in its own order; asked no names, all.
 pub fn keep(alloc: Global, columns: Schema, asked: &Names) -> Result<Schema, AllocError>
     ensures { IfOk result (λ kept. kept ≡ kept_of asked.now columns) }
 {
@@ -26,7 +26,7 @@ pub fn keep(alloc: Global, columns: Schema, asked: &Names) -> Result<Schema, All
     Ok(kept)
 }
 
-/// What a projection asks its input.
+/// What a projection asks its input: the names of its columns, in order.
 pub fn asks(alloc: Global, columns: &Schema) -> Result<Names, AllocError>
     ensures { IfOk result (λ names. names ≡ with_names [] (names_of columns.now)) }
 {

@@ -79,7 +79,8 @@ fn output(alloc: Global, scan: &IR) -> Result<Schema, AllocError>
     }
 }
 
-/// Puts the pruned scan at `node`, with the projection on top or without it.
+/// Puts the pruned scan at `node`, with the projection on top or without it. Refuses for want of memory alone, and then
+/// nothing is known of what stands at `node`.
 pub fn prune(
     alloc: Global,
     node: Node,
