@@ -1,5 +1,5 @@
 //! A source and a sink in memory.
-ghost use Rattle.std.specs.Prelude.{◌≡◌, ◌<◌, ◌≤◌, [], IfOk, OnOk, true, false, Some, length, IsOk};
+ghost use Rattle.std.specs.Prelude.{◌≡◌, ◌<◌, ◌≤◌, [], IfOk, OnOk, OnErr, true, false, Some, length, min, ◌-◌, IsOk};
 ghost use Rattle.std.specs.Io.{ReadsAtMost};
 ghost use Rattle.std.specs.Io.KnownBytes.{ReadConsumes, WriteAppends, Keeps};
 ghost use Rattle.plan_stream.specs.Causes.{HasCause};
@@ -48,7 +48,8 @@ impl Source for MemorySource<'_> {
         ensures bound { ReadsAtMost result buf.new }
         ensures bytes { ReadConsumes (Some self.old.left) (Some self.new.left) result buf.new }
         ensures cause { HasCause 0 0 result }
-        ensures piece { IfOk result (λ n. n ≤ self.old.piece) }
+        ensures count { IfOk result (λ n. n ≡ min (min self.old.piece (length buf.old)) (length self.old.left)) }
+        ensures same_piece { self.new.piece ≡ self.old.piece }
         ensures never { IsOk result }
     {
         let count = self.piece.min(buf.len()).min(self.bytes.len());
@@ -114,7 +115,9 @@ impl Sink for MemorySink {
         ensures bound { IfOk result (λ n. (0 < n) × (n ≤ length piece.now)) }
         ensures bytes { WriteAppends (Some self.old.held) (Some self.new.held) result piece.now }
         ensures dirty { OnOk result (self.new.clean ≡ false) }
+        ensures unwritten { OnErr result (self.new.clean ≡ self.old.clean) }
         ensures cause { HasCause self.old.faults self.new.faults result }
+        ensures count { IfOk result (λ n. n ≡ min (length piece.now) (self.old.room - length self.old.held)) }
         ensures room { length self.old.held < self.old.room → IsOk result }
         ensures same_room { self.new.room ≡ self.old.room }
     {
@@ -131,6 +134,7 @@ impl Sink for MemorySink {
     fn flush(&mut self) -> Result<(), Failed>
         ensures bytes { Keeps (Some self.old.held) (Some self.new.held) }
         ensures clean { OnOk result (self.new.clean ≡ true) }
+        ensures unflushed { OnErr result (self.new.clean ≡ self.old.clean) }
         ensures cause { HasCause self.old.faults self.new.faults result }
         ensures never { IsOk result }
         ensures same_room { self.new.room ≡ self.old.room }

@@ -50,6 +50,7 @@ pub fn read_all<S: Source>(
         → IfSome (S.left source.old) (λ all. limit < length all) }
     ensures failed { IsErrOf result ReadFault.Failed
         → Rose (S.faults source.old) (S.faults source.new) }
+    ensures unfailed { (IsErrOf result ReadFault.Failed → ⊥) → S.faults source.new ≡ S.faults source.old }
     ensures later { S.faults source.old ≤ S.faults source.new }
 {
     let mut bytes = Vec::new(alloc);

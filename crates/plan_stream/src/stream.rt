@@ -42,11 +42,13 @@ pub trait Sink {
         ensures bound { IfOk result (λ n. (0 < n) × (n ≤ length piece.now)) }
         ensures bytes { WriteAppends (held self.old) (held self.new) result piece.now }
         ensures dirty { OnOk result (clean self.new ≡ false) }
+        ensures unwritten { OnErr result (clean self.new ≡ clean self.old) }
         ensures cause { HasCause (faults self.old) (faults self.new) result };
 
     /// Passes on all that was written.
     fn flush(&mut self) -> Result<(), Failed>
         ensures bytes { Keeps (held self.old) (held self.new) }
         ensures clean { OnOk result (clean self.new ≡ true) }
+        ensures unflushed { OnErr result (clean self.new ≡ clean self.old) }
         ensures cause { HasCause (faults self.old) (faults self.new) result };
 }

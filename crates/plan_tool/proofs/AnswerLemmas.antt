@@ -4,7 +4,7 @@ use Rattle.std.specs.Prelude.{IfSome, IsTrue, ◌↔◌}
 use Rattle.std.specs.Str.{bytes_eq}
 use Rattle.std.proofs.lemmas.Slice.Eq.{bytes_eq-Decides}
 use Rattle.std.specs.declared.alloc.Global.{Global}
-use Rattle.std.specs.Io.KnownBytes.{Appends, Keeps, IsAtEnd}
+use Rattle.std.specs.Io.KnownBytes.{Appends, Keeps}
 use Rattle.plan_core.specs.declared.error.PolarsError.{PolarsError}
 use Rattle.plan_doc.specs.declared.document.Document.{Document}
 use Rattle.plan_doc.specs.Document.{doc_of, document}
@@ -25,7 +25,7 @@ use Rattle.plan_meaning.proofs.Refining.{refines_refl}
 use Rattle.plan_meaning.specs.Scans.{scans}
 use Rattle.plan_prune.specs.Reads.{ReadWithin}
 use Rattle.plan_tool.specs.Listings.{IsAnswer, pushdown_bit, SaysOf, SaysOfDocument, Lists, Refuses}
-use Rattle.plan_tool.specs.Causes.{Call, Comes, IsCommand, Finished, Broke, Finishes, Listed, Told, Cut}
+use Rattle.plan_tool.specs.Causes.{Call, Comes, IsCommand, IsReadWhole, Finished, Broke, Finishes, Listed, Told, Cut}
 
 -- what is said of a document is said of its bytes
 pub said : (d : Document) (bytes : List ℕ) (r : Result (String Global) Stop) → doc_of bytes ≡ document d → SaysOfDocument r d → SaysOf r bytes
@@ -54,9 +54,9 @@ same_word words w text b is eq = go b refl
     )
 
 -- the text of a fault was written, or a front of it
-pub told : (limit : ℕ) (c : Call) (bytes text : List ℕ) (fault : PolarsError) (result : Status) → IsCommand c.words → IsAtEnd c.left → IfSome c.given (λ all. bytes ≡ all) → length bytes ≤ limit → Refuses bytes fault → text ≡ error_text fault → Finishes text c.held c.holds c.clean c.write_faults c.write_faults_now answers.Refused result → Comes limit c result
+pub told : (limit : ℕ) (c : Call) (bytes text : List ℕ) (fault : PolarsError) (result : Status) → IsCommand c.words → IsReadWhole c → IfSome c.given (λ all. bytes ≡ all) → length bytes ≤ limit → Refuses bytes fault → text ≡ error_text fault → Finishes text c.held c.holds c.clean c.write_faults c.write_faults_now answers.Refused result → Comes limit c result
 told limit c bytes text fault result command end whole small refuses is (inl f) =
-    subst (Comes limit c) (sym f.is) (command, f.flushed, end, some c.given whole)
+    subst (Comes limit c) (sym f.is) (command, (f.flushed, f.unfailed), end, some c.given whole)
   where
     some : (o : Option (List ℕ)) → IfSome o (λ all. bytes ≡ all) → IfSome o (Told limit c)
     some None h = tt
@@ -69,9 +69,9 @@ told limit c bytes text fault result command end whole small refuses is (inr b) 
     some (Some all) h = subst (Cut limit c) h (record { small = small; text = text; says = inr (fault, refuses, is); written = b.written })
 
 -- a listing was written, or a front of it
-pub listed : (limit : ℕ) (c : Call) (bytes text : List ℕ) (result : Status) → IsCommand c.words → IsAtEnd c.left → IfSome c.given (λ all. bytes ≡ all) → length bytes ≤ limit → Lists bytes text → Finishes text c.held c.holds c.clean c.write_faults c.write_faults_now answers.Done result → Comes limit c result
+pub listed : (limit : ℕ) (c : Call) (bytes text : List ℕ) (result : Status) → IsCommand c.words → IsReadWhole c → IfSome c.given (λ all. bytes ≡ all) → length bytes ≤ limit → Lists bytes text → Finishes text c.held c.holds c.clean c.write_faults c.write_faults_now answers.Done result → Comes limit c result
 listed limit c bytes text result command end whole small lists (inl f) =
-    subst (Comes limit c) (sym f.is) (command, f.flushed, end, some c.given whole)
+    subst (Comes limit c) (sym f.is) (command, (f.flushed, f.unfailed), end, some c.given whole)
   where
     some : (o : Option (List ℕ)) → IfSome o (λ all. bytes ≡ all) → IfSome o (Listed limit c)
     some None h = tt

@@ -28,6 +28,22 @@ pub record Call : Type 0 where
 abbrev pub IsCommand : List (List ℕ) → Type 0
 IsCommand words = words ≡ codes "optimize" ∷ []
 
+-- no byte was read, and no read failed
+abbrev pub IsUnread : Call → Type 0
+IsUnread c = Keeps c.given c.left × (c.read_faults_now ≡ c.read_faults)
+
+-- the source was read to its end, and no read failed
+abbrev pub IsReadWhole : Call → Type 0
+IsReadWhole c = IsAtEnd c.left × (c.read_faults_now ≡ c.read_faults)
+
+-- no byte was written, and no write failed
+abbrev pub IsUnwritten : Call → Type 0
+IsUnwritten c = Keeps c.held c.holds × (c.write_faults_now ≡ c.write_faults)
+
+-- no write failed, and the sink was flushed
+abbrev pub IsFlushed : Call → Type 0
+IsFlushed c = (c.clean ≡ true) × (c.write_faults_now ≡ c.write_faults)
+
 -- the bytes stand for a document whose plan has no fault, and its listing was written whole
 pub record Listed (limit : ℕ) (c : Call) (bytes : List ℕ) : Type 0 where
   pub small : length bytes ≤ limit
@@ -51,19 +67,20 @@ pub record Cut (limit : ℕ) (c : Call) (bytes : List ℕ) : Type 0 where
 
 -- when each answer comes, and what it leaves; the bytes are spoken of where the source tells them
 abbrev pub Comes : ℕ → Call → Status → Type 0
-Comes limit c answers.Done = IsCommand c.words × (c.clean ≡ true) × IsAtEnd c.left × IfSome c.given (Listed limit c)
-Comes limit c answers.Usage = (IsCommand c.words → ⊥) × Keeps c.held c.holds
-Comes limit c answers.NotJson = IsCommand c.words × Keeps c.held c.holds × IfSome c.given (λ bytes. (length bytes ≤ limit) × (doc_of bytes ≡ not_json))
-Comes limit c answers.Form = IsCommand c.words × Keeps c.held c.holds × IfSome c.given (λ bytes. (length bytes ≤ limit) × (doc_of bytes ≡ form))
-Comes limit c answers.Refused = IsCommand c.words × (c.clean ≡ true) × IsAtEnd c.left × IfSome c.given (Told limit c)
-Comes limit c answers.Limit = IsCommand c.words × Keeps c.held c.holds × IfSome c.given (λ bytes. (limit < length bytes) ⊎ ((length bytes ≤ limit) × TooDeep bytes))
-Comes limit c answers.ReadFault = IsCommand c.words × Keeps c.held c.holds × Rose c.read_faults c.read_faults_now
-Comes limit c answers.WriteFault = IsCommand c.words × Rose c.write_faults c.write_faults_now × IsAtEnd c.left × IfSome c.given (Cut limit c)
-Comes limit c answers.OutOfMemory = IsCommand c.words × Keeps c.held c.holds
+Comes limit c answers.Done = IsCommand c.words × IsFlushed c × IsReadWhole c × IfSome c.given (Listed limit c)
+Comes limit c answers.Usage = (IsCommand c.words → ⊥) × IsUnwritten c × IsUnread c
+Comes limit c answers.NotJson = IsCommand c.words × IsUnwritten c × IsReadWhole c × IfSome c.given (λ bytes. (length bytes ≤ limit) × (doc_of bytes ≡ not_json))
+Comes limit c answers.Form = IsCommand c.words × IsUnwritten c × IsReadWhole c × IfSome c.given (λ bytes. (length bytes ≤ limit) × (doc_of bytes ≡ form))
+Comes limit c answers.Refused = IsCommand c.words × IsFlushed c × IsReadWhole c × IfSome c.given (Told limit c)
+Comes limit c answers.Limit = IsCommand c.words × IsUnwritten c × (c.read_faults_now ≡ c.read_faults) × IfSome c.given (λ bytes. (limit < length bytes) ⊎ ((length bytes ≤ limit) × TooDeep bytes))
+Comes limit c answers.ReadFault = IsCommand c.words × IsUnwritten c × Rose c.read_faults c.read_faults_now
+Comes limit c answers.WriteFault = IsCommand c.words × Rose c.write_faults c.write_faults_now × IsReadWhole c × IfSome c.given (Cut limit c)
+Comes limit c answers.OutOfMemory = IsCommand c.words × IsUnwritten c × (c.read_faults_now ≡ c.read_faults)
 
 -- the text was written whole and flushed, and the answer stands
-pub record Finished (text : List ℕ) (held holds : Option (List ℕ)) (clean : Bool) (answer result : Status) : Type 0 where
+pub record Finished (text : List ℕ) (held holds : Option (List ℕ)) (clean : Bool) (before now : ℕ) (answer result : Status) : Type 0 where
   pub is : result ≡ answer
+  pub unfailed : now ≡ before
   pub flushed : clean ≡ true
   pub written : Appends held holds text
 
@@ -75,4 +92,4 @@ pub record Broke (text : List ℕ) (held holds : Option (List ℕ)) (before now 
 
 -- the text is whole and the answer given, or it broke off
 abbrev pub Finishes : List ℕ → Option (List ℕ) → Option (List ℕ) → Bool → ℕ → ℕ → Status → Status → Type 0
-Finishes text held holds clean before now answer result = Finished text held holds clean answer result ⊎ Broke text held holds before now result
+Finishes text held holds clean before now answer result = Finished text held holds clean before now answer result ⊎ Broke text held holds before now result

@@ -15,5 +15,5 @@ pub loop-at-preserved : goal.loop-at-preserved
 loop-at-preserved g c = record {
   held = goes_on _ _ _ c.args.text.now c.loop-at.at c.in-Ok.count c.loop-at.invariant.held c.in-Ok.ensures.bytes;
   within = omega (arith, c.in-Ok.ensures.bound);
-  later = omega arith;
+  kept = c.in-Ok.ensures.cause.kept ∙ c.loop-at.invariant.kept;
 }

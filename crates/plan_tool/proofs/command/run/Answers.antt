@@ -8,4 +8,4 @@ pub returns-in-Ok-write_fault : goal.returns-in-Ok-write_fault
 returns-in-Ok-write_fault g c =
     let command : IsCommand (map string_bytes c.args.words.now) = search rules in
     let says : c.as_bytes-in-Ok-write_fault.result.now ≡ error_text c.in-Err-Fault.fault = search rules in
-    told _ _ c.in-Ok.bytes.items c.as_bytes-in-Ok-write_fault.result.now c.in-Err-Fault.fault c.finish-in-Ok-write_fault.result command c.in-Ok.ensures.ended c.in-Ok.ensures.whole c.in-Ok.ensures.fits (search rules) says c.finish-in-Ok-write_fault.ensures
+    told _ _ c.in-Ok.bytes.items c.as_bytes-in-Ok-write_fault.result.now c.in-Err-Fault.fault c.finish-in-Ok-write_fault.result command (c.in-Ok.ensures.ended, c.in-Ok.ensures.unfailed (search rules)) c.in-Ok.ensures.whole c.in-Ok.ensures.fits (search rules) says c.finish-in-Ok-write_fault.ensures
