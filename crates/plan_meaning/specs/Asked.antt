@@ -1,13 +1,14 @@
 -- What each node of a plan is asked from above, the scans with what they are asked, and what these may read.
-use Rattle.std.specs.Prelude.{◌≡◌, Bool, true, false, List, [], ◌∷◌, ◌++◌, is_some}
+use Rattle.std.specs.Prelude.{◌≡◌, Bool, true, false, List, [], ◌∷◌, ◌++◌, is_some, if◌then◌else◌}
 use Rattle.std.specs.List.{AllByRecursion, filter as only_where}
 use Rattle.plan_core.specs.declared.data_type.DataType.{DataType}
 use Rattle.plan_core.specs.Columns.{Columns, names_of, type_of}
 use Rattle.plan_core.specs.Names.{has, with_names, AreDistinct}
 use Rattle.plan_tree.specs.Rose.{Roses, rose, no_roses, more}
-use Rattle.plan_ir.specs.Plans.{Op, slice, filter, scan, frame_scan, simple_projection, select, hstack, invalid, Plan}
-use Rattle.plan_meaning.specs.Exprs.{Name, leaves}
-use Rattle.plan_meaning.specs.Typing.{is_empty, names_or, columns_or, file_columns, schema_by, schemas}
+use Rattle.plan_ir.specs.Plans.{Op, slice, filter, scan, frame_scan, simple_projection, select, hstack, invalid, Named, Plan}
+use Rattle.plan_meaning.specs.Exprs.{Name, leaves, name_of, is_scalar}
+use Rattle.plan_meaning.specs.Typing.{is_empty, names_or, columns_or, file_columns, first_schema, schema_by, schemas}
+use Rattle.plan_meaning.specs.Steps.{all_scalar}
 use Rattle.plan_meaning.specs.Relating.{Asked, all, names, cached}
 
 -- the names that are asked, where not everything is
@@ -43,6 +44,41 @@ asks_columns cs all = set_of (with_names [] (names_of (kept all cs)))
 asks_columns cs (names wanted) = set_of (with_names [] (names_of (kept (names wanted) cs)))
 asks_columns cs cached = cached
 
+-- the expressions that are asked, in their order
+abbrev pub kept_exprs : Asked → List Named → List Named
+kept_exprs a es = only_where (λ (e : Named). is_asked a (name_of e.name)) es
+
+-- the first expression that isn't scalar, if there is one
+abbrev pub first_many : List Named → List Named
+first_many [] = []
+first_many (e ∷ es) = if is_scalar e.expr then first_many es else e ∷ []
+
+-- what a selection keeps: the expressions that are asked; where these are scalar throughout, the first that isn't too, last, since the height is its
+abbrev pub selected_exprs : Asked → List Named → List Named
+selected_exprs a es = if all_scalar (kept_exprs a es) then kept_exprs a es ++ first_many es else kept_exprs a es
+
+-- the names that expressions read
+abbrev pub all_leaves : List Named → List Name
+all_leaves [] = []
+all_leaves (e ∷ es) = leaves e.expr ++ all_leaves es
+
+-- a selection asks for what the expressions read that it keeps
+abbrev pub asks_selected : List Named → Asked → Asked
+asks_selected es all = set_of (with_names [] (all_leaves (selected_exprs all es)))
+asks_selected es (names wanted) = set_of (with_names [] (all_leaves (selected_exprs (names wanted) es)))
+asks_selected es cached = cached
+
+-- an addition of these expressions asks for the asked names that its input has, and for what the expressions read; without expressions it asks what it is asked
+abbrev pub asks_added : List Named → List Name → Columns → Asked
+asks_added [] wanted s = names wanted
+asks_added (e ∷ es) wanted s = set_of (with_names (only_where (has (names_of s)) wanted) (all_leaves (e ∷ es)))
+
+-- an addition asks by the expressions that it keeps
+abbrev pub asks_stacked : List Named → Asked → Columns → Asked
+asks_stacked es all s = all
+asks_stacked es (names wanted) s = asks_added (kept_exprs (names wanted) es) wanted s
+asks_stacked es cached s = cached
+
 -- what a node asks of its inputs, by the columns of these
 abbrev pub asks : Op → Asked → List Columns → List Asked
 asks (slice offset len) a ss = a ∷ []
@@ -50,8 +86,8 @@ asks (filter predicate) a ss = with_more (leaves predicate.expr) a ∷ []
 asks (scan sources info predicate output kind options) a ss = []
 asks (frame_scan df schema output) a ss = []
 asks (simple_projection columns) a ss = asks_columns columns a ∷ []
-asks (select exprs schema options) a ss = all ∷ []
-asks (hstack exprs schema options) a ss = all ∷ []
+asks (select exprs schema options) a ss = asks_selected exprs a ∷ []
+asks (hstack exprs schema options) a ss = asks_stacked exprs a (first_schema ss) ∷ []
 asks invalid a ss = []
 
 -- the first of what is asked, everything where there is none

@@ -13,4 +13,5 @@ pub mod Steps
 pub mod Relating
 pub mod PlanAt
 pub mod Asked
+pub mod Work
 pub mod Scans

@@ -1,4 +1,5 @@
 -- The definitions that contracts cite.
+pub mod Stored
 pub mod Pruned
 pub mod Prunes
 pub mod Scans

@@ -10,7 +10,14 @@ use Rattle.plan_ir.specs.declared.scan.FileInfo.{FileInfo}
 use Rattle.plan_ir.specs.declared.scan.FileScan.{FileScan}
 use Rattle.plan_ir.specs.declared.scan.ScanSources.{ScanSources}
 use Rattle.plan_ir.specs.Plans.{Op, slice, filter, scan, frame_scan, simple_projection, select, hstack, invalid, Named, Plan}
+use Rattle.plan_core.specs.declared.options.ProjectionOptions.{ProjectionOptions}
+use Rattle.plan_core.specs.Columns.{with_types}
 use Rattle.plan_meaning.specs.Exprs.{Name, leaves}
+use Rattle.plan_meaning.specs.Typing.{first_schema, out_names}
+use Rattle.plan_meaning.specs.PlanAt.{one_plan}
+use Rattle.plan_meaning.specs.Relating.{names as these}
+use Rattle.plan_meaning.specs.Asked.{set_of, kept_exprs, selected_exprs, all_leaves}
+use Rattle.plan_prune.specs.Stored.{stored_all}
 
 -- the asked names with more, each last unless it is there; asked nothing, nothing
 abbrev pub asked_with : List Name → List Name → List Name
@@ -51,16 +58,44 @@ abbrev pub pruned_output : List Name → Columns → Option Columns → Option C
 pruned_output [] schema output = output
 pruned_output (a ∷ asked) schema output = Some (typed_names schema (a ∷ asked))
 
--- what a node that is asked names asks its inputs
-abbrev pub asks : List Name → Op → List Name
-asks asked (slice offset len) = asked
-asks asked (filter predicate) = asked_with asked (leaves predicate.expr)
-asks asked (scan sources info predicate output kind options) = []
-asks asked (frame_scan df schema output) = []
-asks asked (select exprs schema options) = []
-asks asked (hstack exprs schema options) = []
-asks asked (simple_projection columns) = with_names [] (names_of (kept asked columns))
-asks asked invalid = []
+-- what an addition asks that keeps these expressions; the columns are its input's
+abbrev pub added_names : List Name → List Named → Columns → List Name
+added_names asked [] s = asked
+added_names asked (e ∷ es) s = with_names (filter_list (has (names_of s)) asked) (all_leaves (e ∷ es))
+
+-- what an addition asks
+abbrev pub stacked_names : List Name → List Named → Columns → List Name
+stacked_names [] es s = []
+stacked_names (a ∷ asked) es s = added_names (a ∷ asked) (kept_exprs (these (a ∷ asked)) es) s
+
+-- a selection of the expressions that it keeps; asked nothing, it stays
+abbrev pub pruned_select : List Name → List Named → Columns → ProjectionOptions → Roses (Unit {0}) Op → Plan
+pruned_select [] es schema options inputs = rose tt (select es schema options) inputs
+pruned_select (a ∷ asked) es schema options inputs =
+    let ks = selected_exprs (these (a ∷ asked)) es in
+    rose tt (select ks (typed_names schema (out_names ks)) options) inputs
+
+-- an addition of these expressions; without any its input takes its place
+abbrev pub stacked : List Named → Columns → ProjectionOptions → Roses (Unit {0}) Op → Plan
+stacked [] schema options inputs = one_plan inputs
+stacked (e ∷ es) schema options inputs =
+    rose tt (hstack (e ∷ es) (with_types (first_schema (stored_all inputs)) (typed_names schema (out_names (e ∷ es)))) options) inputs
+
+-- an addition of the expressions that it keeps; asked nothing, it stays
+abbrev pub pruned_hstack : List Name → List Named → Columns → ProjectionOptions → Roses (Unit {0}) Op → Plan
+pruned_hstack [] es schema options inputs = rose tt (hstack es schema options) inputs
+pruned_hstack (a ∷ asked) es schema options inputs = stacked (kept_exprs (these (a ∷ asked)) es) schema options inputs
+
+-- what a node that is asked names asks its inputs, by the columns that these say they have
+abbrev pub asks : List Name → Op → List Columns → List Name
+asks asked (slice offset len) ss = asked
+asks asked (filter predicate) ss = asked_with asked (leaves predicate.expr)
+asks asked (scan sources info predicate output kind options) ss = []
+asks asked (frame_scan df schema output) ss = []
+asks asked (select exprs schema options) ss = with_names [] (all_leaves (selected_exprs (set_of asked) exprs))
+asks asked (hstack exprs schema options) ss = stacked_names asked exprs (first_schema ss)
+asks asked (simple_projection columns) ss = with_names [] (names_of (kept asked columns))
+asks asked invalid ss = []
 
 -- a node that is asked names, over its pruned inputs
 abbrev pub rebuilt : Bool → List Name → Op → Roses (Unit {0}) Op → Plan
@@ -68,15 +103,15 @@ rebuilt top asked (slice offset len) inputs = rose tt (slice offset len) inputs
 rebuilt top asked (filter predicate) inputs = rose tt (filter predicate) inputs
 rebuilt top asked (scan sources info predicate output kind options) inputs = pruned_scan top asked sources info predicate output kind options inputs
 rebuilt top asked (frame_scan df schema output) inputs = rose tt (frame_scan df schema (pruned_output asked schema output)) inputs
-rebuilt top asked (select exprs schema options) inputs = rose tt (select exprs schema options) inputs
-rebuilt top asked (hstack exprs schema options) inputs = rose tt (hstack exprs schema options) inputs
+rebuilt top asked (select exprs schema options) inputs = pruned_select asked exprs schema options inputs
+rebuilt top asked (hstack exprs schema options) inputs = pruned_hstack asked exprs schema options inputs
 rebuilt top asked (simple_projection columns) inputs = rose tt (simple_projection (kept asked columns)) inputs
 rebuilt top asked invalid inputs = rose tt invalid inputs
 
 -- a plan pruned to the asked names, with projections on top of its scans or without
 abbrev mutual
   pub pruned : Bool → List Name → Plan → Plan
-  pruned top asked (rose n op inputs) = rebuilt top asked op (pruned_all top (asks asked op) inputs)
+  pruned top asked (rose n op inputs) = rebuilt top asked op (pruned_all top (asks asked op (stored_all inputs)) inputs)
 
   pub pruned_all : Bool → List Name → Roses (Unit {0}) Op → Roses (Unit {0}) Op
   pruned_all top asked no_roses = no_roses

@@ -1,19 +1,27 @@
 -- That the plan at a number was pruned in place.
-use Rattle.std.specs.Prelude.{◌≡◌, Bool, List, [], ◌∷◌}
+use Rattle.std.specs.Prelude.{◌≡◌, Bool, List, [], ◌∷◌, ◌++◌}
 use Rattle.plan_core.specs.declared.arena.Node.{Node}
 use Rattle.plan_tree.specs.Stands.{Trees, StandsOnce, Rewrites}
 use Rattle.plan_ir.specs.declared.expr.AExpr.{AExpr}
 use Rattle.plan_ir.specs.declared.ir.IR.{IR}
-use Rattle.plan_ir.specs.Parts.{plan_shape, roots_in}
+use Rattle.plan_ir.specs.Parts.{expr_shape, plan_shape, roots_in}
 use Rattle.plan_ir.specs.Plans.{bare, plans_of}
 use Rattle.plan_meaning.specs.Exprs.{Name}
 use Rattle.plan_prune.specs.Pruned.{pruned_all}
 
--- the tree t at a number became another, in place and over the same expressions: t pruned to the asked names
+-- expressions stand over these numbers, no number twice
+abbrev pub StandExprs : List AExpr → List Node → Type 0
+StandExprs ex ns = (e : Trees AExpr) × StandsOnce expr_shape ex ns e
+
+-- where expressions stand over the old numbers among others, expressions stand over the new ones in their place
+abbrev pub TakePlace : List AExpr → List Node → List Node → Type 0
+TakePlace ex new old = (before after : List Node) → StandExprs ex (before ++ (old ++ after)) → StandExprs ex (before ++ (new ++ after))
+
+-- the tree t at a number became another, in place and over expressions of its own: t pruned to the asked names
 pub record Prunes (top : Bool) (asked : List Name) (old new : List IR) (ex : List AExpr) (n : Node) (t : Trees IR) : Type 0 where
   pub trees : Trees IR
   pub rewrites : Rewrites plan_shape old new (n ∷ []) t trees
-  pub exprs : roots_in trees ≡ roots_in t
+  pub exprs : TakePlace ex (roots_in trees) (roots_in t)
   pub pruned : bare (plans_of ex trees) ≡ pruned_all top asked (bare (plans_of ex t))
 
 -- what stands at a number is pruned in place to the asked names

@@ -6,6 +6,7 @@ ghost use Rattle.plan_meaning.specs.Steps.{IsValid};
 ghost use Rattle.plan_meaning.specs.Relating.{all, Narrows, Refines};
 ghost use Rattle.plan_meaning.specs.Asked.{set_of, sites_of, IsFair};
 ghost use Rattle.plan_meaning.specs.Scans.{Keeps, nodes, scans};
+ghost use Rattle.plan_meaning.specs.Work.{made, kept};
 ghost use Rattle.plan_meaning.specs.Exprs.{Name};
 ghost use Rattle.plan_prune.specs.Pruned.{pruned};
 ghost use Rattle.plan_prune.specs.Reads.{ReadWithin, tops};
@@ -33,4 +34,9 @@ pub fn pruned_plans_keep_scans()
 /// A pruned plan has at most one node more for each scan that is asked names.
 pub fn pruned_plans_have_few_nodes_more()
     ensures { (top : Bool) (p : Plan) → IsValid p → nodes (pruned top [] p) ≤ nodes p + tops p all }
+{}
+
+/// A pruned plan makes at most the columns that its nodes are asked.
+pub fn pruned_plans_make_what_is_asked()
+    ensures { (top : Bool) (p : Plan) → IsValid p → made (pruned top [] p) ≤ kept p }
 {}

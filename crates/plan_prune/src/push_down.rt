@@ -9,6 +9,7 @@ ghost use Rattle.plan_meaning.specs.Steps.{IsValid};
 ghost use Rattle.plan_meaning.specs.Relating.{all, Refines};
 ghost use Rattle.plan_meaning.specs.Asked.{sites_of};
 ghost use Rattle.plan_meaning.specs.Scans.{nodes, scans};
+ghost use Rattle.plan_meaning.specs.Work.{made, kept};
 ghost use Rattle.plan_prune.specs.Pruned.{pruned_all};
 ghost use Rattle.plan_prune.specs.Prunes.{PrunesAt};
 ghost use Rattle.plan_prune.specs.Reads.{ReadWithin, tops};
@@ -57,6 +58,7 @@ impl ProjectionPushDown {
         ensures refines { OnOk result (IsValid (plan_at lp.old ex.now root) → Refines (plan_at lp.new ex.now root) (plan_at lp.old ex.now root)) }
         ensures reads { OnOk result (IsValid (plan_at lp.old ex.now root) → ReadWithin (scans (plan_at lp.new ex.now root)) (sites_of (plan_at lp.old ex.now root))) }
         ensures nodes { OnOk result (IsValid (plan_at lp.old ex.now root) → nodes (plan_at lp.new ex.now root) ≤ nodes (plan_at lp.old ex.now root) + tops (plan_at lp.old ex.now root) all) }
+        ensures work { OnOk result (IsValid (plan_at lp.old ex.now root) → made (plan_at lp.new ex.now root) ≤ kept (plan_at lp.old ex.now root)) }
         ensures grows { length lp.old ≤ length lp.new }
         ensures pass_stays { self.new ≡ self.old }
     {
