@@ -1,20 +1,22 @@
 -- What a node asks can be asked of its inputs, and what a scan may read is among what it reads.
 use Rattle.std.proofs.Common.{◌≡◌, ◌&&◌, suc, Bool, true, false, cond, List, [], ◌∷◌, ◌++◌, length, Option, Some, None, refl, sym, ap, ◌∙◌, subst, is_some, ⊎_elim}
-use Rattle.std.specs.List.{AllByRecursion}
+use Rattle.std.specs.List.{AllByRecursion, filter as only_where}
 use Rattle.std.proofs.lemmas.Bool.{and_parts}
 use Rattle.plan_core.specs.declared.data_type.DataType.{DataType}
 use Rattle.plan_core.specs.declared.error.PolarsError.TheVariants.{SchemaFieldNotFound, SchemaMismatch}
 use Rattle.plan_core.specs.Columns.{Columns, names_of, type_of}
 use Rattle.plan_core.specs.Names.{has, with_names, AreDistinct}
 use Rattle.plan_tree.specs.Rose.{Roses, rose, no_roses, more}
-use Rattle.plan_ir.specs.Plans.{Op, slice, filter, scan, frame_scan, simple_projection, select, hstack, invalid, Plan}
-use Rattle.plan_meaning.specs.Exprs.{Name, leaves, is_type}
-use Rattle.plan_meaning.specs.Typing.{is_empty, each, is_known, is_column, has_columns, names_or, columns_or, file_columns, all_read, put_out_checks, scan_name_checks, schema_by, schemas, checks, AllHold, AllValid}
+use Rattle.plan_ir.specs.Plans.{Op, slice, filter, scan, frame_scan, simple_projection, select, hstack, invalid, Named, Plan}
+use Rattle.plan_meaning.specs.Exprs.{Name, leaves, all_known, is_type}
+use Rattle.plan_meaning.specs.Typing.{is_empty, each, is_known, is_column, has_columns, names_or, columns_or, file_columns, all_read, put_out_checks, scan_name_checks, made_schema, schema_by, schemas, checks, AllHold, AllValid}
 use Rattle.plan_meaning.specs.Steps.{IsValid}
 use Rattle.plan_meaning.specs.Relating.{Asked, all, names, cached}
-use Rattle.plan_meaning.specs.Asked.{asked_names, is_asked, set_of, with_more, kept, asks_columns, asks, own_site, sites, reads, allowed, IsFair, SiteFair, AllSites}
+use Rattle.plan_meaning.specs.Asked.{asked_names, is_asked, set_of, with_more, kept, asks_columns, kept_exprs, selected_exprs, all_leaves, asks_selected, asks_added, asks_stacked, asks, own_site, sites, reads, allowed, Fair, IsFair, SiteFair, AllSites}
 use Rattle.plan_meaning.proofs.NameSets.{has_cons, has_first, has_later, some-type_of, keeps_names, from_names, distinct_names, distinct_none}
-use Rattle.plan_meaning.proofs.CheckParts.{hold_front, each_pass, known_leaf, scan_good}
+use Rattle.plan_meaning.proofs.CheckParts.{hold_front, each_pass, known_leaf, scan_good, made_good}
+use Rattle.plan_meaning.proofs.MadeColumns.{types_kept}
+use Rattle.plan_meaning.proofs.KeptExprs.{all_append, all_kept_exprs, all_selected, known_leaves, where_has, distinct_where}
 
 -- each column of a list that passes
 pub column_passes : (P : Name → Type 0) (cs : Columns) → AllByRecursion (λ (c : Name × DataType). P c.0) cs → (a : Name) → has (names_of cs) a ≡ true → P a
@@ -44,6 +46,11 @@ fair_more others (names wanted) s known f =
       once = distinct_names wanted others f.once;
       known = λ b i. ⊎_elim (λ e. f.known b e) (λ e. known b e) (from_names wanted others b i);
     }
+
+-- names of the columns, and the leaves of expressions over them
+fair_leaves : (wanted : List Name) (es : List Named) (s : Columns) → AreDistinct wanted → ((b : Name) → has wanted b ≡ true → is_some (type_of s b) ≡ true) → AllByRecursion (λ (e : Named). all_known (leaves e.expr) s ≡ true) es → IsFair (set_of (with_names wanted (all_leaves es))) s
+fair_leaves wanted es s once known h = fair_set (with_names wanted (all_leaves es)) s (distinct_names wanted (all_leaves es) once)
+    (λ b i. ⊎_elim (λ j. known b j) (λ j. known_leaves es s h b j) (from_names wanted (all_leaves es) b i))
 
 -- what is kept of columns
 
@@ -83,6 +90,28 @@ fair_columns cs all s h = fair_set (with_names [] (names_of (kept all cs))) s (d
 fair_columns cs (names wanted) s h = fair_set (with_names [] (names_of (kept (names wanted) cs))) s (distinct_names [] (names_of (kept (names wanted) cs)) distinct_none) (kept_names_known (names wanted) cs s h)
 fair_columns cs cached s h = tt
 
+-- what a selection asks
+fair_selected : (es : List Named) (a : Asked) (s : Columns) → AllByRecursion (λ (e : Named). all_known (leaves e.expr) s ≡ true) es → IsFair (asks_selected es a) s
+fair_selected es all s h = fair_leaves [] (selected_exprs all es) s distinct_none (λ b i. cc) (all_selected (λ (e : Named). all_known (leaves e.expr) s ≡ true) all es h)
+fair_selected es (names wanted) s h = fair_leaves [] (selected_exprs (names wanted) es) s distinct_none (λ b i. cc) (all_selected (λ (e : Named). all_known (leaves e.expr) s ≡ true) (names wanted) es h)
+fair_selected es cached s h = tt
+
+-- what an addition asks
+
+-- an asked name that no kept expression has is the input's
+pub unmade : (es ks : List Named) (wanted : List Name) (s : Columns) → kept_exprs (names wanted) es ≡ ks → (b : Name) → has wanted b ≡ true → type_of (made_schema s ks s) b ≡ type_of (made_schema s es s) b
+unmade es ks wanted s is b i = ap (λ (x : List Named). type_of (made_schema s x s) b) (sym is) ∙ types_kept s (names wanted) s es b i
+
+fair_added : (es ks : List Named) (wanted : List Name) (s : Columns) → kept_exprs (names wanted) es ≡ ks → AllByRecursion (λ (e : Named). all_known (leaves e.expr) s ≡ true) ks → Fair wanted (made_schema s es s) → IsFair (asks_added ks wanted s) s
+fair_added es [] wanted s is h f = record { some = f.some; once = f.once; known = λ b i. ap is_some (unmade es [] wanted s is b i) ∙ f.known b i }
+fair_added es (e ∷ ks) wanted s is h f =
+    fair_leaves (only_where (has (names_of s)) wanted) (e ∷ ks) s (distinct_where (has (names_of s)) wanted f.once) (λ b i. some-type_of s b ∙ (where_has (has (names_of s)) wanted b i).1) h
+
+fair_stacked : (es : List Named) (a : Asked) (s : Columns) → AllByRecursion (λ (e : Named). all_known (leaves e.expr) s ≡ true) es → IsFair a (made_schema s es s) → IsFair (asks_stacked es a s) s
+fair_stacked es all s h f = tt
+fair_stacked es (names wanted) s h f = fair_added es (kept_exprs (names wanted) es) wanted s refl (all_kept_exprs (λ (e : Named). all_known (leaves e.expr) s ≡ true) (names wanted) es h) f
+fair_stacked es cached s h f = tt
+
 -- what can be asked of several columns, one for one
 abbrev pub FairAll : List Asked → List Columns → Type 0
 FairAll [] [] = Unit {0}
@@ -98,8 +127,8 @@ fair_asks (simple_projection cols) a (s ∷ []) good f =
     (fair_columns cols a s known, tt)
 fair_asks (slice offset len) a (s ∷ []) good f = (f, tt)
 fair_asks (frame_scan df schema output) a [] good f = tt
-fair_asks (select es stored options) a (s ∷ []) good f = (tt, tt)
-fair_asks (hstack es stored options) a (s ∷ []) good f = (tt, tt)
+fair_asks (select es stored options) a (s ∷ []) good f = (fair_selected es a s (made_good [] es stored s good.1).known, tt)
+fair_asks (hstack es stored options) a (s ∷ []) good f = (fair_stacked es a s (made_good s es stored s good).known f, tt)
 fair_asks op a ss good f = absurd (cc)
 
 -- scans
@@ -173,10 +202,6 @@ site_fair (filter predicate) a ss good f = tt
 site_fair (simple_projection cols) a ss good f = tt
 site_fair invalid a ss good f = tt
 site_fair (scan sources info predicate output kind options) a (s ∷ ss) good f = cc
-
-pub all_append : {X : Type 0} (P : X → Type 0) (xs ys : List X) → AllByRecursion P xs → AllByRecursion P ys → AllByRecursion P (xs ++ ys)
-all_append P [] ys h k = k
-all_append P (x ∷ xs) ys h k = (h.0, all_append P xs ys h.1 k)
 
 -- the scans of valid plans that are asked what can be asked of them
 pub sites_fair : (ts : Roses (Unit {0}) Op) (asked : List Asked) → AllValid ts → FairAll asked (schemas ts) → AllByRecursion SiteFair (sites ts asked)

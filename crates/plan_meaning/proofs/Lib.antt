@@ -10,6 +10,8 @@ pub mod FrameLemmas
 pub mod Depends
 pub mod Sound
 pub mod CheckParts
+pub mod MadeColumns
+pub mod KeptExprs
 pub mod Runs
 pub mod Refining
 pub mod Related
