@@ -140,3 +140,15 @@ made_good base es stored s h =
       same = last.0;
       named = each_pass SchemaMismatch 1 (λ (e : Named). may_be_named e.name (naming e.expr)) es last.1;
     }
+
+pub good_made : (base : Columns) (es : List Named) (stored s : Columns) → MadeGood base es stored s → AllHold (made_checks base es stored s)
+unfolding made_checks leaf_checks type_checks once_checks stored_checks naming_checks
+good_made base es stored s g =
+    let a = leaf_checks es s in
+    let b = type_checks es s in
+    let c = once_checks es in
+    let d = naming_checks es in
+    let n = stored_checks stored (made_schema base es s) in
+    hold_join a (b ++ (c ++ (n ++ d))) (pass_each SchemaFieldNotFound 1 (λ (e : Named). all_known (leaves e.expr) s) es g.known)
+    (hold_join b (c ++ (n ++ d)) (pass_each SchemaMismatch 1 (λ (e : Named). is_some (expr_type e.expr s)) es g.typed)
+    (hold_join c (n ++ d) g.once (g.same, pass_each SchemaMismatch 1 (λ (e : Named). may_be_named e.name (naming e.expr)) es g.named)))
