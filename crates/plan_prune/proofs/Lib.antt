@@ -4,10 +4,13 @@ pub mod ListSteps
 pub mod PruneLemmas
 pub mod NarrowLemmas
 mod AddedNames
+pub mod StoredLemmas
 pub mod AskedNames
 pub mod ProjectionNarrows
 pub mod ScanNarrows
-mod WholeNarrows
+pub mod MadeNarrows
+pub mod SelectNarrows
+pub mod StackNarrows
 mod FrameNarrows
 pub mod PrunedNarrows
 pub mod PrunedReads

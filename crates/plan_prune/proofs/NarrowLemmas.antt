@@ -32,7 +32,7 @@ holding_same l r s h a i = let k = h.held a i in k.1 ∙ sym k.2
 pub holding_fewer : (l m : List Name) (r s : Columns) → ((a : Name) → has l a ≡ true → has m a ≡ true) → Holding m r s → Holding l r s
 holding_fewer l m r s sub h = record { held = λ a i. h.held a (sub a i); within = h.within }
 
-known_within : (l : List Name) (r s : Columns) → ((a : Name) → has l a ≡ true → type_of r a ≡ type_of s a) → all_known l r ≡ all_known l s
+pub known_within : (l : List Name) (r s : Columns) → ((a : Name) → has l a ≡ true → type_of r a ≡ type_of s a) → all_known l r ≡ all_known l s
 known_within [] r s h = refl
 known_within (a ∷ l) r s h = ap₂ (λ (o : Option DataType) (b : Bool). is_some o && b) (h a (has_first a l)) (known_within l r s (λ b i. h b (has_later a l b i)))
 

@@ -1,26 +1,32 @@
 -- A pruned plan narrows: one case for each kind of node, and one induction.
 use Rattle.std.proofs.Common.{◌≡◌, ℕ, ℤ, Bool, true, false, List, [], ◌∷◌, Option, Some, refl, sym, ap, ◌∙◌, subst}
 use Rattle.plan_core.specs.declared.options.FileScanOptions.{FileScanOptions}
-use Rattle.plan_core.specs.Columns.{Columns, names_of}
-use Rattle.plan_core.specs.Names.{with_names}
+use Rattle.plan_core.specs.declared.options.ProjectionOptions.{ProjectionOptions}
+use Rattle.plan_core.specs.Columns.{Columns, names_of, with_types}
+use Rattle.plan_core.specs.Names.{has, with_names}
 use Rattle.plan_tree.specs.Rose.{Roses, rose, no_roses, more}
 use Rattle.plan_ir.specs.declared.scan.FileInfo.{FileInfo}
 use Rattle.plan_ir.specs.declared.scan.FileScan.{FileScan}
 use Rattle.plan_ir.specs.declared.scan.ScanSources.{ScanSources}
 use Rattle.plan_ir.specs.Plans.{Op, slice, filter, scan, frame_scan, simple_projection, select, hstack, invalid, Named, Plan}
-use Rattle.plan_meaning.specs.Typing.{columns_or, file_columns, schema_by, schema, schemas, checks, AllHold, AllValid}
-use Rattle.plan_meaning.specs.Steps.{IsValid}
+use Rattle.plan_meaning.specs.Typing.{columns_or, file_columns, first_schema, out_names, made_schema, schema_by, schema, schemas, checks, AllHold, AllValid}
+use Rattle.plan_meaning.specs.Steps.{made, IsValid}
 use Rattle.plan_meaning.specs.Relating.{Refines, Asked, all, names, NarrowColumns, AgreeOn, Narrows}
-use Rattle.plan_meaning.specs.Asked.{set_of, with_more, IsFair}
+use Rattle.plan_meaning.specs.Asked.{set_of, with_more, kept_exprs, selected_exprs, all_leaves, asks_added, Fair, IsFair}
 use Rattle.plan_meaning.specs.Asked as asked
 use Rattle.plan_meaning.proofs.Refining.{relates_refines}
-use Rattle.plan_meaning.proofs.Related.{SchemasRelated, AllRelate, relates_node, relates_top}
+use Rattle.plan_meaning.proofs.Related.{SchemasRelated, AllRelate, relates_node, relates_top, relates_drop}
 use Rattle.plan_meaning.proofs.Fairness.{FairAll}
+use Rattle.plan_meaning.proofs.KeptExprs.{selected-all}
 use Rattle.plan_meaning.specs.Exprs.{Name}
-use Rattle.plan_prune.specs.Pruned.{kept, pruned_output, typed_names, reading, projected, asks, rebuilt, pruned, pruned_all}
-use Rattle.plan_prune.proofs.AskedNames.{set_some, kept-is, filter_asks, each_asked, fair_each}
-use Rattle.plan_prune.proofs.NarrowLemmas.{Local, same_none, local_filter, local_slice}
-use Rattle.plan_prune.proofs.WholeNarrows.{local_whole}
+use Rattle.plan_prune.specs.Pruned.{kept, pruned_output, typed_names, reading, projected, stacked_names, pruned_select, stacked, pruned_hstack, asks, rebuilt, pruned, pruned_all}
+use Rattle.plan_prune.specs.Stored.{stored_all}
+use Rattle.plan_prune.proofs.AskedNames.{set_some, kept-is, filter_asks, stacked_asks, each_asked, fair_each}
+use Rattle.plan_prune.proofs.NarrowLemmas.{Local, same_one, same_none, local_filter, local_slice}
+use Rattle.plan_prune.proofs.MadeNarrows.{leaf_types, leaf_frames}
+use Rattle.plan_prune.proofs.SelectNarrows.{local_selected, whole_selected}
+use Rattle.plan_prune.proofs.StackNarrows.{dropped_holds, dropped_agrees, local_added}
+use Rattle.plan_prune.proofs.StoredLemmas.{stored-schemas}
 use Rattle.plan_prune.proofs.FrameNarrows.{local_frame}
 use Rattle.plan_prune.proofs.ProjectionNarrows.{local_columns, asked_some}
 use Rattle.plan_prune.proofs.ScanNarrows.{local_scan, left_holds, top_good, top_agrees}
@@ -43,32 +49,32 @@ none_here o op b (r ∷ rs) h l = absurd h
 
 -- filters
 
-filter_narrows : (p : Named) (l : List Name) (rs : Roses (Unit {0}) Op) (t : Plan) (s : Columns) → schemas (more t no_roses) ≡ s ∷ [] → IsValid (rose tt (filter p) (more t no_roses)) → AllNarrow (set_of (asks l (filter p)) ∷ []) rs (more t no_roses) → Narrows (rose tt (filter p) rs) (rose tt (filter p) (more t no_roses)) (set_of l)
+filter_narrows : (p : Named) (l : List Name) (rs : Roses (Unit {0}) Op) (t : Plan) (s : Columns) → schemas (more t no_roses) ≡ s ∷ [] → IsValid (rose tt (filter p) (more t no_roses)) → AllNarrow (set_of (asks l (filter p) []) ∷ []) rs (more t no_roses) → Narrows (rose tt (filter p) rs) (rose tt (filter p) (more t no_roses)) (set_of l)
 filter_narrows p l rs t s is v h =
-    let a = set_of (asks l (filter p)) in
+    let a = set_of (asks l (filter p) []) in
     let good : AllHold (checks (filter p) (s ∷ [])) = subst (λ (ss : List Columns). AllHold (checks (filter p) ss)) is v.0 in
     relates_node Asked NarrowColumns AgreeOn (filter p) (filter p) (a ∷ []) (set_of l) rs (more t no_roses) v h (λ k.
     subst (λ (ss : List Columns). Local (filter p) (filter p) (a ∷ []) (set_of l) (schemas rs) ss) (sym is)
     (one_here (filter p) (filter p) a (set_of l) s (schemas rs) (subst (λ (ss : List Columns). NarrowSchemas (a ∷ []) (schemas rs) ss) is k) (λ r q.
-    subst (λ (x : Asked). Local (filter p) (filter p) (x ∷ []) (set_of l) (r ∷ []) (s ∷ [])) (filter_asks p l)
-    (local_filter p (set_of l) r s good (subst (λ (x : Asked). NarrowColumns x r s) (sym (filter_asks p l)) q)))))
+    subst (λ (x : Asked). Local (filter p) (filter p) (x ∷ []) (set_of l) (r ∷ []) (s ∷ [])) (filter_asks p l [])
+    (local_filter p (set_of l) r s good (subst (λ (x : Asked). NarrowColumns x r s) (sym (filter_asks p l [])) q)))))
 
 -- projections
 
-local_kept : (cs : Columns) (l : List Name) (r s : Columns) → AllHold (checks (simple_projection cs) (s ∷ [])) → IsFair (set_of l) cs → NarrowColumns (set_of (asks l (simple_projection cs))) r s → Local (simple_projection (kept l cs)) (simple_projection cs) (set_of (asks l (simple_projection cs)) ∷ []) (set_of l) (r ∷ []) (s ∷ [])
+local_kept : (cs : Columns) (l : List Name) (r s : Columns) → AllHold (checks (simple_projection cs) (s ∷ [])) → IsFair (set_of l) cs → NarrowColumns (set_of (asks l (simple_projection cs) [])) r s → Local (simple_projection (kept l cs)) (simple_projection cs) (set_of (asks l (simple_projection cs) []) ∷ []) (set_of l) (r ∷ []) (s ∷ [])
 local_kept cs l r s good fair h =
     let ks = asked.kept (set_of l) cs in
-    let is : set_of (asks l (simple_projection cs)) ≡ names (with_names [] (names_of ks)) =
+    let is : set_of (asks l (simple_projection cs) []) ≡ names (with_names [] (names_of ks)) =
     ap (λ (x : Columns). set_of (with_names [] (names_of x))) (kept-is l cs) ∙ set_some (with_names [] (names_of ks)) (asked_some cs (set_of l) s good fair) in
     subst (λ (x : Asked). Local (simple_projection (kept l cs)) (simple_projection cs) (x ∷ []) (set_of l) (r ∷ []) (s ∷ [])) (sym is)
     (subst (λ (x : Columns). Local (simple_projection x) (simple_projection cs) (names (with_names [] (names_of ks)) ∷ []) (set_of l) (r ∷ []) (s ∷ [])) (sym (kept-is l cs))
     (local_columns cs (set_of l) r s good fair (subst (λ (x : Asked). NarrowColumns x r s) is h)))
 
-projection_narrows : (cs : Columns) (l : List Name) (rs : Roses (Unit {0}) Op) (t : Plan) (s : Columns) → schemas (more t no_roses) ≡ s ∷ [] → IsValid (rose tt (simple_projection cs) (more t no_roses)) → IsFair (set_of l) cs → AllNarrow (set_of (asks l (simple_projection cs)) ∷ []) rs (more t no_roses) → Narrows (rose tt (simple_projection (kept l cs)) rs) (rose tt (simple_projection cs) (more t no_roses)) (set_of l)
+projection_narrows : (cs : Columns) (l : List Name) (rs : Roses (Unit {0}) Op) (t : Plan) (s : Columns) → schemas (more t no_roses) ≡ s ∷ [] → IsValid (rose tt (simple_projection cs) (more t no_roses)) → IsFair (set_of l) cs → AllNarrow (set_of (asks l (simple_projection cs) []) ∷ []) rs (more t no_roses) → Narrows (rose tt (simple_projection (kept l cs)) rs) (rose tt (simple_projection cs) (more t no_roses)) (set_of l)
 projection_narrows cs l rs t s is v fair h =
     let o = simple_projection (kept l cs) in
     let op = simple_projection cs in
-    let a = set_of (asks l op) in
+    let a = set_of (asks l op []) in
     let good : AllHold (checks op (s ∷ [])) = subst (λ (ss : List Columns). AllHold (checks op ss)) is v.0 in
     relates_node Asked NarrowColumns AgreeOn o op (a ∷ []) (set_of l) rs (more t no_roses) v h (λ k.
     subst (λ (ss : List Columns). Local o op (a ∷ []) (set_of l) (schemas rs) ss) (sym is)
@@ -110,14 +116,68 @@ slice_narrows offset len l rs t s is v h =
     subst (λ (ss : List Columns). Local o o (set_of l ∷ []) (set_of l) (schemas rs) ss) (sym is)
     (one_here o o (set_of l) (set_of l) s (schemas rs) (subst (λ (ss : List Columns). NarrowSchemas (set_of l ∷ []) (schemas rs) ss) is k) (λ r q. local_slice offset len (set_of l) r s q)))
 
--- nodes that stay as they are over all of their input
+-- one node over one input
 
-whole_narrows : (op : Op) (l : List Name) (rs : Roses (Unit {0}) Op) (t : Plan) (s : Columns) → schemas (more t no_roses) ≡ s ∷ [] → IsValid (rose tt op (more t no_roses)) → IsFair (set_of l) (schema_by op (s ∷ [])) → AllNarrow (all ∷ []) rs (more t no_roses) → Narrows (rose tt op rs) (rose tt op (more t no_roses)) (set_of l)
-whole_narrows op l rs t s is v fair h =
+one_narrows : (o op : Op) (a b : Asked) (rs : Roses (Unit {0}) Op) (t : Plan) (s : Columns) → schemas (more t no_roses) ≡ s ∷ [] → IsValid (rose tt op (more t no_roses)) → AllNarrow (a ∷ []) rs (more t no_roses) → ((r : Columns) → NarrowColumns a r s → Local o op (a ∷ []) b (r ∷ []) (s ∷ [])) → Narrows (rose tt o rs) (rose tt op (more t no_roses)) b
+one_narrows o op a b rs t s is v h by =
+    relates_node Asked NarrowColumns AgreeOn o op (a ∷ []) b rs (more t no_roses) v h (λ k.
+    subst (λ (ss : List Columns). Local o op (a ∷ []) b (schemas rs) ss) (sym is) (one_here o op a b s (schemas rs) (subst (λ (ss : List Columns). NarrowSchemas (a ∷ []) (schemas rs) ss) is k) by))
+
+-- selections
+
+select_narrows : (es : List Named) (stored : Columns) (options : ProjectionOptions) (l : List Name) (rs : Roses (Unit {0}) Op) (t : Plan) (s : Columns) → schemas (more t no_roses) ≡ s ∷ [] → IsValid (rose tt (select es stored options) (more t no_roses)) → IsFair (set_of l) (made_schema [] es s) → AllNarrow (set_of (with_names [] (all_leaves (selected_exprs (set_of l) es))) ∷ []) rs (more t no_roses) → Narrows (pruned_select l es stored options rs) (rose tt (select es stored options) (more t no_roses)) (set_of l)
+select_narrows es stored options [] rs t s is v fair h =
+    let op = select es stored options in
+    let a = set_of (with_names [] (all_leaves (selected_exprs all es))) in
     let good : AllHold (checks op (s ∷ [])) = subst (λ (ss : List Columns). AllHold (checks op ss)) is v.0 in
-    relates_node Asked NarrowColumns AgreeOn op op (all ∷ []) (set_of l) rs (more t no_roses) v h (λ k.
-    subst (λ (ss : List Columns). Local op op (all ∷ []) (set_of l) (schemas rs) ss) (sym is)
-    (one_here op op all (set_of l) s (schemas rs) (subst (λ (ss : List Columns). NarrowSchemas (all ∷ []) (schemas rs) ss) is k) (λ r q. local_whole op (set_of l) r s good fair q)))
+    one_narrows op op a all rs t s is v h (λ r q.
+    whole_selected es stored options s good a r
+    (leaf_types es r s (subst (λ (x : List Named). NarrowColumns (set_of (with_names [] (all_leaves x))) r s) (selected-all es) q))
+    (λ f g k. leaf_frames es f g (subst (λ (x : List Named). AgreeOn (set_of (with_names [] (all_leaves x))) f g) (selected-all es) k)))
+select_narrows es stored options (b ∷ l) rs t s is v fair h =
+    let op = select es stored options in
+    let ks = selected_exprs (names (b ∷ l)) es in
+    let a = set_of (with_names [] (all_leaves ks)) in
+    let good : AllHold (checks op (s ∷ [])) = subst (λ (ss : List Columns). AllHold (checks op ss)) is v.0 in
+    one_narrows (select ks (typed_names stored (out_names ks)) options) op a (names (b ∷ l)) rs t s is v h (λ r q.
+    local_selected es stored options s good (b ∷ l) fair r (leaf_types ks r s q) a (λ f g k. leaf_frames ks f g k))
+
+-- additions
+
+module _ (es : List Named) (stored : Columns) (options : ProjectionOptions) (n : Unit {0}) (o : Op) (us : Roses (Unit {0}) Op) (v : IsValid (rose tt (hstack es stored options) (more (rose n o us) no_roses))) where
+  abbrev op : Op
+  op = hstack es stored options
+
+  abbrev t : Roses (Unit {0}) Op
+  t = more (rose n o us) no_roses
+
+  abbrev s : Columns
+  s = schema_by o (schemas us)
+
+  -- by what the kept expressions are
+  kept_here : (wanted : List Name) → Fair wanted (made_schema (schema_by o (schemas us)) es (schema_by o (schemas us))) → (stay : List Named) → kept_exprs (names wanted) es ≡ stay → (rs : Roses (Unit {0}) Op) → AllNarrow (asks_added stay wanted (schema_by o (schemas us)) ∷ []) rs (more (rose n o us) no_roses) → Narrows (stacked stay stored options rs) (rose tt (hstack es stored options) (more (rose n o us) no_roses)) (names wanted)
+  kept_here wanted fair [] is no_roses h = absurd h
+  kept_here wanted fair [] is (more r (more r' rs)) h = absurd h.1
+  kept_here wanted fair [] is (more r no_roses) h =
+      relates_drop Asked NarrowColumns AgreeOn op (names wanted) (names wanted) r (rose n o us) v (dropped_holds es s wanted is (schema r) h.0.schema)
+      (λ c f g fit has ag. (made g.height g.columns es g, refl, dropped_agrees es s wanted is f g ag)) h.0
+  kept_here wanted fair (e ∷ stay) is no_roses h = absurd h
+  kept_here wanted fair (e ∷ stay) is (more r (more r' rs)) h = absurd h.1
+  kept_here wanted fair (e ∷ stay) is (more (rose m q vs) no_roses) h =
+      let rs = more (rose m q vs) no_roses in
+      let r = schema_by q (schemas vs) in
+      let vr = h.0.valid in
+      let a = asks_added (e ∷ stay) wanted s in
+      let made_op : Columns → Op = λ x. hstack (e ∷ stay) (with_types x (typed_names stored (out_names (e ∷ stay)))) options in
+      subst (λ (ss : List Columns). Narrows (rose tt (made_op (first_schema ss)) rs) (rose tt op t) (names wanted)) (sym (stored-schemas rs (vr.0, vr.1, tt)))
+      (relates_node Asked NarrowColumns AgreeOn (made_op r) op (a ∷ []) (names wanted) rs t v h (λ j. local_added es stored options s wanted v.0 fair r (e ∷ stay) is j.0))
+
+  stack_narrows : (l : List Name) (rs : Roses (Unit {0}) Op) → IsFair (set_of l) (made_schema (schema_by o (schemas us)) es (schema_by o (schemas us))) → AllNarrow (set_of (stacked_names l es (first_schema (stored_all (more (rose n o us) no_roses)))) ∷ []) rs (more (rose n o us) no_roses) → Narrows (pruned_hstack l es stored options rs) (rose tt (hstack es stored options) (more (rose n o us) no_roses)) (set_of l)
+  stack_narrows [] rs fair h =
+      one_narrows op op all all rs (rose n o us) s refl v h (λ r q. subst (λ (x : Columns). Local op op (all ∷ []) all (x ∷ []) (s ∷ [])) (sym q) (same_one op s v.0))
+  stack_narrows (b ∷ l) rs fair h =
+      kept_here (b ∷ l) fair (kept_exprs (names (b ∷ l)) es) refl rs
+      (subst (λ (x : Asked). AllNarrow (x ∷ []) rs t) (ap (λ (ss : List Columns). set_of (stacked_names (b ∷ l) es (first_schema ss))) (stored-schemas t v.1) ∙ sym (stacked_asks es (b ∷ l) s)) h)
 
 -- scans of frames
 
@@ -131,7 +191,7 @@ frame_narrows (a ∷ l) df columns output rs v fair h =
     relates_node Asked NarrowColumns AgreeOn left given [] (names (a ∷ l)) rs no_roses v h (λ k. none_here left given (names (a ∷ l)) (schemas rs) k (local_frame df columns output (a ∷ l) v.0 fair))
 
 -- a node that is rebuilt over inputs that narrow at what it asks narrows at what it is asked
-rebuilt_narrows : (top : Bool) (l : List Name) (op : Op) (rs ts : Roses (Unit {0}) Op) → IsValid (rose tt op ts) → IsFair (set_of l) (schema_by op (schemas ts)) → AllNarrow (each_asked (set_of (asks l op)) ts) rs ts → Narrows (rebuilt top l op rs) (rose tt op ts) (set_of l)
+rebuilt_narrows : (top : Bool) (l : List Name) (op : Op) (rs ts : Roses (Unit {0}) Op) → IsValid (rose tt op ts) → IsFair (set_of l) (schema_by op (schemas ts)) → AllNarrow (each_asked (set_of (asks l op (stored_all ts))) ts) rs ts → Narrows (rebuilt top l op rs) (rose tt op ts) (set_of l)
 rebuilt_narrows top l (filter p) rs (more (rose n o us) no_roses) v fair h = filter_narrows p l rs (rose n o us) (schema_by o (schemas us)) refl v h
 rebuilt_narrows top l (filter p) rs (more (rose n o us) (more (rose m o' us') rest)) v fair h = cc
 rebuilt_narrows top l (filter p) rs no_roses v fair h = cc
@@ -145,10 +205,10 @@ rebuilt_narrows top l (slice offset len) rs (more (rose n o us) (more (rose m o'
 rebuilt_narrows top l (slice offset len) rs no_roses v fair h = cc
 rebuilt_narrows top l (frame_scan df columns output) rs no_roses v fair h = frame_narrows l df columns output rs v fair h
 rebuilt_narrows top l (frame_scan df columns output) rs (more (rose n o us) rest) v fair h = cc
-rebuilt_narrows top l (select es stored options) rs (more (rose n o us) no_roses) v fair h = whole_narrows (select es stored options) l rs (rose n o us) (schema_by o (schemas us)) refl v fair h
+rebuilt_narrows top l (select es stored options) rs (more (rose n o us) no_roses) v fair h = select_narrows es stored options l rs (rose n o us) (schema_by o (schemas us)) refl v fair h
 rebuilt_narrows top l (select es stored options) rs (more (rose n o us) (more (rose m o' us') rest)) v fair h = cc
 rebuilt_narrows top l (select es stored options) rs no_roses v fair h = cc
-rebuilt_narrows top l (hstack es stored options) rs (more (rose n o us) no_roses) v fair h = whole_narrows (hstack es stored options) l rs (rose n o us) (schema_by o (schemas us)) refl v fair h
+rebuilt_narrows top l (hstack es stored options) rs (more (rose n o us) no_roses) v fair h = stack_narrows es stored options n o us v l rs fair h
 rebuilt_narrows top l (hstack es stored options) rs (more (rose n o us) (more (rose m o' us') rest)) v fair h = cc
 rebuilt_narrows top l (hstack es stored options) rs no_roses v fair h = cc
 rebuilt_narrows top l invalid rs ts v fair h = cc
@@ -157,7 +217,7 @@ rebuilt_narrows top l invalid rs ts v fair h = cc
 pub all_narrow : (top : Bool) (l : List Name) (ts : Roses (Unit {0}) Op) → AllValid ts → FairAll (each_asked (set_of l) ts) (schemas ts) → AllNarrow (each_asked (set_of l) ts) (pruned_all top l ts) ts
 all_narrow top l no_roses v f = tt
 all_narrow top l (more (rose n op ts) rest) v f = (
-  rebuilt_narrows top l op (pruned_all top (asks l op) ts) ts (v.0, v.1) f.0 (all_narrow top (asks l op) ts v.1 (fair_each l op ts v.0 f.0)),
+  rebuilt_narrows top l op (pruned_all top (asks l op (stored_all ts)) ts) ts (v.0, v.1) f.0 (all_narrow top (asks l op (stored_all ts)) ts v.1 (fair_each l op ts v.0 v.1 f.0)),
   all_narrow top l rest v.2 f.1,
 )
 

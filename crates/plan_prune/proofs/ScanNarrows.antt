@@ -72,7 +72,7 @@ each_column P s [] h = tt
 each_column P s (a ∷ wanted) h = (h a (has_first a wanted), each_column P s wanted (λ b i. h b (has_later a wanted b i)))
 
 -- names that stand once are each new
-new_from : (k : ℕ) (before wanted : List Name) → ((a : Name) → has wanted a ≡ true → has before a ≡ false) → AreDistinct wanted → AllHold (each_new k before wanted)
+pub new_from : (k : ℕ) (before wanted : List Name) → ((a : Name) → has wanted a ≡ true → has before a ≡ false) → AreDistinct wanted → AllHold (each_new k before wanted)
 new_from k before [] apart once = tt
 new_from k before (a ∷ wanted) apart once =
     let parts = distinct_cons a wanted once in

@@ -1,0 +1,110 @@
+-- What expressions make over an input that narrows at what they read.
+use Rattle.std.proofs.Common.{◌≡◌, ℕ, true, List, [], ◌∷◌, map, Option, Some, unwrap_or, option_map, refl, sym, ap, ap₂, ◌∙◌, subst, is_some}
+use Rattle.std.specs.List.{AllByRecursion, cons_option}
+use Rattle.plan_core.specs.declared.data_type.DataType.{DataType}
+use Rattle.plan_core.specs.declared.data_type.DataType.TheVariants as types
+use Rattle.plan_core.specs.Columns.{Columns, type_of}
+use Rattle.plan_core.specs.Names.{has, with_names, AreDistinct}
+use Rattle.plan_ir.specs.Plans.{Named}
+use Rattle.plan_meaning.specs.Exprs.{Name, name_of, leaves, all_known, expr_type, naming, may_be_named}
+use Rattle.plan_meaning.specs.Typing.{out_names, made_column, made_schema}
+use Rattle.plan_meaning.specs.Frames.{Frame, Column, Agree}
+use Rattle.plan_meaning.specs.Meaning.{Cell, filled}
+use Rattle.plan_meaning.specs.Steps.{made_columns}
+use Rattle.plan_meaning.specs.Relating.{NarrowColumns, AgreeOn}
+use Rattle.plan_meaning.specs.Asked.{set_of, all_leaves}
+use Rattle.plan_meaning.proofs.NameSets.{has_front, has_back, adds_names}
+use Rattle.plan_meaning.proofs.FrameLemmas.{agree_fewer}
+use Rattle.plan_meaning.proofs.Depends.{val_depends, type_within}
+use Rattle.plan_meaning.proofs.CheckParts.{MadeGood}
+use Rattle.plan_meaning.proofs.MadeColumns.{types_made}
+use Rattle.plan_meaning.proofs.KeptExprs.{new_distinct}
+use Rattle.plan_prune.specs.Pruned.{typed_names}
+use Rattle.plan_prune.proofs.NarrowLemmas.{holding_same, known_within}
+use Rattle.plan_prune.proofs.ScanNarrows.{new_from}
+use Rattle.plan_prune.proofs.StoredLemmas.{same_is, is_same}
+
+-- at names, or at everything where there are none
+
+pub set_types : (w : List Name) (r s : Columns) → NarrowColumns (set_of w) r s → (b : Name) → has w b ≡ true → type_of r b ≡ type_of s b
+set_types [] r s h b i = cc
+set_types (a ∷ w) r s h b i = holding_same (a ∷ w) r s h b i
+
+pub set_within : (w : List Name) (r s : Columns) → NarrowColumns (set_of w) r s → (b : Name) → is_some (type_of r b) ≡ true → is_some (type_of s b) ≡ true
+set_within [] r s h b i = subst (λ (x : Columns). is_some (type_of x b) ≡ true) h i
+set_within (a ∷ w) r s h b i = h.within b i
+
+pub set_frames : (w : List Name) (f g : Frame) → AgreeOn (set_of w) f g → Agree w f g
+set_frames [] f g e = record { height = ap (λ (x : Frame). x.height) e; same = λ a i. cc }
+set_frames (a ∷ w) f g h = h
+
+pub leaf_types : (es : List Named) (r s : Columns) → NarrowColumns (set_of (with_names [] (all_leaves es))) r s → (b : Name) → has (all_leaves es) b ≡ true → type_of r b ≡ type_of s b
+leaf_types es r s h b i = set_types (with_names [] (all_leaves es)) r s h b (adds_names [] (all_leaves es) b i)
+
+pub leaf_frames : (es : List Named) (f g : Frame) → AgreeOn (set_of (with_names [] (all_leaves es))) f g → Agree (all_leaves es) f g
+leaf_frames es f g h =
+    let w = with_names [] (all_leaves es) in
+    agree_fewer (all_leaves es) w f g (λ b i. adds_names [] (all_leaves es) b i) (set_frames w f g h)
+
+-- columns have one type at each name that expressions read
+abbrev pub SameLeaves : List Named → Columns → Columns → Type 0
+SameLeaves es r s = (b : Name) → has (all_leaves es) b ≡ true → type_of r b ≡ type_of s b
+
+front_leaves : (e : Named) (es : List Named) (r s : Columns) → SameLeaves (e ∷ es) r s → (b : Name) → has (leaves e.expr) b ≡ true → type_of r b ≡ type_of s b
+front_leaves e es r s h b i = h b (has_front (leaves e.expr) (all_leaves es) b i)
+
+back_leaves : (e : Named) (es : List Named) (r s : Columns) → SameLeaves (e ∷ es) r s → SameLeaves es r s
+back_leaves e es r s h b i = h b (has_back (leaves e.expr) (all_leaves es) b i)
+
+-- over these the expressions make the same columns
+pub same_made : (es : List Named) (r s : Columns) → SameLeaves es r s → map (made_column r) es ≡ map (made_column s) es
+same_made [] r s h = refl
+same_made (e ∷ es) r s h = ap₂ (λ (o : Option DataType) (cs : Columns). (name_of e.name, unwrap_or o types.Int64) ∷ cs) (type_within e.expr r s (front_leaves e es r s h)) (same_made es r s (back_leaves e es r s h))
+
+same_known : (es : List Named) (r s : Columns) → SameLeaves es r s → AllByRecursion (λ (e : Named). all_known (leaves e.expr) s ≡ true) es → AllByRecursion (λ (e : Named). all_known (leaves e.expr) r ≡ true) es
+same_known [] r s h k = tt
+same_known (e ∷ es) r s h k = (known_within (leaves e.expr) r s (front_leaves e es r s h) ∙ k.0, same_known es r s (back_leaves e es r s h) k.1)
+
+same_typed : (es : List Named) (r s : Columns) → SameLeaves es r s → AllByRecursion (λ (e : Named). is_some (expr_type e.expr s) ≡ true) es → AllByRecursion (λ (e : Named). is_some (expr_type e.expr r) ≡ true) es
+same_typed [] r s h k = tt
+same_typed (e ∷ es) r s h k = (ap is_some (type_within e.expr r s (front_leaves e es r s h)) ∙ k.0, same_typed es r s (back_leaves e es r s h) k.1)
+
+-- over frames that agree on what they read they make the same values
+pub same_values : (h : ℕ) (es : List Named) (f g : Frame) → Agree (all_leaves es) f g → made_columns h f es ≡ made_columns h g es
+same_values h [] f g a = refl
+same_values h (e ∷ es) f g a =
+    let here = agree_fewer (leaves e.expr) (all_leaves (e ∷ es)) f g (λ b i. has_front (leaves e.expr) (all_leaves es) b i) a in
+    let rest = agree_fewer (all_leaves es) (all_leaves (e ∷ es)) f g (λ b i. has_back (leaves e.expr) (all_leaves es) b i) a in
+    ap₂ (λ (c : Cell) (cs : List Column). record { name = name_of e.name; values = filled h c } ∷ cs) (val_depends e.expr f g here) (same_values h es f g rest)
+
+-- the output names with their types among columns that have them
+typed-made : (t s : Columns) (es : List Named) → AllByRecursion (λ (e : Named). type_of t (name_of e.name) ≡ Some (made_column s e).1) es → typed_names t (out_names es) ≡ map (made_column s) es
+typed-made t s [] h = refl
+typed-made t s (e ∷ es) h =
+    ap (λ (o : Option DataType). cons_option (option_map (λ (d : DataType). (name_of e.name, d)) o) (typed_names t (out_names es))) h.0
+    ∙ ap (λ (cs : Columns). made_column s e ∷ cs) (typed-made t s es h.1)
+
+-- what is left of expressions, over other columns
+module _ (base : Columns) (es : List Named) (stored s : Columns) (good : MadeGood base es stored s) where
+  pub once_names : AreDistinct (out_names es)
+  once_names = new_distinct 1 [] (out_names es) good.once
+
+  typed_in : AllByRecursion (λ (e : Named). type_of stored (name_of e.name) ≡ Some (made_column s e).1) es
+  typed_in =
+      subst (λ (t : Columns). AllByRecursion (λ (e : Named). type_of t (name_of e.name) ≡ Some (made_column s e).1) es) (sym (same_is stored (made_schema base es s) good.same))
+      (types_made s base es once_names)
+
+  module _ (ks : List Named) (sub : (P : Named → Type 0) → AllByRecursion P es → AllByRecursion P ks) (r : Columns) (same : SameLeaves ks r s) where
+    -- the stored columns of what is left are what it makes
+    pub left_stored : typed_names stored (out_names ks) ≡ map (made_column r) ks
+    left_stored = typed-made stored s ks (sub (λ (e : Named). type_of stored (name_of e.name) ≡ Some (made_column s e).1) typed_in) ∙ sym (same_made ks r s same)
+
+    -- what the checks on it say
+    pub left_made : (base' stored' : Columns) → AreDistinct (out_names ks) → stored' ≡ made_schema base' ks r → MadeGood base' ks stored' r
+    left_made base' stored' once is = record {
+      known = same_known ks r s same (sub (λ (e : Named). all_known (leaves e.expr) s ≡ true) good.known);
+      typed = same_typed ks r s same (sub (λ (e : Named). is_some (expr_type e.expr s) ≡ true) good.typed);
+      once = new_from 1 [] (out_names ks) (λ a i. refl) once;
+      same = is_same stored' (made_schema base' ks r) is;
+      named = sub (λ (e : Named). may_be_named e.name (naming e.expr) ≡ true) good.named;
+    }
