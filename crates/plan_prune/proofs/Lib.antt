@@ -14,5 +14,6 @@ pub mod StackNarrows
 mod FrameNarrows
 pub mod PrunedNarrows
 pub mod PrunedReads
+pub mod PrunedWork
 pub mod PlanPruned
 mod Example

@@ -8,9 +8,11 @@ use Rattle.plan_meaning.specs.Asked.{sites_of}
 use Rattle.plan_meaning.specs.PlanAt.{one_plan}
 use Rattle.plan_prune.specs.Pruned.{pruned, pruned_all}
 use Rattle.plan_meaning.specs.Scans.{scans, nodes}
+use Rattle.plan_meaning.specs.Work.{made, kept}
 use Rattle.plan_prune.specs.Reads.{ReadWithin, tops}
 use Rattle.plan_prune.proofs.PrunedNarrows.{pruned_refines}
 use Rattle.plan_prune.proofs.PrunedReads.{pruned_reads, pruned_nodes}
+use Rattle.plan_prune.proofs.PrunedWork.{pruned_made}
 
 module _ (top : Bool) (old new : Roses (Unit {0}) Op) (is : new ≡ pruned_all top [] old) (v : IsValid (one_plan old)) where
   pruned_at : (ts : Roses (Unit {0}) Op) → IsValid (one_plan ts) → one_plan (pruned_all top [] ts) ≡ pruned top [] (one_plan ts)
@@ -28,3 +30,6 @@ module _ (top : Bool) (old new : Roses (Unit {0}) Op) (is : new ≡ pruned_all t
 
   pub nodes_at : nodes (one_plan new) ≤ nodes (one_plan old) + tops (one_plan old) all
   nodes_at = subst (λ (x : Plan). nodes x ≤ nodes (one_plan old) + tops (one_plan old) all) (sym here) (pruned_nodes top (one_plan old) v)
+
+  pub work_at : made (one_plan new) ≤ kept (one_plan old)
+  work_at = subst (λ (x : Plan). made x ≤ kept (one_plan old)) (sym here) (pruned_made top (one_plan old) v)

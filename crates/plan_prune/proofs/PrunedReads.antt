@@ -4,18 +4,21 @@ use Rattle.std.specs.List.{AllByRecursion, cons_option}
 use Rattle.plan_core.specs.declared.data_type.DataType.{DataType}
 use Rattle.plan_core.specs.Columns.{Columns, names_of, type_of}
 use Rattle.plan_core.specs.Names.{has}
+use Rattle.plan_core.specs.declared.options.ProjectionOptions.{ProjectionOptions}
 use Rattle.plan_meaning.proofs.NameSets.{has_cons, has_first, has_later}
 use Rattle.plan_tree.specs.Rose.{Roses, rose, no_roses, more, size}
-use Rattle.plan_ir.specs.Plans.{Op, slice, filter, scan, frame_scan, simple_projection, select, hstack, invalid, Plan}
-use Rattle.plan_meaning.specs.Typing.{schemas, AllValid}
+use Rattle.plan_ir.specs.Plans.{Op, slice, filter, scan, frame_scan, simple_projection, select, hstack, invalid, Named, Plan}
+use Rattle.plan_meaning.specs.Typing.{schemas, checks, AllHold, AllValid}
+use Rattle.plan_meaning.specs.PlanAt.{one_plan}
 use Rattle.plan_meaning.specs.Steps.{IsValid}
-use Rattle.plan_meaning.specs.Relating.{Asked, all}
-use Rattle.plan_meaning.specs.Asked.{set_of, asks as asks_of, Site, SiteFair, own_site, sites, sites_of}
+use Rattle.plan_meaning.specs.Relating.{Asked, all, names}
+use Rattle.plan_meaning.specs.Asked.{set_of, kept_exprs, asks as asks_of, Site, SiteFair, own_site, sites, sites_of}
 use Rattle.plan_meaning.specs.Scans.{scans, scans_in, KeepScans, Keeps, nodes}
 use Rattle.plan_meaning.proofs.Fairness.{plan_sites_fair}
 use Rattle.plan_meaning.proofs.Keeping.{sites-scans}
 use Rattle.plan_meaning.specs.Exprs.{Name}
-use Rattle.plan_prune.specs.Pruned.{typed_names, asks, rebuilt, pruned, pruned_all}
+use Rattle.plan_prune.specs.Pruned.{typed_names, stacked, asks, rebuilt, pruned, pruned_all}
+use Rattle.plan_prune.specs.Stored.{stored_all}
 use Rattle.plan_prune.specs.Reads.{ReadWithin, own_tops, tops_in, tops}
 use Rattle.plan_prune.proofs.AskedNames.{each_asked, asks-each}
 
@@ -34,19 +37,49 @@ typed_asked s (b ∷ wanted) a i = at (type_of s b) (λ j. typed_asked s wanted 
     at None r i = has_later b wanted a (r i)
     at (Some t) r i = ⊎_elim (λ (q : a ≡ b). subst (λ (x : Name). has (b ∷ wanted) x ≡ true) (sym q) (has_first b wanted)) (λ (q : has (names_of (typed_names s wanted)) a ≡ true). has_later b wanted a (r q)) (has_cons b (names_of (typed_names s wanted)) a i)
 
+-- at most one plan
+abbrev AtMostOne : Roses (Unit {0}) Op → Type 0
+AtMostOne no_roses = Unit {0}
+AtMostOne (more p no_roses) = Unit {0}
+AtMostOne (more p (more q rest)) = ⊥
+
+-- a valid node has at most one input
+one_at_most : (top : Bool) (l : List Name) (op : Op) (ts : Roses (Unit {0}) Op) → AllHold (checks op (schemas ts)) → AtMostOne (pruned_all top l ts)
+one_at_most top l op no_roses good = tt
+one_at_most top l op (more p no_roses) good = tt
+one_at_most top l (slice offset len) (more (rose n o us) (more (rose m q vs) rest)) good = cc
+one_at_most top l (filter p) (more (rose n o us) (more (rose m q vs) rest)) good = cc
+one_at_most top l (scan sources info predicate output kind options) (more (rose n o us) (more (rose m q vs) rest)) good = cc
+one_at_most top l (frame_scan df schema output) (more (rose n o us) (more (rose m q vs) rest)) good = cc
+one_at_most top l (simple_projection cs) (more (rose n o us) (more (rose m q vs) rest)) good = cc
+one_at_most top l (select es schema options) (more (rose n o us) (more (rose m q vs) rest)) good = cc
+one_at_most top l (hstack es schema options) (more (rose n o us) (more (rose m q vs) rest)) good = cc
+one_at_most top l invalid (more (rose n o us) (more (rose m q vs) rest)) good = cc
+
+one-scans : (rs : Roses (Unit {0}) Op) → AtMostOne rs → scans_in rs ≡ scans (one_plan rs)
+one-scans no_roses few = refl
+one-scans (more r no_roses) few = append-nil (scans r)
+one-scans (more r (more q rest)) few = absurd few
+
+stacked_reads : (es : List Named) (schema : Columns) (options : ProjectionOptions) (rs : Roses (Unit {0}) Op) (zs : List Site) → AtMostOne rs → ReadWithin (scans_in rs) zs → ReadWithin (scans (stacked es schema options rs)) zs
+stacked_reads [] schema options rs zs few h = subst (λ (os : List Op). ReadWithin os zs) (one-scans rs few) h
+stacked_reads (e ∷ es) schema options rs zs few h = h
+
 -- per node: what it scans
-rebuilt_reads : (top : Bool) (l : List Name) (op : Op) (rs : Roses (Unit {0}) Op) (zs : List Site) → ReadWithin (scans_in rs) zs → ReadWithin (scans (rebuilt top l op rs)) (own_site op (set_of l) ++ zs)
-rebuilt_reads top l (slice o n) rs zs h = h
-rebuilt_reads top l (select es schema options) rs zs h = h
-rebuilt_reads top l (hstack es schema options) rs zs h = h
-rebuilt_reads top [] (frame_scan df schema output) rs zs h = (refl, (λ a i. i), h)
-rebuilt_reads top (b ∷ l) (frame_scan df schema output) rs zs h = (refl, (λ a i. typed_asked schema (b ∷ l) a i), h)
-rebuilt_reads top l (filter p) rs zs h = h
-rebuilt_reads top l (simple_projection cs) rs zs h = h
-rebuilt_reads top l invalid rs zs h = h
-rebuilt_reads top [] (scan sources info predicate output kind options) rs zs h = ((refl, refl), (λ a i. i), h)
-rebuilt_reads false (b ∷ l) (scan sources info predicate output kind options) rs zs h = ((refl, refl), (λ a i. i), h)
-rebuilt_reads true (b ∷ l) (scan sources info predicate output kind options) rs zs h =
+rebuilt_reads : (top : Bool) (l : List Name) (op : Op) (rs : Roses (Unit {0}) Op) (zs : List Site) → AtMostOne rs → ReadWithin (scans_in rs) zs → ReadWithin (scans (rebuilt top l op rs)) (own_site op (set_of l) ++ zs)
+rebuilt_reads top l (slice o n) rs zs few h = h
+rebuilt_reads top [] (select es schema options) rs zs few h = h
+rebuilt_reads top (b ∷ l) (select es schema options) rs zs few h = h
+rebuilt_reads top [] (hstack es schema options) rs zs few h = h
+rebuilt_reads top (b ∷ l) (hstack es schema options) rs zs few h = stacked_reads (kept_exprs (names (b ∷ l)) es) schema options rs zs few h
+rebuilt_reads top [] (frame_scan df schema output) rs zs few h = (refl, (λ a i. i), h)
+rebuilt_reads top (b ∷ l) (frame_scan df schema output) rs zs few h = (refl, (λ a i. typed_asked schema (b ∷ l) a i), h)
+rebuilt_reads top l (filter p) rs zs few h = h
+rebuilt_reads top l (simple_projection cs) rs zs few h = h
+rebuilt_reads top l invalid rs zs few h = h
+rebuilt_reads top [] (scan sources info predicate output kind options) rs zs few h = ((refl, refl), (λ a i. i), h)
+rebuilt_reads false (b ∷ l) (scan sources info predicate output kind options) rs zs few h = ((refl, refl), (λ a i. i), h)
+rebuilt_reads true (b ∷ l) (scan sources info predicate output kind options) rs zs few h =
     ((refl, refl), (λ a i. i), subst (λ (os : List Op). ReadWithin os zs) (sym (append-nil (scans_in rs))) h)
 
 -- the scans of pruned plans stand one for one for those of the plans, and read what is asked of them
@@ -54,13 +87,14 @@ all_read : (top : Bool) (l : List Name) (ts : Roses (Unit {0}) Op) → AllValid 
 all_read top l no_roses v = tt
 all_read top l (more (rose n op ts) rest) v =
     let a = set_of l in
+    let b = asks l op (stored_all ts) in
     let own = own_site op a in
     let below = sites ts (asks_of op a (schemas ts)) in
     let others = sites rest (each_asked a rest) in
-    let under = subst (λ (x : List Asked). ReadWithin (scans_in (pruned_all top (asks l op) ts)) (sites ts x)) (sym (asks-each l op ts v.0)) (all_read top (asks l op) ts v.1) in
-    let here = rebuilt_reads top l op (pruned_all top (asks l op) ts) below under in
+    let under = subst (λ (x : List Asked). ReadWithin (scans_in (pruned_all top b ts)) (sites ts x)) (sym (asks-each l op ts v.0 v.1)) (all_read top b ts v.1) in
+    let here = rebuilt_reads top l op (pruned_all top b ts) below (one_at_most top b op ts v.0) under in
     subst (λ (x : List Site). ReadWithin (scans_in (pruned_all top l (more (rose n op ts) rest))) x) (append_assoc own below others)
-    (reads_append (scans (rebuilt top l op (pruned_all top (asks l op) ts))) (scans_in (pruned_all top l rest)) (own ++ below) others here (all_read top l rest v.2))
+    (reads_append (scans (rebuilt top l op (pruned_all top b ts))) (scans_in (pruned_all top l rest)) (own ++ below) others here (all_read top l rest v.2))
 
 pub pruned_reads : (top : Bool) (p : Plan) → IsValid p → ReadWithin (scans (pruned top [] p)) (sites_of p)
 pruned_reads top (rose n op ts) v =
@@ -84,12 +118,22 @@ pruned_keeps top (rose n op ts) v =
 size-more : (p : Plan) (ps : Roses (Unit {0}) Op) → size (more p ps) ≡ nodes p + size ps
 size-more (rose n op ts) ps = omega arith
 
+one_nodes : (rs : Roses (Unit {0}) Op) → nodes (one_plan rs) ≤ 1 + size rs
+one_nodes no_roses = omega arith
+one_nodes (more r rs) = let e = size-more r rs in omega arith
+
+stacked_nodes : (es : List Named) (schema : Columns) (options : ProjectionOptions) (rs : Roses (Unit {0}) Op) → nodes (stacked es schema options rs) ≤ 1 + size rs
+stacked_nodes [] schema options rs = one_nodes rs
+stacked_nodes (e ∷ es) schema options rs = omega arith
+
 -- per node: a projection more on a scan that is asked names
 rebuilt_nodes : (top : Bool) (l : List Name) (op : Op) (ss : List Columns) (rs : Roses (Unit {0}) Op) → nodes (rebuilt top l op rs) ≤ 1 + own_tops op (set_of l) ss + size rs
 rebuilt_nodes top l (slice o n) ss rs = omega arith
 rebuilt_nodes top l (frame_scan df schema output) ss rs = omega arith
-rebuilt_nodes top l (select es schema options) ss rs = omega arith
-rebuilt_nodes top l (hstack es schema options) ss rs = omega arith
+rebuilt_nodes top [] (select es schema options) ss rs = omega arith
+rebuilt_nodes top (b ∷ l) (select es schema options) ss rs = omega arith
+rebuilt_nodes top [] (hstack es schema options) ss rs = omega arith
+rebuilt_nodes top (b ∷ l) (hstack es schema options) ss rs = let h = stacked_nodes (kept_exprs (names (b ∷ l)) es) schema options rs in omega arith
 rebuilt_nodes top l (filter p) ss rs = omega arith
 rebuilt_nodes top l (simple_projection cs) ss rs = omega arith
 rebuilt_nodes top l invalid ss rs = omega arith
@@ -101,11 +145,12 @@ all_nodes : (top : Bool) (l : List Name) (ts : Roses (Unit {0}) Op) → AllValid
 all_nodes top l no_roses v = omega arith
 all_nodes top l (more (rose n op ts) rest) v =
     let a = set_of l in
-    let rs = pruned_all top (asks l op) ts in
+    let b = asks l op (stored_all ts) in
+    let rs = pruned_all top b ts in
     let split : size (pruned_all top l (more (rose n op ts) rest)) ≡ nodes (rebuilt top l op rs) + size (pruned_all top l rest) = size-more (rebuilt top l op rs) (pruned_all top l rest) in
     let here = rebuilt_nodes top l op (schemas ts) rs in
     let under : size rs ≤ size ts + tops_in ts (asks_of op a (schemas ts)) =
-    subst (λ (x : List Asked). size rs ≤ size ts + tops_in ts x) (sym (asks-each l op ts v.0)) (all_nodes top (asks l op) ts v.1) in
+    subst (λ (x : List Asked). size rs ≤ size ts + tops_in ts x) (sym (asks-each l op ts v.0 v.1)) (all_nodes top b ts v.1) in
     let others = all_nodes top l rest v.2 in
     omega arith
 

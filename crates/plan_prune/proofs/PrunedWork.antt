@@ -1,0 +1,61 @@
+-- The nodes of a pruned plan make at most the columns that are asked of them.
+use Rattle.std.proofs.Common.{◌≡◌, ℕ, ◌+◌, ◌≤◌, Bool, true, false, List, [], ◌∷◌, length, refl, sym, ap, subst, arith}
+use Rattle.plan_core.specs.declared.options.ProjectionOptions.{ProjectionOptions}
+use Rattle.plan_core.specs.Columns.{Columns}
+use Rattle.plan_tree.specs.Rose.{Roses, rose, no_roses, more}
+use Rattle.plan_ir.specs.Plans.{Op, slice, filter, scan, frame_scan, simple_projection, select, hstack, invalid, Named, Plan}
+use Rattle.plan_meaning.specs.Exprs.{Name}
+use Rattle.plan_meaning.specs.Typing.{schemas, AllValid}
+use Rattle.plan_meaning.specs.PlanAt.{one_plan}
+use Rattle.plan_meaning.specs.Steps.{IsValid}
+use Rattle.plan_meaning.specs.Relating.{Asked, all, names}
+use Rattle.plan_meaning.specs.Asked.{set_of, kept_exprs, asks as asks_of}
+use Rattle.plan_meaning.specs.Work.{reckoned_exprs, made_in, made, own_kept, kept_in, kept}
+use Rattle.plan_meaning.proofs.KeptExprs.{kept-all, selected-all}
+use Rattle.plan_prune.specs.Pruned.{stacked, asks, rebuilt, pruned, pruned_all}
+use Rattle.plan_prune.specs.Stored.{stored_all}
+use Rattle.plan_prune.proofs.AskedNames.{each_asked, asks-each}
+
+made-more : (p : Plan) (ps : Roses (Unit {0}) Op) → made_in (more p ps) ≡ made p + made_in ps
+made-more (rose n op ts) ps = omega arith
+
+one_made : (rs : Roses (Unit {0}) Op) → made (one_plan rs) ≤ made_in rs
+one_made no_roses = omega arith
+one_made (more r rs) = let e = made-more r rs in omega arith
+
+stacked_made : (es : List Named) (schema : Columns) (options : ProjectionOptions) (rs : Roses (Unit {0}) Op) → made (stacked es schema options rs) ≤ length es + made_in rs
+stacked_made [] schema options rs = let h = one_made rs in omega arith
+stacked_made (e ∷ es) schema options rs = omega arith
+
+-- per node: what it makes is asked of it
+rebuilt_made : (top : Bool) (l : List Name) (op : Op) (rs : Roses (Unit {0}) Op) → made (rebuilt top l op rs) ≤ own_kept op (set_of l) + made_in rs
+rebuilt_made top l (slice o n) rs = omega arith
+rebuilt_made top l (frame_scan df schema output) rs = omega arith
+rebuilt_made top [] (select es schema options) rs = let e = ap reckoned_exprs (selected-all es) in omega arith
+rebuilt_made top (b ∷ l) (select es schema options) rs = omega arith
+rebuilt_made top [] (hstack es schema options) rs = let e : length (kept_exprs all es) ≡ length es = ap length (kept-all es) in omega arith
+rebuilt_made top (b ∷ l) (hstack es schema options) rs = let h = stacked_made (kept_exprs (names (b ∷ l)) es) schema options rs in omega arith
+rebuilt_made top l (filter p) rs = omega arith
+rebuilt_made top l (simple_projection cs) rs = omega arith
+rebuilt_made top l invalid rs = omega arith
+rebuilt_made top [] (scan sources info predicate output kind options) rs = omega arith
+rebuilt_made false (b ∷ l) (scan sources info predicate output kind options) rs = omega arith
+rebuilt_made true (b ∷ l) (scan sources info predicate output kind options) rs = omega arith
+
+-- pruned plans make at most what they are asked
+all_made : (top : Bool) (l : List Name) (ts : Roses (Unit {0}) Op) → AllValid ts → made_in (pruned_all top l ts) ≤ kept_in ts (each_asked (set_of l) ts)
+all_made top l no_roses v = omega arith
+all_made top l (more (rose n op ts) rest) v =
+    let a = set_of l in
+    let b = asks l op (stored_all ts) in
+    let rs = pruned_all top b ts in
+    let split : made_in (pruned_all top l (more (rose n op ts) rest)) ≡ made (rebuilt top l op rs) + made_in (pruned_all top l rest) = made-more (rebuilt top l op rs) (pruned_all top l rest) in
+    let here = rebuilt_made top l op rs in
+    let under : made_in rs ≤ kept_in ts (asks_of op a (schemas ts)) =
+    subst (λ (x : List Asked). made_in rs ≤ kept_in ts x) (sym (asks-each l op ts v.0 v.1)) (all_made top b ts v.1) in
+    let others = all_made top l rest v.2 in
+    omega arith
+
+-- a pruned plan makes at most the columns that its nodes are asked
+pub pruned_made : (top : Bool) (p : Plan) → IsValid p → made (pruned top [] p) ≤ kept p
+pruned_made top (rose n op ts) v = all_made top [] (more (rose n op ts) no_roses) (v.0, v.1, tt)
