@@ -1,7 +1,9 @@
 -- No plan, listing or error has a float, so its text is known.
 use Rattle.std.proofs.Common.{◌≡◌, ℕ, ℤ, pos, negsuc, List, [], ◌∷◌, false, Option, Some, None, refl}
-use Rattle.serde_json.specs.Data.{Data, string}
-use Rattle.serde_json.specs.Written.{has_float}
+use Rattle.std.specs.Prelude.{codes}
+use Rattle.serde_json.specs.Data as json
+use Rattle.serde_json.specs.Data.{Data, boolean, string, member, no_members}
+use Rattle.serde_json.specs.Written.{has_float, members_have_float}
 use Rattle.plan_core.specs.Columns.{Columns}
 use Rattle.plan_core.specs.declared.arena.Node.{Node}
 use Rattle.plan_core.specs.declared.error.PolarsError.{PolarsError}
@@ -18,7 +20,7 @@ use Rattle.plan_ir.specs.declared.scan.FileInfo.{FileInfo}
 use Rattle.plan_ir.specs.declared.scan.FileScan.{FileScan}
 use Rattle.plan_ir.specs.declared.scan.ScanSources.{ScanSources}
 use Rattle.plan_ir.specs.declared.scan.ScanSources.TheVariants as sources
-use Rattle.plan_text.specs.Kinds.{place_of}
+use Rattle.plan_text.specs.Kinds.{place_of, format_text}
 use Rattle.plan_text.specs.Written.{link_data, integer_data, number_data, list_data, nullable_data, field_data, columns_data, names_data, output_data, outputs_data, options_data, slice_data, row_index_data, sources_data, literal_data, expr_data, slice_node_data, scan_data, frame_scan_data, made_data, node_data, plan_data, listing_data, fault_data}
 
 -- the value has no float
@@ -52,7 +54,7 @@ options_plain o = refl
 names_plain : (ns : List (List ℕ)) → IsPlain (names_data ns)
 names_plain ns = list_plain string ns (λ n. refl)
 
-columns_plain : (cs : Columns) → IsPlain (columns_data cs)
+pub columns_plain : (cs : Columns) → IsPlain (columns_data cs)
 columns_plain cs = list_plain field_data cs (λ f. refl)
 
 sources_plain : (s : ScanSources) → IsPlain (sources_data s)
@@ -78,7 +80,7 @@ slice_node_plain : (input : Node) (offset : ℤ) (len : ℕ) → IsPlain (slice_
 unfolding slice_node_data
 slice_node_plain input offset len = rw (integer_plain offset) refl
 
-scan_plain : (from : ScanSources) (info : FileInfo) (predicate : Option ExprIR) (output : Option Columns) (format : FileScan) (options : FileScanOptions) → IsPlain (scan_data from info predicate output format options)
+pub scan_plain : (from : ScanSources) (info : FileInfo) (predicate : Option ExprIR) (output : Option Columns) (format : FileScan) (options : FileScanOptions) → IsPlain (scan_data from info predicate output format options)
 unfolding scan_data
 scan_plain from info predicate output format options =
     rw (
@@ -101,7 +103,19 @@ made_plain : (op : List ℕ) (input : Node) (exprs : List ExprIR) (schema : Colu
 unfolding made_data
 made_plain op input exprs schema options = rw (outputs_plain exprs, options_plain options, columns_plain schema) refl
 
-node_plain : (n : IR) → IsPlain (node_data n)
+-- the same of the members of a scan, whatever their values are called
+pub scan_members_plain : (from : ScanSources) (info : FileInfo) (predicate : Option ExprIR) (output : Option Columns) (format : FileScan) (options : FileScanOptions)
+    (columns hive kind op out path named reader rechunk row all slice places : Data)
+    → columns ≡ nullable_data names_data options.with_columns → hive ≡ json.null → kind ≡ string (format_text format) → op ≡ string (codes "Scan")
+    → out ≡ nullable_data columns_data output → path ≡ nullable_data string options.include_file_paths → named ≡ nullable_data output_data predicate
+    → reader ≡ nullable_data columns_data info.reader_schema → rechunk ≡ boolean options.rechunk → row ≡ nullable_data row_index_data options.row_index
+    → all ≡ columns_data info.schema → slice ≡ nullable_data slice_data options.slice → places ≡ sources_data from
+    → members_have_float (member (codes "columns") columns (member (codes "hive") hive (member (codes "kind") kind (member (codes "op") op (member (codes "output") out (member (codes "path_column") path (member (codes "predicate") named (member (codes "reader") reader (member (codes "rechunk") rechunk (member (codes "row_index") row (member (codes "schema") all (member (codes "slice") slice (member (codes "sources") places no_members))))))))))))) ≡ false
+unfolding scan_data
+scan_members_plain from info predicate output format options columns hive kind op out path named reader rechunk row all slice places e1 e2 e3 e4 e5 e6 e7 e8 e9 e10 e11 e12 e13 =
+    rw (e1, e2, e3, e4, e5, e6, e7, e8, e9, e10, e11, e12, e13) (scan_plain from info predicate output format options)
+
+pub node_plain : (n : IR) → IsPlain (node_data n)
 unfolding node_data
 node_plain (nodes.Slice input offset len) = slice_node_plain input offset len
 node_plain (nodes.Filter input predicate) = rw (output_plain predicate) refl
@@ -112,13 +126,12 @@ node_plain (nodes.Select input expr schema options) = made_plain _ input expr sc
 node_plain (nodes.HStack input exprs schema options) = made_plain _ input exprs schema options
 node_plain nodes.Invalid = refl
 
+pub exprs_plain : (ex : List AExpr) → has_float (list_data expr_data ex) ≡ false
+exprs_plain ex = list_plain expr_data ex expr_plain
+
 pub plan_plain : (lp : List IR) (ex : List AExpr) (root : Node) → has_float (plan_data lp ex root) ≡ false
 unfolding plan_data
-plan_plain lp ex root = rw (list_plain expr_data ex expr_plain, list_plain node_data lp node_plain) refl
-
-pub listing_plain : (lp : List IR) (ex : List AExpr) (root : Node) (reads : List (List (List ℕ))) → has_float (listing_data lp ex root reads) ≡ false
-unfolding listing_data
-listing_plain lp ex root reads = rw (plan_plain lp ex root, list_plain names_data reads names_plain) refl
+plan_plain lp ex root = rw (exprs_plain ex, list_plain node_data lp node_plain) refl
 
 pub fault_plain : (e : PolarsError) → has_float (fault_data e) ≡ false
 unfolding fault_data

@@ -131,7 +131,7 @@ fn made(
 
 /// The object of a node.
 #[tactic(auto, unfolding(crate::specs::Written::node_data))]
-fn node(alloc: Global, node: &IR) -> Result<Value, AllocError>
+pub fn node(alloc: Global, node: &IR) -> Result<Value, AllocError>
     ensures { IfOk result (λ v. view v ≡ node_data node.now) }
 {
     match node {
@@ -193,7 +193,7 @@ fn nodes(alloc: Global, arena: &Arena<IR>) -> Result<Value, AllocError>
 }
 
 /// The array of the expressions of an arena, by their numbers.
-fn exprs(alloc: Global, arena: &Arena<AExpr>) -> Result<Value, AllocError>
+pub fn exprs(alloc: Global, arena: &Arena<AExpr>) -> Result<Value, AllocError>
     ensures { IfOk result (λ v. view v ≡ list_data expr_data arena.now) }
 {
     let written = each_entry(alloc, arena, |given| expr(alloc, given))?;
