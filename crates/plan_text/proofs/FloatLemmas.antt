@@ -21,7 +21,7 @@ use Rattle.plan_ir.specs.declared.scan.FileScan.{FileScan}
 use Rattle.plan_ir.specs.declared.scan.ScanSources.{ScanSources}
 use Rattle.plan_ir.specs.declared.scan.ScanSources.TheVariants as sources
 use Rattle.plan_text.specs.Kinds.{place_of, format_text}
-use Rattle.plan_text.specs.Written.{link_data, integer_data, number_data, list_data, nullable_data, field_data, columns_data, names_data, output_data, outputs_data, options_data, slice_data, row_index_data, sources_data, literal_data, expr_data, slice_node_data, scan_data, frame_scan_data, made_data, node_data, plan_data, listing_data, fault_data}
+use Rattle.plan_text.specs.Written.{link_data, integer_data, number_data, list_data, nullable_data, field_data, columns_data, names_data, output_data, outputs_data, options_data, slice_data, row_index_data, sources_data, literal_data, expr_data, slice_node_data, scan_data, frame_scan_data, made_data, node_data, plan_data, fault_data}
 
 -- the value has no float
 abbrev IsPlain : Data → Type 0
