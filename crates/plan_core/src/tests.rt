@@ -177,7 +177,11 @@ fn projection_options_are_merged(rt: HostRuntime) {
     };
     let merged = ProjectionOptions::default().merge_options(&none);
     assert_eq!(rt;
-        (merged.run_parallel, merged.duplicate_check, merged.should_broadcast),
+        (
+            merged.run_parallel,
+            merged.duplicate_check,
+            merged.should_broadcast
+        ),
         (false, false, true)
     );
 }

@@ -1,8 +1,7 @@
 -- What is refused until it is built. Each definition goes when its form is built.
-use Rattle.std.specs.Prelude.{ℕ, ◌==◌, List, length, Bool, Option, Some, None, if◌then◌else◌, codes, bit_and, nat_lt}
+use Rattle.std.specs.Prelude.{ℕ, ◌==◌, List, length, Bool, Option, Some, None, if◌then◌else◌, codes, bit_and}
 use Rattle.serde_json.specs.Data.{Data}
 use Rattle.serde_json.specs.Find.{get, as_null}
-use Rattle.plan_core.specs.Columns.{Columns}
 use Rattle.plan_doc.specs.Parts.{◌>>=◌, truth_of}
 
 -- flags of passes that are not built: CLUSTER_WITH_COLUMNS, EAGER, FAST_PROJECTION, COLLAPSE_JOINS, CHECK_ORDER_OBSERVE
@@ -23,10 +22,6 @@ unshared_of d = do
 abbrev pub one_path : List (List ℕ) → Option (List (List ℕ))
 one_path paths = if length paths == 1 then Some paths else None
 
--- a projection of some columns
-abbrev pub some_columns : Columns → Option Columns
-some_columns cs = if nat_lt 0 (length cs) then Some cs else None
-
 -- the fields of a scan that are null
 unfoldable pub null_fields : Data → Option (Unit {0})
 null_fields o = do
@@ -34,9 +29,5 @@ null_fields o = do
   a ← as_null hive
   path_column ← get (codes "path_column") o
   b ← as_null path_column
-  predicate ← get (codes "predicate") o
-  c ← as_null predicate
   row_index ← get (codes "row_index") o
-  e ← as_null row_index
-  slice ← get (codes "slice") o
-  as_null slice
+  as_null row_index

@@ -1,15 +1,20 @@
 -- The expressions and nodes that the entries of a document stand for.
-use Rattle.std.specs.Prelude.{ℕ, List, [], ◌∷◌, Option, Some, None, if◌then◌else◌, codes, bytes_eq}
+use Rattle.std.specs.Prelude.{ℕ, List, [], ◌∷◌, Option, Some, None, is_some, if◌then◌else◌, codes, bytes_eq}
 use Rattle.serde_json.specs.Data.{Data}
-use Rattle.serde_json.specs.Find.{get}
+use Rattle.serde_json.specs.Find.{get, as_null}
 use Rattle.plan_core.specs.Options.{default_scan}
+use Rattle.plan_core.specs.declared.data_type.PlainType.{PlainType}
+use Rattle.plan_core.specs.declared.data_type.PlainType.TheVariants as plains
 use Rattle.plan_core.specs.declared.options.FileScanOptions.{FileScanOptions}
+use Rattle.plan_core.specs.declared.options.ProjectionOptions.{ProjectionOptions}
+use Rattle.plan_core.specs.Columns.{Columns}
 use Rattle.plan_ir.specs.declared.expr.Operator.{Operator}
 use Rattle.plan_ir.specs.declared.expr.Operator.TheVariants as operators
 use Rattle.plan_ir.specs.declared.expr.LiteralValue.{LiteralValue}
 use Rattle.plan_ir.specs.declared.expr.LiteralValue.TheVariants as literals
 use Rattle.plan_ir.specs.declared.expr.AExpr.{AExpr}
 use Rattle.plan_ir.specs.declared.expr.AExpr.TheVariants as exprs
+use Rattle.plan_ir.specs.declared.expr.ExprIR.{ExprIR}
 use Rattle.plan_ir.specs.declared.scan.FileScan.{FileScan}
 use Rattle.plan_ir.specs.declared.scan.FileScan.TheVariants as kinds
 use Rattle.plan_ir.specs.declared.scan.ScanSources.{ScanSources}
@@ -17,8 +22,8 @@ use Rattle.plan_ir.specs.declared.scan.ScanSources.TheVariants as sources
 use Rattle.plan_ir.specs.declared.scan.FileInfo.{FileInfo}
 use Rattle.plan_ir.specs.declared.ir.IR.{IR}
 use Rattle.plan_ir.specs.declared.ir.IR.TheVariants as nodes
-use Rattle.plan_doc.specs.Parts.{◌>>=◌, object_of, nullable, name_of, link_of, integer_of, truth_of, names_of, columns_of, output_of}
-use Rattle.plan_doc.specs.Built.{one_path, some_columns, null_fields}
+use Rattle.plan_doc.specs.Parts.{◌>>=◌, object_of, nullable, name_of, number_of, link_of, integer_of, truth_of, names_of, plain_of, columns_of, output_of, outputs_of, slice_of, options_of}
+use Rattle.plan_doc.specs.Built.{one_path, null_fields}
 
 -- the operator that a text names
 unfoldable pub operator_named : List ℕ → Option Operator
@@ -28,7 +33,15 @@ operator_named s =
     if bytes_eq s (codes "Lt") then Some operators.Lt else (
     if bytes_eq s (codes "LtEq") then Some operators.LtEq else (
     if bytes_eq s (codes "Gt") then Some operators.Gt else (
-    if bytes_eq s (codes "GtEq") then Some operators.GtEq else None)))))
+    if bytes_eq s (codes "GtEq") then Some operators.GtEq else (
+    if bytes_eq s (codes "EqValidity") then Some operators.EqValidity else (
+    if bytes_eq s (codes "NotEqValidity") then Some operators.NotEqValidity else (
+    if bytes_eq s (codes "And") then Some operators.And else (
+    if bytes_eq s (codes "Or") then Some operators.Or else (
+    if bytes_eq s (codes "Xor") then Some operators.Xor else (
+    if bytes_eq s (codes "Plus") then Some operators.Plus else (
+    if bytes_eq s (codes "Minus") then Some operators.Minus else (
+    if bytes_eq s (codes "Multiply") then Some operators.Multiply else None)))))))))))))
 
 -- the name of an operator
 unfoldable pub operator_of : Data → Option Operator
@@ -44,23 +57,41 @@ column_expr_of d = do
   n ← name_of name
   Some (exprs.Column n)
 
--- a whole number that is written out
-abbrev pub literal_at : List ℕ → Data → Option LiteralValue
-literal_at type value = if bytes_eq type (codes "Int64")
-    then (do
-      n ← integer_of value
-      Some (literals.Int64 n))
-    else None
+-- a value of the type
+abbrev pub value_of : PlainType → Data → Option LiteralValue
+value_of plains.Int64 d = do
+  n ← integer_of d
+  Some (literals.Int64 n)
+value_of plains.String d = do
+  s ← name_of d
+  Some (literals.String s)
+value_of plains.Boolean d = do
+  b ← truth_of d
+  Some (literals.Boolean b)
+
+-- null of the type, or a value of it
+abbrev pub value_or_null : PlainType → Data → Option LiteralValue
+value_or_null t d = if is_some (as_null d) then Some (literals.Null t) else value_of t d
 
 -- a value that is written out
 unfoldable pub literal_of : Data → Option AExpr
 literal_of d = do
   o ← object_of (codes "op" ∷ codes "type" ∷ codes "value" ∷ []) d
   type ← get (codes "type") o
-  t ← name_of type
+  t ← plain_of type
   value ← get (codes "value") o
-  v ← literal_at t value
+  v ← value_or_null t value
   Some (exprs.Literal v)
+
+-- an entry under another name
+unfoldable pub alias_of : Data → Option AExpr
+alias_of d = do
+  o ← object_of (codes "input" ∷ codes "name" ∷ codes "op" ∷ []) d
+  input ← get (codes "input") o
+  i ← link_of input
+  name ← get (codes "name") o
+  n ← name_of name
+  Some (exprs.Alias i n)
 
 -- an operator over two entries
 unfoldable pub binary_of : Data → Option AExpr
@@ -81,7 +112,20 @@ expr_of d = do
   s ← name_of op
   if bytes_eq s (codes "Column") then column_expr_of d else (
       if bytes_eq s (codes "Literal") then literal_of d else (
-      if bytes_eq s (codes "BinaryExpr") then binary_of d else None))
+      if bytes_eq s (codes "Alias") then alias_of d else (
+      if bytes_eq s (codes "BinaryExpr") then binary_of d else None)))
+
+-- some rows of the input, one after another
+unfoldable pub slice_node_of : Data → Option IR
+slice_node_of d = do
+  o ← object_of (codes "input" ∷ codes "len" ∷ codes "offset" ∷ codes "op" ∷ []) d
+  input ← get (codes "input") o
+  i ← link_of input
+  offset ← get (codes "offset") o
+  first ← integer_of offset
+  len ← get (codes "len") o
+  n ← number_of len
+  Some (nodes.Slice i first n)
 
 -- rows of the input where an expression is true
 unfoldable pub filter_of : Data → Option IR
@@ -99,10 +143,60 @@ simple_projection_of d = do
   o ← object_of (codes "columns" ∷ codes "input" ∷ codes "op" ∷ []) d
   columns ← get (codes "columns") o
   c ← columns_of columns
-  some ← some_columns c
   input ← get (codes "input") o
   i ← link_of input
-  Some (nodes.SimpleProjection i some)
+  Some (nodes.SimpleProjection i c)
+
+-- the keys of a node that makes columns
+unfoldable pub made_keys : List (List ℕ)
+made_keys = codes "exprs" ∷ codes "input" ∷ codes "op" ∷ codes "options" ∷ codes "schema" ∷ []
+
+-- the columns that a node makes
+unfoldable pub made_of : Data → Option (List ExprIR × Columns × ProjectionOptions)
+made_of o = do
+  exprs ← get (codes "exprs") o
+  es ← outputs_of exprs
+  schema ← get (codes "schema") o
+  s ← columns_of schema
+  options ← get (codes "options") o
+  os ← options_of options
+  Some (es, s, os)
+
+-- a column for each expression
+unfoldable pub select_of : Data → Option IR
+select_of d = do
+  o ← object_of made_keys d
+  input ← get (codes "input") o
+  i ← link_of input
+  m ← made_of o
+  Some (nodes.Select i m.0 m.1 m.2)
+
+-- the columns of the input, and one for each expression
+unfoldable pub hstack_of : Data → Option IR
+hstack_of d = do
+  o ← object_of made_keys d
+  input ← get (codes "input") o
+  i ← link_of input
+  m ← made_of o
+  Some (nodes.HStack i m.0 m.1 m.2)
+
+-- the columns of a frame that is handed in
+unfoldable pub frame_scan_of : Data → Option IR
+frame_scan_of d = do
+  o ← object_of (codes "frame" ∷ codes "op" ∷ codes "output" ∷ codes "schema" ∷ []) d
+  frame ← get (codes "frame") o
+  n ← nullable number_of frame
+  schema ← get (codes "schema") o
+  s ← columns_of schema
+  output ← get (codes "output") o
+  out ← nullable columns_of output
+  Some (nodes.DataFrameScan n s out)
+
+-- what a node leaves behind that was taken
+unfoldable pub invalid_of : Data → Option IR
+invalid_of d = do
+  o ← object_of (codes "op" ∷ []) d
+  Some nodes.Invalid
 
 -- the format of the files
 unfoldable pub kind_of : Data → Option FileScan
@@ -119,14 +213,23 @@ sources_of d = do
   one ← one_path ps
   Some (sources.Paths one)
 
+-- where the files are, and their format
+unfoldable pub files_of : Data → Option (ScanSources × FileScan)
+files_of o = do
+  kind ← get (codes "kind") o
+  k ← kind_of kind
+  paths ← get (codes "sources") o
+  ps ← sources_of paths
+  Some (ps, k)
+
 -- what the files hold
 unfoldable pub file_info_of : Data → Option FileInfo
 file_info_of o = do
   schema ← get (codes "schema") o
   s ← columns_of schema
   reader ← get (codes "reader") o
-  r ← columns_of reader
-  Some (record { schema = s; reader_schema = Some r })
+  r ← nullable columns_of reader
+  Some (record { schema = s; reader_schema = r })
 
 -- what is read of the files; the rest is as by default
 unfoldable pub file_options_of : Data → Option FileScanOptions
@@ -135,7 +238,9 @@ file_options_of o = do
   c ← nullable names_of columns
   rechunk ← get (codes "rechunk") o
   r ← truth_of rechunk
-  Some (record default_scan { with_columns = c; rechunk = r })
+  slice ← get (codes "slice") o
+  s ← nullable slice_of slice
+  Some (record default_scan { slice = s; with_columns = c; rechunk = r })
 
 -- the keys of a scan
 unfoldable pub scan_keys : List (List ℕ)
@@ -146,21 +251,25 @@ unfoldable pub scan_of : Data → Option IR
 scan_of d = do
   o ← object_of scan_keys d
   nothing ← null_fields o
-  kind ← get (codes "kind") o
-  k ← kind_of kind
+  files ← files_of o
   output ← get (codes "output") o
-  paths ← get (codes "sources") o
-  ps ← sources_of paths
   out ← nullable columns_of output
+  predicate ← get (codes "predicate") o
+  p ← nullable output_of predicate
   info ← file_info_of o
   options ← file_options_of o
-  Some (nodes.Scan ps info None out k options)
+  Some (nodes.Scan files.0 info p out files.1 options)
 
 -- the node of an entry
 unfoldable pub node_of : Data → Option IR
 node_of d = do
   op ← get (codes "op") d
   s ← name_of op
-  if bytes_eq s (codes "Scan") then scan_of d else (
+  if bytes_eq s (codes "Slice") then slice_node_of d else (
       if bytes_eq s (codes "Filter") then filter_of d else (
-      if bytes_eq s (codes "SimpleProjection") then simple_projection_of d else None))
+      if bytes_eq s (codes "Scan") then scan_of d else (
+      if bytes_eq s (codes "DataFrameScan") then frame_scan_of d else (
+      if bytes_eq s (codes "SimpleProjection") then simple_projection_of d else (
+      if bytes_eq s (codes "Select") then select_of d else (
+      if bytes_eq s (codes "HStack") then hstack_of d else (
+      if bytes_eq s (codes "Invalid") then invalid_of d else None)))))))

@@ -9,6 +9,9 @@ use Rattle.plan_core.specs.Columns.{Columns}
 use Rattle.plan_core.specs.declared.arena.Node.{Node}
 use Rattle.plan_core.specs.declared.data_type.DataType.{DataType}
 use Rattle.plan_core.specs.declared.data_type.DataType.TheVariants as types
+use Rattle.plan_core.specs.declared.data_type.PlainType.{PlainType}
+use Rattle.plan_core.specs.declared.data_type.PlainType.TheVariants as plains
+use Rattle.plan_core.specs.declared.options.ProjectionOptions.{ProjectionOptions}
 use Rattle.plan_ir.specs.declared.expr.ExprIR.{ExprIR}
 use Rattle.plan_ir.specs.declared.expr.OutputName.{OutputName}
 use Rattle.plan_ir.specs.declared.expr.OutputName.TheVariants as names
@@ -124,6 +127,19 @@ type_of d = do
   s ← name_of d
   type_named s
 
+-- the type of a single value that a text names
+unfoldable pub plain_named : List ℕ → Option PlainType
+plain_named s =
+    if bytes_eq s (codes "Int64") then Some plains.Int64 else (
+    if bytes_eq s (codes "String") then Some plains.String else (
+    if bytes_eq s (codes "Boolean") then Some plains.Boolean else None))
+
+-- the name of a type of a single value
+unfoldable pub plain_of : Data → Option PlainType
+plain_of d = do
+  s ← name_of d
+  plain_named s
+
 -- a name with a type
 unfoldable pub column_of : Data → Option (List ℕ × DataType)
 column_of d = do
@@ -168,3 +184,26 @@ output_of d = do
   name ← name_of t.2
   output ← output_name_of kind name
   Some (record { node = link; output_name = output })
+
+-- an array of expressions with their output names
+unfoldable pub outputs_of : Data → Option (List ExprIR)
+outputs_of d = do
+  ds ← entries_of d
+  each output_of ds
+
+-- the first row, and how many rows
+unfoldable pub slice_of : Data → Option (ℤ × ℕ)
+slice_of d = do
+  p ← two_of d
+  offset ← integer_of p.0
+  len ← number_of p.1
+  Some (offset, len)
+
+-- what a node that makes columns may do, in three truth values
+unfoldable pub options_of : Data → Option ProjectionOptions
+options_of d = do
+  t ← three_of d
+  parallel ← truth_of t.0
+  check ← truth_of t.1
+  broadcast ← truth_of t.2
+  Some (record { run_parallel = parallel; duplicate_check = check; should_broadcast = broadcast })

@@ -2,11 +2,11 @@
 ghost use Rattle.std.specs.Prelude.{◌≡◌};
 ghost use Rattle.serde_json.specs.View.{view};
 ghost use Rattle.plan_doc.specs.Gives.{Gives};
-ghost use Rattle.plan_doc.specs.Built.{built_flags as built_flags_of, unshared_of, one_path as one_path_of, some_columns as some_columns_of, null_fields as null_fields_of};
+ghost use Rattle.plan_doc.specs.Built.{built_flags as built_flags_of, unshared_of, one_path as one_path_of, null_fields as null_fields_of};
 
 use crate::fault::Fault;
 use crate::parts::{field, nothing, truth};
-use plan_core::{Items, PlSmallStr, Schema};
+use plan_core::{Items, PlSmallStr};
 use serde_json::Value;
 
 /// The sum of the flags whose passes aren't built: CLUSTER_WITH_COLUMNS, EAGER, FAST_PROJECTION, COLLAPSE_JOINS and
@@ -44,25 +44,12 @@ pub fn one_path(paths: Items<PlSmallStr>) -> Result<Items<PlSmallStr>, Fault>
     }
 }
 
-/// The same columns, where there is at least one; else `Form`.
-pub fn some_columns(columns: Schema) -> Result<Schema, Fault>
-    ensures { Gives result (some_columns_of columns) }
-{
-    if columns.len() > 0 {
-        Ok(columns)
-    } else {
-        Err(Fault::Form)
-    }
-}
-
-/// Accepts a scan whose `hive`, `path_column`, `predicate`, `row_index` and `slice` are null; else `Form`.
+/// Accepts a scan whose `hive`, `path_column` and `row_index` are null; else `Form`.
 #[tactic(auto, unfolding(crate::specs::Built::null_fields))]
 pub fn null_fields(object: &Value) -> Result<(), Fault>
     ensures { Gives result (null_fields_of (view object.now)) }
 {
     nothing(field(object, "hive")?)?;
     nothing(field(object, "path_column")?)?;
-    nothing(field(object, "predicate")?)?;
-    nothing(field(object, "row_index")?)?;
-    nothing(field(object, "slice")?)
+    nothing(field(object, "row_index")?)
 }

@@ -7,6 +7,7 @@ mod document;
 mod exprs;
 mod fault;
 mod nodes;
+mod optional;
 mod parts;
 #[cfg(test)]
 mod tests;

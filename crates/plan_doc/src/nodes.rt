@@ -3,17 +3,32 @@ ghost use Rattle.std.specs.Prelude.{◌≡◌};
 ghost use Rattle.serde_json.specs.View.{view};
 ghost use Rattle.plan_doc.specs.Gives.{Gives, Shows};
 ghost use Rattle.plan_doc.specs.Parts.{object_of};
-ghost use Rattle.plan_doc.specs.Nodes.{filter_of, simple_projection_of, kind_of, sources_of, file_info_of, file_options_of, scan_keys, scan_of, node_of};
+ghost use Rattle.plan_doc.specs.Nodes.{slice_node_of, filter_of, simple_projection_of, made_keys, made_of, select_of, hstack_of, frame_scan_of, invalid_of, kind_of, sources_of, files_of, file_info_of, file_options_of, scan_keys, scan_of, node_of};
 
-use crate::built::{null_fields, one_path, some_columns};
+use crate::built::{null_fields, one_path};
 use crate::fault::Fault;
-use crate::parts::{
-    columns, field, link, names, object, optional_columns, optional_names, output, text, truth,
+use crate::optional::{
+    optional_columns, optional_names, optional_number, optional_output, optional_slice,
 };
-use plan_core::FileScanOptions;
-use plan_ir::{FileInfo, FileScan, IR, ScanSources};
+use crate::parts::{
+    columns, field, integer, link, names, number, object, options, output, outputs, text, truth,
+};
+use plan_core::{FileScanOptions, Items, ProjectionOptions, Schema};
+use plan_ir::{ExprIR, FileInfo, FileScan, IR, ScanSources};
 use serde_json::Value;
 use std::alloc::Global;
+
+/// The slice of an entry.
+#[tactic(auto, unfolding(crate::specs::Nodes::slice_node_of))]
+fn slice_node(value: &Value) -> Result<IR, Fault>
+    ensures { Gives result (slice_node_of (view value.now)) }
+{
+    let object = object(value, &["input", "len", "offset", "op"])?;
+    let input = link(field(object, "input")?)?;
+    let offset = integer(field(object, "offset")?)?;
+    let len = number(field(object, "len")?)?;
+    Ok(IR::Slice { input, offset, len })
+}
 
 /// The filter of an entry.
 #[tactic(auto, unfolding(crate::specs::Nodes::filter_of))]
@@ -32,9 +47,85 @@ fn simple_projection(alloc: Global, value: &Value) -> Result<IR, Fault>
     ensures { Gives result (simple_projection_of (view value.now)) }
 {
     let object = object(value, &["columns", "input", "op"])?;
-    let columns = some_columns(columns(alloc, field(object, "columns")?)?)?;
+    let columns = columns(alloc, field(object, "columns")?)?;
     let input = link(field(object, "input")?)?;
     Ok(IR::SimpleProjection { input, columns })
+}
+
+/// An object with the keys of a node that makes columns.
+#[tactic(auto, unfolding(crate::specs::Nodes::made_keys))]
+fn made_object(value: &Value) -> Result<&Value, Fault>
+    ensures { Shows (λ v. view v.now) result (object_of made_keys (view value.now)) }
+{
+    object(value, &["exprs", "input", "op", "options", "schema"])
+}
+
+/// The columns that a node makes.
+#[tactic(auto, unfolding(crate::specs::Nodes::made_of))]
+fn made(alloc: Global, object: &Value) -> Result<(Items<ExprIR>, Schema, ProjectionOptions), Fault>
+    ensures { Gives result (made_of (view object.now)) }
+{
+    let exprs = outputs(alloc, field(object, "exprs")?)?;
+    let schema = columns(alloc, field(object, "schema")?)?;
+    let options = options(field(object, "options")?)?;
+    Ok((exprs, schema, options))
+}
+
+/// The selection of an entry.
+#[tactic(auto, unfolding(crate::specs::Nodes::select_of))]
+fn select(alloc: Global, value: &Value) -> Result<IR, Fault>
+    ensures { Gives result (select_of (view value.now)) }
+{
+    let object = made_object(value)?;
+    let input = link(field(object, "input")?)?;
+    let (expr, schema, options) = made(alloc, object)?;
+    Ok(IR::Select {
+        input,
+        expr,
+        schema,
+        options,
+    })
+}
+
+/// The addition of columns of an entry.
+#[tactic(auto, unfolding(crate::specs::Nodes::hstack_of))]
+fn hstack(alloc: Global, value: &Value) -> Result<IR, Fault>
+    ensures { Gives result (hstack_of (view value.now)) }
+{
+    let object = made_object(value)?;
+    let input = link(field(object, "input")?)?;
+    let (exprs, schema, options) = made(alloc, object)?;
+    Ok(IR::HStack {
+        input,
+        exprs,
+        schema,
+        options,
+    })
+}
+
+/// The scan of a frame of an entry.
+#[tactic(auto, unfolding(crate::specs::Nodes::frame_scan_of))]
+fn frame_scan(alloc: Global, value: &Value) -> Result<IR, Fault>
+    ensures { Gives result (frame_scan_of (view value.now)) }
+{
+    let object = object(value, &["frame", "op", "output", "schema"])?;
+    let df = optional_number(field(object, "frame")?)?;
+    let schema = columns(alloc, field(object, "schema")?)?;
+    let output_schema = optional_columns(alloc, field(object, "output")?)?;
+    Ok(IR::DataFrameScan {
+        df,
+        schema,
+        output_schema,
+    })
+}
+
+/// The entry that stands for no node.
+#[tactic(auto, unfolding(crate::specs::Nodes::invalid_of))]
+fn invalid(value: &Value) -> Result<IR, Fault>
+    ensures { Gives result (invalid_of (view value.now)) }
+{
+    let _ = object(value, &["op"])?;
+    Ok(IR::Invalid)
 }
 
 /// The file format of a name.
@@ -58,13 +149,23 @@ fn sources(alloc: Global, value: &Value) -> Result<ScanSources, Fault>
     Ok(ScanSources::Paths(paths))
 }
 
+/// Where the files are, and their format.
+#[tactic(auto, unfolding(crate::specs::Nodes::files_of))]
+fn files(alloc: Global, object: &Value) -> Result<(ScanSources, FileScan), Fault>
+    ensures { Gives result (files_of (view object.now)) }
+{
+    let kind = kind(field(object, "kind")?)?;
+    let sources = sources(alloc, field(object, "sources")?)?;
+    Ok((sources, kind))
+}
+
 /// The columns of a scan's files, from the object of the scan.
 #[tactic(auto, unfolding(crate::specs::Nodes::file_info_of))]
 fn file_info(alloc: Global, object: &Value) -> Result<FileInfo, Fault>
     ensures { Gives result (file_info_of (view object.now)) }
 {
     let schema = columns(alloc, field(object, "schema")?)?;
-    let reader_schema = Some(columns(alloc, field(object, "reader")?)?);
+    let reader_schema = optional_columns(alloc, field(object, "reader")?)?;
     Ok(FileInfo {
         schema,
         reader_schema,
@@ -78,7 +179,9 @@ fn file_options(alloc: Global, object: &Value) -> Result<FileScanOptions, Fault>
 {
     let with_columns = optional_names(alloc, field(object, "columns")?)?;
     let rechunk = truth(field(object, "rechunk")?)?;
+    let slice = optional_slice(field(object, "slice")?)?;
     Ok(FileScanOptions {
+        slice,
         with_columns,
         rechunk,
         ..FileScanOptions::default()
@@ -117,16 +220,16 @@ fn scan(alloc: Global, value: &Value) -> Result<IR, Fault>
 {
     let object = scan_object(value)?;
     null_fields(object)?;
-    let scan_type = kind(field(object, "kind")?)?;
+    let (sources, scan_type) = files(alloc, object)?;
     let output_value = field(object, "output")?;
-    let sources = sources(alloc, field(object, "sources")?)?;
     let output_schema = optional_columns(alloc, output_value)?;
+    let predicate = optional_output(alloc, field(object, "predicate")?)?;
     let file_info = file_info(alloc, object)?;
     let file_options = file_options(alloc, object)?;
     Ok(IR::Scan {
         sources,
         file_info,
-        predicate: None,
+        predicate,
         output_schema,
         scan_type,
         file_options,
@@ -139,9 +242,14 @@ pub fn node(alloc: Global, value: &Value) -> Result<IR, Fault>
     ensures { Gives result (node_of (view value.now)) }
 {
     match text(field(value, "op")?)? {
-        "Scan" => scan(alloc, value),
+        "Slice" => slice_node(value),
         "Filter" => filter(alloc, value),
+        "Scan" => scan(alloc, value),
+        "DataFrameScan" => frame_scan(alloc, value),
         "SimpleProjection" => simple_projection(alloc, value),
+        "Select" => select(alloc, value),
+        "HStack" => hstack(alloc, value),
+        "Invalid" => invalid(value),
         _ => Err(Fault::Form),
     }
 }

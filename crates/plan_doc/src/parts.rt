@@ -3,11 +3,11 @@ ghost use Rattle.std.specs.Prelude.{◌≡◌, map};
 ghost use Rattle.serde_json.specs.Find.{get, as_null};
 ghost use Rattle.serde_json.specs.View.{view};
 ghost use Rattle.plan_doc.specs.Gives.{Gives, Shows};
-ghost use Rattle.plan_doc.specs.Parts.{entries_of, object_of, name_of, number_of, link_of, truth_of, integer_of, names_of, nullable, two_of, three_of, type_of, column_of, columns_of, output_of, count_of, has_keys as has_keys_of};
+ghost use Rattle.plan_doc.specs.Parts.{entries_of, object_of, name_of, number_of, link_of, truth_of, integer_of, names_of, two_of, three_of, type_of, plain_of, column_of, columns_of, output_of, outputs_of, slice_of, options_of, count_of, has_keys as has_keys_of};
 
 use crate::arrays::each;
 use crate::fault::Fault;
-use plan_core::{DataType, Items, Node, PlSmallStr, Schema};
+use plan_core::{DataType, Items, Node, PlSmallStr, PlainType, ProjectionOptions, Schema};
 use plan_ir::{ExprIR, OutputName};
 use serde_json::Value;
 use std::alloc::Global;
@@ -171,6 +171,19 @@ pub fn data_type(value: &Value) -> Result<DataType, Fault>
     }
 }
 
+/// The name of a type of a single value.
+#[tactic(auto, unfolding(crate::specs::Parts::plain_of, crate::specs::Parts::plain_named))]
+pub fn plain_type(value: &Value) -> Result<PlainType, Fault>
+    ensures { Gives result (plain_of (view value.now)) }
+{
+    match text(value)? {
+        "Int64" => Ok(PlainType::Int64),
+        "String" => Ok(PlainType::String),
+        "Boolean" => Ok(PlainType::Boolean),
+        _ => Err(Fault::Form),
+    }
+}
+
 /// The name and the type of a pair.
 #[tactic(auto, unfolding(crate::specs::Parts::column_of))]
 fn column(alloc: Global, value: &Value) -> Result<(PlSmallStr, DataType), Fault>
@@ -217,24 +230,38 @@ pub fn output(alloc: Global, value: &Value) -> Result<ExprIR, Fault>
     Ok(ExprIR { node, output_name })
 }
 
-/// Null, or names.
-#[tactic(auto, using(crate::proofs::NullLemmas::nullable_null, crate::proofs::NullLemmas::nullable_other))]
-pub fn optional_names(alloc: Global, value: &Value) -> Result<Option<Items<PlSmallStr>>, Fault>
-    ensures { Gives result (nullable names_of (view value.now)) }
+/// An array of expressions with their output names.
+#[tactic(auto, unfolding(crate::specs::Parts::outputs_of))]
+pub fn outputs(alloc: Global, value: &Value) -> Result<Items<ExprIR>, Fault>
+    ensures { Gives result (outputs_of (view value.now)) }
 {
-    if value.is_null() {
-        return Ok(None);
-    }
-    Ok(Some(names(alloc, value)?))
+    let entries = entries(value)?;
+    each(alloc, entries, |entry| output(alloc, entry))
 }
 
-/// Null, or names with types.
-#[tactic(auto, using(crate::proofs::NullLemmas::nullable_null, crate::proofs::NullLemmas::nullable_other))]
-pub fn optional_columns(alloc: Global, value: &Value) -> Result<Option<Schema>, Fault>
-    ensures { Gives result (nullable columns_of (view value.now)) }
+/// The first row, and how many rows.
+#[tactic(auto, unfolding(crate::specs::Parts::slice_of))]
+pub fn slice(value: &Value) -> Result<(i64, usize), Fault>
+    ensures { Gives result (slice_of (view value.now)) }
 {
-    if value.is_null() {
-        return Ok(None);
-    }
-    Ok(Some(columns(alloc, value)?))
+    let (offset_value, len_value) = two(value)?;
+    let offset = integer(offset_value)?;
+    let len = number(len_value)?;
+    Ok((offset, len as usize))
+}
+
+/// What a node that makes columns may do: three truth values.
+#[tactic(auto, unfolding(crate::specs::Parts::options_of))]
+pub fn options(value: &Value) -> Result<ProjectionOptions, Fault>
+    ensures { Gives result (options_of (view value.now)) }
+{
+    let (parallel, check, broadcast) = three(value)?;
+    let run_parallel = truth(parallel)?;
+    let duplicate_check = truth(check)?;
+    let should_broadcast = truth(broadcast)?;
+    Ok(ProjectionOptions {
+        run_parallel,
+        duplicate_check,
+        should_broadcast,
+    })
 }

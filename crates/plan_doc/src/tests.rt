@@ -1,4 +1,6 @@
 //! Documents that read, and documents that don't: one for each rule of the format.
+mod further;
+
 use crate::{Document, ReadError, read_document};
 use plan_core::Node;
 use std::alloc::Global;
@@ -8,16 +10,17 @@ use std::test::Fail;
 const GOOD: &str =
     r#"{"root":0,"nodes":[{"op":"SimpleProjection","input":1,"columns":[["a","Int64"]]},{"op":"Filter","input":2,"predicate":[0,"col","b"]},{"op":"Scan","kind":"Parquet","sources":{"paths":["t"]},"schema":[["a","Int64"],["b","Int64"],["c","String"]],"reader":[["a","Int64"],["b","Int64"],["c","String"]],"hive":null,"output":null,"columns":null,"row_index":null,"path_column":null,"rechunk":false,"slice":null,"predicate":null}],"exprs":[{"op":"BinaryExpr","operator":"Gt","left":1,"right":2},{"op":"Column","name":"b"},{"op":"Literal","type":"Int64","value":1}],"flags":1,"shared":false,"tables":null}"#;
 
-// Each text is the good one with a piece replaced, and reads as `want`.
+// Each text is the given one with a piece replaced, and reads as `want`.
 fn all_read_as(
     rt: &impl Abort,
     alloc: Global,
+    given: &str,
     pieces: &[(&str, &str)],
     want: Option<ReadError>,
 ) -> Result<(), Fail> {
     for (old, new) in pieces {
-        let text = GOOD.replacen(alloc, *old, *new, 1)?;
-        assert!(rt; text.as_str() != GOOD, "{old}");
+        let text = given.replacen(alloc, *old, *new, 1)?;
+        assert!(rt; text.as_str() != given, "{old}");
         let answer = read_document(alloc, text.as_bytes()).err();
         assert_eq!(rt; answer, want, "{old} as {new}");
     }
@@ -40,14 +43,26 @@ fn what_may_vary_reads(rt: HostRuntime) -> Result<(), Fail> {
     all_read_as(
         &rt,
         rt.alloc(),
+        GOOD,
         &[
             (r#""root":0"#, r#""root":9,"root":0"#),
             (r#""root":0"#, r#""root":4294967295"#),
             (r#""root":0"#, r#" "root" : 0"#),
             (r#""value":1"#, r#""value":-9223372036854775808"#),
             (r#""value":1"#, r#""value":9223372036854775807"#),
+            (r#""value":1"#, r#""value":null"#),
             (r#""columns":null"#, r#""columns":["a","a"]"#),
+            (r#""columns":[["a","Int64"]]"#, r#""columns":[]"#),
             (r#""output":null"#, r#""output":[]"#),
+            (r#""predicate":null"#, r#""predicate":[0,"lit","b"]"#),
+            (
+                r#""reader":[["a","Int64"],["b","Int64"],["c","String"]]"#,
+                r#""reader":null"#,
+            ),
+            (
+                r#""slice":null"#,
+                r#""slice":[-9223372036854775808,4294967295]"#,
+            ),
             (r#""flags":1"#, r#""flags":143349"#),
             (r#""flags":1"#, r#""flags":0"#),
             (r#""name":"b""#, r#""name":"\u00e9""#),
@@ -63,6 +78,7 @@ fn an_object_has_exactly_its_keys(rt: HostRuntime) -> Result<(), Fail> {
     all_read_as(
         &rt,
         rt.alloc(),
+        GOOD,
         &[
             (r#""root":0,"#, ""),
             (r#""nodes":"#, r#""node":"#),
@@ -113,6 +129,7 @@ fn a_number_is_whole_and_in_range(rt: HostRuntime) -> Result<(), Fail> {
     all_read_as(
         &rt,
         rt.alloc(),
+        GOOD,
         &[
             (r#""root":0"#, r#""root":-1"#),
             (r#""root":0"#, r#""root":-0"#),
@@ -131,7 +148,12 @@ fn a_number_is_whole_and_in_range(rt: HostRuntime) -> Result<(), Fail> {
             (r#""value":1"#, r#""value":-9223372036854775809"#),
             (r#""value":1"#, r#""value":1.0"#),
             (r#""value":1"#, r#""value":"1""#),
-            (r#""value":1"#, r#""value":null"#),
+            (r#""value":1"#, r#""value":-0"#),
+            (r#""value":1"#, r#""value":1e3"#),
+            (r#""slice":null"#, r#""slice":[9223372036854775808,1]"#),
+            (r#""slice":null"#, r#""slice":[0.0,1]"#),
+            (r#""slice":null"#, r#""slice":[0,-1]"#),
+            (r#""slice":null"#, r#""slice":[0,4294967296]"#),
             (r#""flags":1"#, r#""flags":2"#),
             (r#""flags":1"#, r#""flags":3"#),
             (r#""flags":1"#, r#""flags":262144"#),
@@ -148,6 +170,7 @@ fn a_value_has_its_form(rt: HostRuntime) -> Result<(), Fail> {
     all_read_as(
         &rt,
         rt.alloc(),
+        GOOD,
         &[
             (r#""nodes":["#, r#""nodes":[null,"#),
             (r#""exprs":["#, r#""exprs":[[],"#),
@@ -158,7 +181,7 @@ fn a_value_has_its_form(rt: HostRuntime) -> Result<(), Fail> {
             (r#""op":"Filter""#, r#""op":"filter""#),
             (r#""op":"Filter""#, r#""op":1"#),
             (r#""op":"Column""#, r#""op":"Columns""#),
-            (r#""operator":"Gt""#, r#""operator":"Plus""#),
+            (r#""operator":"Gt""#, r#""operator":"plus""#),
             (r#""operator":"Gt""#, r#""operator":null"#),
             (r#""name":"b""#, r#""name":1"#),
             (r#""type":"Int64""#, r#""type":"Int32""#),
@@ -189,7 +212,15 @@ fn a_value_has_its_form(rt: HostRuntime) -> Result<(), Fail> {
             (r#""row_index":null"#, r#""row_index":"i""#),
             (r#""path_column":null"#, r#""path_column":0"#),
             (r#""slice":null"#, r#""slice":0"#),
+            (r#""slice":null"#, r#""slice":[0]"#),
+            (r#""slice":null"#, r#""slice":[0,1,2]"#),
+            (r#""slice":null"#, r#""slice":[0,null]"#),
             (r#""predicate":null"#, r#""predicate":0"#),
+            (r#""predicate":null"#, r#""predicate":[0,"lit"]"#),
+            (
+                r#""reader":[["a","Int64"],["b","Int64"],["c","String"]]"#,
+                r#""reader":0"#,
+            ),
             (r#""shared":false"#, r#""shared":0"#),
             (r#""tables":null"#, r#""tables":{}"#),
         ],
@@ -202,6 +233,7 @@ fn what_is_not_built_is_refused(rt: HostRuntime) -> Result<(), Fail> {
     all_read_as(
         &rt,
         rt.alloc(),
+        GOOD,
         &[
             (r#""flags":1"#, r#""flags":9"#),
             (r#""flags":1"#, r#""flags":4097"#),
@@ -214,17 +246,11 @@ fn what_is_not_built_is_refused(rt: HostRuntime) -> Result<(), Fail> {
             (r#"{"paths":["t"]}"#, r#"{"paths":[]}"#),
             (r#"{"paths":["t"]}"#, r#"{"paths":["t","u"]}"#),
             (r#"{"paths":["t"]}"#, r#"{"buffers":[1]}"#),
-            (
-                r#""reader":[["a","Int64"],["b","Int64"],["c","String"]]"#,
-                r#""reader":null"#,
-            ),
-            (r#""columns":[["a","Int64"]]"#, r#""columns":[]"#),
-            (r#""slice":null"#, r#""slice":[0,1]"#),
+            (r#""hive":null"#, r#""hive":[]"#),
+            (r#""path_column":null"#, r#""path_column":"p""#),
             (r#""row_index":null"#, r#""row_index":["i",0]"#),
-            (
-                r#""type":"Int64","value":1"#,
-                r#""type":"String","value":null"#,
-            ),
+            (r#""op":"Filter""#, r#""op":"Sort""#),
+            (r#""op":"Column""#, r#""op":"Len""#),
         ],
         Some(ReadError::Form),
     )
@@ -235,6 +261,7 @@ fn what_is_no_json_is_told_apart(rt: HostRuntime) -> Result<(), Fail> {
     all_read_as(
         &rt,
         rt.alloc(),
+        GOOD,
         &[
             (r#""root":0"#, r#""root":1e400"#),
             (r#""root":0"#, r#""root":00"#),

@@ -4,6 +4,7 @@ pub mod PlanLemmas
 pub mod NumberingLemmas
 pub mod EntryLemmas
 pub mod MovedLemmas
+pub mod TakenLemmas
 pub mod ReadLemmas
 pub mod CopyLemmas
 pub mod RenumberedLemmas

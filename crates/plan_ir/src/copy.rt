@@ -55,13 +55,13 @@ pub(crate) fn expr_steps(
 
 /// The numbers of the nodes of a plan, and of the expressions of its nodes, each in walk order.
 #[derive(Drop)]
-struct Listed {
-    nodes: Items<Node>,
-    exprs: Items<Node>,
+pub(crate) struct Listed {
+    pub(crate) nodes: Items<Node>,
+    pub(crate) exprs: Items<Node>,
 }
 
 /// The numbers of a plan. The walks keep stacks of their own.
-fn list_plan(
+pub(crate) fn list_plan(
     alloc: Global,
     root: Node,
     lp: &Arena<IR>,
@@ -118,7 +118,7 @@ fn move_named(alloc: Global, node: &IR, exprs: &Numbering) -> Result<Items<ExprI
 }
 
 /// A copy of a node whose inputs and expressions have new numbers.
-fn move_node(
+pub(crate) fn move_node(
     alloc: Global,
     node: &IR,
     nodes: &Numbering,
@@ -134,7 +134,7 @@ fn move_node(
 }
 
 /// An arena of copies of the listed expressions, in order, whose operands have new numbers.
-fn moved_exprs(
+pub(crate) fn moved_exprs(
     alloc: Global,
     listed: &[Node],
     ex: &Arena<AExpr>,

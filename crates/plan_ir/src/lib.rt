@@ -4,6 +4,7 @@
 mod copy;
 mod expr;
 mod ir;
+mod moving;
 mod numbering;
 mod parts;
 mod reading;
@@ -12,6 +13,7 @@ mod scan;
 pub use copy::{PlanCopy, renumbered};
 pub use expr::{AExpr, ExprIR, LiteralValue, Operator, OutputName};
 pub use ir::IR;
+pub use moving::into_renumbered;
 pub use reading::{reads, scan_reads};
 pub use scan::{FileInfo, FileScan, ScanSources};
 

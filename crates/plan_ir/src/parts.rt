@@ -155,7 +155,9 @@ impl IR {
                 columns: columns.try_clone(alloc)?,
             }),
             IR::Select {
-                schema, options, ..
+                schema,
+                options,
+                ..
             } => Ok(IR::Select {
                 input: only(inputs),
                 expr: exprs,
@@ -163,7 +165,9 @@ impl IR {
                 options: *options,
             }),
             IR::HStack {
-                schema, options, ..
+                schema,
+                options,
+                ..
             } => Ok(IR::HStack {
                 input: only(inputs),
                 exprs,

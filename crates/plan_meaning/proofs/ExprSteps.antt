@@ -1,18 +1,17 @@
 -- What the checker's walk over an expression finds at each kind of expression.
-use Rattle.std.proofs.Common.{◌≡◌, ℕ, Bool, true, false, ◌&&◌, List, [], ◌∷◌, ◌++◌, Option, Some, None, is_some, refl, sym, ap, ap₂, ◌∙◌, codes, append-nil}
+use Rattle.std.proofs.Common.{◌≡◌, Bool, true, false, ◌&&◌, List, [], ◌∷◌, ◌++◌, Option, Some, is_some, refl, sym, ap, ◌∙◌, codes, append-nil}
 use Rattle.std.specs.List.{slice_get}
 use Rattle.plan_core.specs.declared.arena.Node.{Node}
 use Rattle.plan_core.specs.Columns.{Columns, type_of}
 use Rattle.plan_core.specs.declared.data_type.DataType.{DataType}
-use Rattle.plan_tree.specs.Rose.{Rose, Roses, rose, no_roses, more}
 use Rattle.plan_ir.specs.declared.expr.AExpr.{AExpr}
 use Rattle.plan_ir.specs.declared.expr.AExpr.TheVariants.{Column, Literal, Alias, BinaryExpr}
 use Rattle.plan_ir.specs.declared.expr.LiteralValue.{LiteralValue}
 use Rattle.plan_ir.specs.declared.expr.Operator.{Operator}
 use Rattle.plan_ir.specs.Parts.{IsExpr}
-use Rattle.plan_ir.specs.Plans.{Expr, expr_at, literal, column, alias, binary}
+use Rattle.plan_ir.specs.Plans.{Expr, expr_at}
 use Rattle.plan_ir.proofs.ExprLemmas.{expr_open}
-use Rattle.plan_meaning.specs.Exprs.{Name, leaves, all_known, expr_type, literal_type, operator_type, Naming, by_column, by_literal, by_alias, unnamed, naming, or_naming}
+use Rattle.plan_meaning.specs.Exprs.{Name, leaves, all_known, expr_type, literal_type, operator_type, by_column, by_literal, by_alias, unnamed, naming, or_naming}
 
 and_true : (b : Bool) → (b && true) ≡ b
 and_true true = refl

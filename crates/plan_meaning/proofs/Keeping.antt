@@ -1,13 +1,11 @@
 -- The laws of keeping scans.
-use Rattle.std.proofs.Common.{◌≡◌, true, List, [], ◌∷◌, ◌++◌, map, refl, sym, ap, ap₂, ◌∙◌, append_assoc}
+use Rattle.std.proofs.Common.{◌≡◌, List, [], ◌∷◌, ◌++◌, map, refl, sym, ap₂, ◌∙◌, append_assoc}
 use Rattle.std.proofs.lemmas.List.{map-append}
-use Rattle.plan_core.specs.Names.{has}
-use Rattle.plan_tree.specs.Rose.{Rose, Roses, rose, no_roses, more}
+use Rattle.plan_tree.specs.Rose.{Roses, rose, no_roses, more}
 use Rattle.plan_ir.specs.Plans.{Op, slice, filter, scan, frame_scan, simple_projection, select, hstack, invalid, Plan}
-use Rattle.plan_meaning.specs.Exprs.{Name}
 use Rattle.plan_meaning.specs.Typing.{schemas}
 use Rattle.plan_meaning.specs.Relating.{Asked}
-use Rattle.plan_meaning.specs.Asked.{reads, asks, first_asked, rest_asked, Site, own_site, sites}
+use Rattle.plan_meaning.specs.Asked.{asks, first_asked, rest_asked, Site, own_site, sites}
 use Rattle.plan_meaning.specs.Scans.{own_scan, scans, scans_in, SameScan, KeepScans, Keeps}
 
 -- each of these is a scan

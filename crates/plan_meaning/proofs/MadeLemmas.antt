@@ -1,5 +1,5 @@
 -- Checks on the expressions of a node, said of their numbers.
-use Rattle.std.proofs.Common.{◌≡◌, ◌<◌, ◌≤◌, ◌+◌, arith, option_map, ℕ, zero, suc, All, take, unwrap_or, add-one, List, [], ◌∷◌, length, map, get_or, Some, is_some, refl, sym, ap, ◌∙◌, subst}
+use Rattle.std.proofs.Common.{◌≡◌, ◌<◌, ◌≤◌, ◌+◌, arith, option_map, ℕ, zero, suc, All, take, unwrap_or, add-one, List, [], ◌∷◌, length, map, get_or, Some, is_some, sym, ap, ◌∙◌, subst}
 use Rattle.std.specs.List.{slice_get}
 use Rattle.std.proofs.lemmas.List.Elements.{All-get_or, All-from_get_or}
 use Rattle.std.proofs.lemmas.Option.{slice_get-get_or, slice_get-map}
@@ -16,8 +16,8 @@ use Rattle.plan_ir.specs.Parts.{exprs_of, IsExpr, IsPlan}
 use Rattle.plan_ir.proofs.PlanLemmas.{plan_expr}
 use Rattle.plan_ir.specs.Plans.{Named, named_at, all_named_at, expr_at}
 use Rattle.plan_ir.proofs.MovedLemmas.{map_twice}
-use Rattle.plan_meaning.specs.Exprs.{Name, leaves, all_known, expr_type, naming, may_be_named, name_of}
-use Rattle.plan_meaning.specs.Typing.{each, each_new, leaf_checks, type_checks, once_checks, naming_checks, out_names, made_schema}
+use Rattle.plan_meaning.specs.Exprs.{leaves, all_known, expr_type, naming, may_be_named, name_of}
+use Rattle.plan_meaning.specs.Typing.{each, each_new, leaf_checks, type_checks, once_checks, naming_checks, made_schema}
 use Rattle.plan_meaning.proofs.CheckLemmas.{each-map}
 
 module _ (ex : List AExpr) (es : List ExprIR) where

@@ -1,18 +1,18 @@
 -- What a node gives has its columns, and it gives something; so for plans.
-use Rattle.std.proofs.Common.{◌≡◌, ℕ, ◌&&◌, ◌||◌, Bool, true, false, cond, List, [], ◌∷◌, map, Option, Some, None, is_some, unwrap_or, refl, sym, ap, subst}
+use Rattle.std.proofs.Common.{◌≡◌, ℕ, ◌&&◌, Bool, true, false, cond, List, [], ◌∷◌, map, Option, Some, None, is_some, unwrap_or, refl, sym, ap, subst}
 use Rattle.std.specs.List.{AllByRecursion}
 use Rattle.std.proofs.lemmas.Bool.{and_parts}
 use Rattle.plan_core.specs.declared.data_type.DataType.{DataType}
 use Rattle.plan_core.specs.declared.error.PolarsError.TheVariants.{SchemaFieldNotFound, SchemaMismatch}
-use Rattle.plan_core.specs.Columns.{Columns, names_of, type_of, with_types}
+use Rattle.plan_core.specs.Columns.{Columns, names_of, type_of}
 use Rattle.plan_tree.specs.Rose.{Roses, rose, no_roses, more}
 use Rattle.plan_ir.specs.Plans.{Op, slice, filter, scan, frame_scan, simple_projection, select, hstack, Named, Plan}
 use Rattle.plan_core.specs.declared.data_type.DataType.TheVariants as types
 use Rattle.plan_meaning.specs.Exprs.{Name, name_of, expr_type, is_scalar}
-use Rattle.plan_meaning.specs.Typing.{each, is_known, is_column, is_empty, columns_or, file_columns, has_columns, put_out_checks, made_column, made_schema, schema_by, schema, schemas, checks, AllHold, AllValid}
+use Rattle.plan_meaning.specs.Typing.{each, is_known, is_column, columns_or, file_columns, has_columns, put_out_checks, made_schema, schema_by, schema, schemas, checks, AllHold, AllValid}
 use Rattle.plan_meaning.specs.Frames.{Frame, Column, HaveTypes, HasSchema, Holds, HoldsAll, with_columns, cut}
 use Rattle.plan_meaning.specs.Meaning.{val, filled}
-use Rattle.plan_meaning.specs.Contents.{Contents, Source, frame, frame_or, no_frame, handed_in, HasFrame, HasHandedIn, sources_of, frames_of, stack, FitsAt, FitsAll, Fits}
+use Rattle.plan_meaning.specs.Contents.{Contents, Source, frame_or, no_frame, handed_in, HasFrame, HasHandedIn, sources_of, frames_of, stack, FitsAt, FitsAll, Fits}
 use Rattle.plan_meaning.specs.Steps.{Step, MayAll, May, IsValid, filtered, true_rows, slice_rows, all_scalar, made_columns, made, selected}
 use Rattle.plan_meaning.specs.Frames.{rows_at}
 use Rattle.std.proofs.lemmas.Bool.{and_parts as parts_of}

@@ -1,5 +1,5 @@
 -- The numbers of expressions with their places, and that walks without a fault find a plan.
-use Rattle.std.proofs.Common.{◌≡◌, ℕ, zero, suc, ◌+◌, ◌<◌, ◌≤◌, List, [], ◌∷◌, ◌++◌, map, length, take, get_or, Option, Some, None, refl, sym, ap, ap₂, ◌∙◌, subst, arith, append-nil, append_assoc, add-zero, add-one}
+use Rattle.std.proofs.Common.{◌≡◌, ℕ, zero, suc, ◌+◌, ◌<◌, ◌≤◌, List, [], ◌∷◌, ◌++◌, map, length, take, get_or, Option, refl, sym, ap, ap₂, ◌∙◌, subst, arith, append-nil, append_assoc, add-zero}
 use Rattle.std.specs.List.{slice_get}
 use Rattle.std.specs.Option.{option_map_or}
 use Rattle.std.proofs.lemmas.List.{map-append, take_more}
@@ -7,13 +7,13 @@ use Rattle.std.proofs.lemmas.Option.{slice_get_past}
 use Rattle.plan_core.specs.declared.arena.Node.{Node}
 use Rattle.plan_core.specs.declared.error.At.{At}
 use Rattle.plan_tree.specs.declared.walking.Step.{Step}
-use Rattle.plan_tree.specs.Rose.{Rose, Roses, rose, no_roses, more, labels}
+use Rattle.plan_tree.specs.Rose.{rose, no_roses, more, labels}
 use Rattle.plan_tree.specs.Stands.{Trees, Stands, StandsOnce}
 use Rattle.plan_tree.specs.Walk.{nodes_of}
 use Rattle.plan_ir.specs.declared.expr.AExpr.{AExpr}
 use Rattle.plan_ir.specs.declared.expr.ExprIR.{ExprIR}
 use Rattle.plan_ir.specs.declared.ir.IR.{IR}
-use Rattle.plan_ir.specs.Parts.{plan_shape, expr_shape, inputs_of, exprs_of, roots_of, roots_in, StandsPlan, IsPlan}
+use Rattle.plan_ir.specs.Parts.{plan_shape, expr_shape, inputs_of, exprs_of, roots_in, IsPlan}
 use Rattle.plan_meaning.specs.Typing.{at}
 use Rattle.plan_meaning.specs.TreeFaults.{marked, marked_at, marked_exprs}
 

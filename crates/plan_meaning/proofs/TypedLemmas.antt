@@ -1,14 +1,13 @@
 -- From what is said of a node, and of the plans that are its inputs, to what is said of the plan.
-use Rattle.std.proofs.Common.{◌≡◌, ℕ, List, [], ◌∷◌, Option, Some, None, Result, Ok, Err, refl, sym, ap, ap₂, ◌∙◌, subst}
+use Rattle.std.proofs.Common.{◌≡◌, List, [], ◌∷◌, Option, Some, None, Result, Ok, Err, refl, ap, ap₂, ◌∙◌}
 use Rattle.std.specs.List.{slice_get}
 use Rattle.plan_core.specs.declared.arena.Node.{Node}
 use Rattle.plan_core.specs.declared.error.PolarsError.{PolarsError}
 use Rattle.plan_core.specs.Columns.{Columns}
-use Rattle.plan_tree.specs.Rose.{Rose, Roses, rose, no_roses, more}
 use Rattle.plan_ir.specs.declared.expr.AExpr.{AExpr}
 use Rattle.plan_ir.specs.declared.ir.IR.{IR}
 use Rattle.plan_ir.specs.Parts.{inputs_of, IsPlan}
-use Rattle.plan_ir.specs.Plans.{Op, op_at, plans_at}
+use Rattle.plan_ir.specs.Plans.{op_at, plans_at}
 use Rattle.plan_ir.proofs.PlanLemmas.{plan_open}
 use Rattle.plan_meaning.specs.Typing.{Says, faults, schemas, checks, first_fault, or_fault, schema_by, first_schema}
 use Rattle.plan_meaning.specs.TreeFaults.{tree_fault}

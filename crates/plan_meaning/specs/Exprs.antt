@@ -3,7 +3,7 @@ use Rattle.std.specs.Prelude.{ℕ, List, [], ◌∷◌, ◌++◌, Bool, true, fa
 use Rattle.plan_core.specs.Columns.{Columns, type_of, plain}
 use Rattle.plan_core.specs.declared.data_type.DataType.{DataType}
 use Rattle.plan_core.specs.declared.data_type.DataType.TheVariants as types
-use Rattle.plan_tree.specs.Rose.{Rose, Roses, rose, no_roses, more}
+use Rattle.plan_tree.specs.Rose.{Roses, rose, no_roses, more}
 use Rattle.plan_ir.specs.Plans.{ExprOp, column, literal, alias, binary, Expr}
 use Rattle.plan_ir.specs.declared.expr.LiteralValue.{LiteralValue}
 use Rattle.plan_ir.specs.declared.expr.LiteralValue.TheVariants.{Null, Int64, String, Boolean}

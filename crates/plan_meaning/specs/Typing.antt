@@ -1,7 +1,5 @@
 -- Which plans are valid: the schema of a plan, and the checks on its nodes in the order in which faults are told.
-use Rattle.std.specs.Prelude.{◌≡◌, ℕ, suc, ◌+◌, min, Bool, true, false, not, ◌&&◌, ◌||◌, List, [], ◌∷◌, ◌++◌, map, length, Option, Some, None, is_some, unwrap_or, if◌then◌else◌, Result, Ok, Err}
-use Rattle.std.specs.List.{list_any}
-use Rattle.std.specs.Str.{bytes_eq}
+use Rattle.std.specs.Prelude.{◌≡◌, ℕ, suc, min, Bool, true, false, not, ◌&&◌, ◌||◌, List, [], ◌∷◌, ◌++◌, map, length, Option, Some, None, is_some, unwrap_or, if◌then◌else◌, Result, Ok, Err}
 use Rattle.plan_core.specs.declared.arena.Node.{Node}
 use Rattle.plan_core.specs.declared.error.At.{At}
 use Rattle.plan_core.specs.declared.error.PolarsError.{PolarsError}
@@ -13,7 +11,7 @@ use Rattle.plan_core.specs.Names.{has}
 use Rattle.plan_tree.specs.Rose.{Rose, Roses, rose, no_roses, more}
 use Rattle.plan_ir.specs.declared.scan.FileInfo.{FileInfo}
 use Rattle.plan_ir.specs.Plans.{Op, slice, filter, scan, frame_scan, simple_projection, select, hstack, invalid, Named}
-use Rattle.plan_meaning.specs.Exprs.{Name, leaves, all_known, expr_type, is_type, same_type, naming, may_be_named, name_of}
+use Rattle.plan_meaning.specs.Exprs.{Name, leaves, all_known, expr_type, is_type, naming, may_be_named, name_of}
 use Rattle.plan_core.specs.declared.data_type.DataType.TheVariants as types
 
 -- Schemas

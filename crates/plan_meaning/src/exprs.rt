@@ -79,11 +79,7 @@ fn gives(op: Operator) -> DataType
 }
 
 /// The type of an operator over two operands, where these have types that it takes.
-fn operator_type(
-    op: Operator,
-    left: Option<DataType>,
-    right: Option<DataType>,
-) -> Option<DataType>
+fn operator_type(op: Operator, left: Option<DataType>, right: Option<DataType>) -> Option<DataType>
     ensures { result ≡ type_of_operator op left right }
 {
     match (left, right) {

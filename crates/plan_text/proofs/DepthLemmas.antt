@@ -1,14 +1,16 @@
 -- A plan nests few levels, so its text reads back.
-use Rattle.std.proofs.Common.{◌≡◌, ℕ, suc, max, ◌≤◌, List, [], ◌∷◌, map, Option, Some, None, refl, arith}
+use Rattle.std.proofs.Common.{◌≡◌, ℕ, ℤ, suc, max, ◌≤◌, List, [], ◌∷◌, map, Option, Some, None, refl, arith}
 use Rattle.serde_json.specs.Data.{Data, string, depth, items_depth}
 use Rattle.serde_json.specs.Read.{max_depth}
 use Rattle.serde_json.specs.View.{items_of}
 use Rattle.plan_core.specs.Columns.{Columns}
 use Rattle.plan_core.specs.declared.arena.Node.{Node}
 use Rattle.plan_core.specs.declared.options.FileScanOptions.{FileScanOptions}
+use Rattle.plan_core.specs.declared.options.ProjectionOptions.{ProjectionOptions}
 use Rattle.plan_ir.specs.declared.expr.AExpr.{AExpr}
 use Rattle.plan_ir.specs.declared.expr.AExpr.TheVariants as exprs
 use Rattle.plan_ir.specs.declared.expr.ExprIR.{ExprIR}
+use Rattle.plan_ir.specs.declared.expr.LiteralValue.{LiteralValue}
 use Rattle.plan_ir.specs.declared.expr.LiteralValue.TheVariants as literals
 use Rattle.plan_ir.specs.declared.ir.IR.{IR}
 use Rattle.plan_ir.specs.declared.ir.IR.TheVariants as nodes
@@ -16,7 +18,7 @@ use Rattle.plan_ir.specs.declared.scan.FileInfo.{FileInfo}
 use Rattle.plan_ir.specs.declared.scan.FileScan.{FileScan}
 use Rattle.plan_ir.specs.declared.scan.ScanSources.{ScanSources}
 use Rattle.plan_ir.specs.declared.scan.ScanSources.TheVariants as sources
-use Rattle.plan_text.specs.Written.{list_data, nullable_data, field_data, columns_data, names_data, output_data, slice_data, row_index_data, sources_data, expr_data, scan_data, node_data, plan_data}
+use Rattle.plan_text.specs.Written.{list_data, nullable_data, number_data, field_data, columns_data, names_data, output_data, outputs_data, options_data, slice_data, row_index_data, sources_data, literal_data, expr_data, slice_node_data, scan_data, frame_scan_data, made_data, node_data, plan_data}
 
 both : (a b k : ℕ) → a ≤ k → b ≤ k → max a b ≤ k
 both a b k p q = omega arith
@@ -46,6 +48,13 @@ output_deep : (e : ExprIR) → depth (output_data e) ≤ 2
 unfolding output_data
 output_deep e = omega arith
 
+outputs_deep : (es : List ExprIR) → depth (outputs_data es) ≤ 3
+outputs_deep es = list_deep output_data 2 es output_deep
+
+options_deep : (o : ProjectionOptions) → depth (options_data o) ≤ 1
+unfolding options_data
+options_deep o = omega arith
+
 sources_deep : (s : ScanSources) → depth (sources_data s) ≤ 3
 sources_deep (sources.Paths ps) = let below = names_deep ps in omega arith
 
@@ -63,17 +72,48 @@ scan_deep from info predicate output format options =
     let places = sources_deep from in
     omega arith
 
+slice_node_deep : (input : Node) (offset : ℤ) (len : ℕ) → depth (slice_node_data input offset len) ≤ 4
+unfolding slice_node_data
+slice_node_deep input offset len = omega arith
+
+frame_scan_deep : (df : Option ℕ) (schema : Columns) (output : Option Columns) → depth (frame_scan_data df schema output) ≤ 4
+unfolding frame_scan_data
+frame_scan_deep df schema output =
+    let number = nullable_deep number_data 0 df (λ n. flat (number_data n) 0 refl) in
+    let put_out = nullable_deep columns_data 2 output columns_deep in
+    let all = columns_deep schema in
+    omega arith
+
+made_deep : (op : List ℕ) (input : Node) (exprs : List ExprIR) (schema : Columns) (options : ProjectionOptions) → depth (made_data op input exprs schema options) ≤ 4
+unfolding made_data
+made_deep op input exprs schema options =
+    let outputs = outputs_deep exprs in
+    let allowed = options_deep options in
+    let all = columns_deep schema in
+    omega arith
+
+literal_deep : (v : LiteralValue) → depth (literal_data v) ≤ 0
+literal_deep (literals.Null t) = omega arith
+literal_deep (literals.Int64 z) = omega arith
+literal_deep (literals.String s) = omega arith
+literal_deep (literals.Boolean b) = omega arith
+
 expr_deep : (e : AExpr) → depth (expr_data e) ≤ 4
 unfolding expr_data
 expr_deep (exprs.Column s) = omega arith
-expr_deep (exprs.Literal (literals.Int64 z)) = omega arith
+expr_deep (exprs.Literal v) = let value = literal_deep v in omega arith
+expr_deep (exprs.Alias input s) = omega arith
 expr_deep (exprs.BinaryExpr left op right) = omega arith
 
 node_deep : (n : IR) → depth (node_data n) ≤ 4
 unfolding node_data
+node_deep (nodes.Slice input offset len) = slice_node_deep input offset len
 node_deep (nodes.Filter input predicate) = let below = output_deep predicate in omega arith
 node_deep (nodes.Scan from info predicate output format options) = scan_deep from info predicate output format options
+node_deep (nodes.DataFrameScan df schema output) = frame_scan_deep df schema output
 node_deep (nodes.SimpleProjection input columns) = let below = columns_deep columns in omega arith
+node_deep (nodes.Select input expr schema options) = made_deep _ input expr schema options
+node_deep (nodes.HStack input exprs schema options) = made_deep _ input exprs schema options
 node_deep nodes.Invalid = omega arith
 
 pub plan_deep : (lp : List IR) (ex : List AExpr) (root : Node) → depth (plan_data lp ex root) ≤ max_depth

@@ -1,14 +1,18 @@
 -- No plan, listing or error has a float, so its text is known.
 use Rattle.std.proofs.Common.{◌≡◌, ℕ, ℤ, pos, negsuc, List, [], ◌∷◌, false, Option, Some, None, refl}
-use Rattle.serde_json.specs.Data.{Data, string}
-use Rattle.serde_json.specs.Written.{has_float}
+use Rattle.std.specs.Prelude.{codes}
+use Rattle.serde_json.specs.Data as json
+use Rattle.serde_json.specs.Data.{Data, boolean, string, member, no_members}
+use Rattle.serde_json.specs.Written.{has_float, members_have_float}
 use Rattle.plan_core.specs.Columns.{Columns}
 use Rattle.plan_core.specs.declared.arena.Node.{Node}
 use Rattle.plan_core.specs.declared.error.PolarsError.{PolarsError}
 use Rattle.plan_core.specs.declared.options.FileScanOptions.{FileScanOptions}
+use Rattle.plan_core.specs.declared.options.ProjectionOptions.{ProjectionOptions}
 use Rattle.plan_ir.specs.declared.expr.AExpr.{AExpr}
 use Rattle.plan_ir.specs.declared.expr.AExpr.TheVariants as exprs
 use Rattle.plan_ir.specs.declared.expr.ExprIR.{ExprIR}
+use Rattle.plan_ir.specs.declared.expr.LiteralValue.{LiteralValue}
 use Rattle.plan_ir.specs.declared.expr.LiteralValue.TheVariants as literals
 use Rattle.plan_ir.specs.declared.ir.IR.{IR}
 use Rattle.plan_ir.specs.declared.ir.IR.TheVariants as nodes
@@ -16,8 +20,8 @@ use Rattle.plan_ir.specs.declared.scan.FileInfo.{FileInfo}
 use Rattle.plan_ir.specs.declared.scan.FileScan.{FileScan}
 use Rattle.plan_ir.specs.declared.scan.ScanSources.{ScanSources}
 use Rattle.plan_ir.specs.declared.scan.ScanSources.TheVariants as sources
-use Rattle.plan_text.specs.Kinds.{place_of}
-use Rattle.plan_text.specs.Written.{link_data, integer_data, list_data, nullable_data, field_data, columns_data, names_data, output_data, slice_data, row_index_data, sources_data, expr_data, scan_data, node_data, plan_data, listing_data, fault_data}
+use Rattle.plan_text.specs.Kinds.{place_of, format_text}
+use Rattle.plan_text.specs.Written.{link_data, integer_data, number_data, list_data, nullable_data, field_data, columns_data, names_data, output_data, outputs_data, options_data, slice_data, row_index_data, sources_data, literal_data, expr_data, slice_node_data, scan_data, frame_scan_data, made_data, node_data, plan_data, fault_data}
 
 -- the value has no float
 abbrev IsPlain : Data → Type 0
@@ -40,10 +44,17 @@ output_plain : (e : ExprIR) → IsPlain (output_data e)
 unfolding output_data
 output_plain e = refl
 
+outputs_plain : (es : List ExprIR) → IsPlain (outputs_data es)
+outputs_plain es = list_plain output_data es output_plain
+
+options_plain : (o : ProjectionOptions) → IsPlain (options_data o)
+unfolding options_data
+options_plain o = refl
+
 names_plain : (ns : List (List ℕ)) → IsPlain (names_data ns)
 names_plain ns = list_plain string ns (λ n. refl)
 
-columns_plain : (cs : Columns) → IsPlain (columns_data cs)
+pub columns_plain : (cs : Columns) → IsPlain (columns_data cs)
 columns_plain cs = list_plain field_data cs (λ f. refl)
 
 sources_plain : (s : ScanSources) → IsPlain (sources_data s)
@@ -52,13 +63,24 @@ sources_plain (sources.Paths ps) = rw (names_plain ps) refl
 slice_plain : (s : ℤ × ℕ) → IsPlain (slice_data s)
 slice_plain s = rw (integer_plain s.0) refl
 
+literal_plain : (v : LiteralValue) → IsPlain (literal_data v)
+literal_plain (literals.Null t) = refl
+literal_plain (literals.Int64 z) = integer_plain z
+literal_plain (literals.String s) = refl
+literal_plain (literals.Boolean b) = refl
+
 expr_plain : (e : AExpr) → IsPlain (expr_data e)
 unfolding expr_data
 expr_plain (exprs.Column s) = refl
-expr_plain (exprs.Literal (literals.Int64 z)) = rw (integer_plain z) refl
+expr_plain (exprs.Literal v) = rw (literal_plain v) refl
+expr_plain (exprs.Alias input s) = refl
 expr_plain (exprs.BinaryExpr left op right) = refl
 
-scan_plain : (from : ScanSources) (info : FileInfo) (predicate : Option ExprIR) (output : Option Columns) (format : FileScan) (options : FileScanOptions) → IsPlain (scan_data from info predicate output format options)
+slice_node_plain : (input : Node) (offset : ℤ) (len : ℕ) → IsPlain (slice_node_data input offset len)
+unfolding slice_node_data
+slice_node_plain input offset len = rw (integer_plain offset) refl
+
+pub scan_plain : (from : ScanSources) (info : FileInfo) (predicate : Option ExprIR) (output : Option Columns) (format : FileScan) (options : FileScanOptions) → IsPlain (scan_data from info predicate output format options)
 unfolding scan_data
 scan_plain from info predicate output format options =
     rw (
@@ -73,20 +95,43 @@ scan_plain from info predicate output format options =
       sources_plain from,
     ) refl
 
-node_plain : (n : IR) → IsPlain (node_data n)
+frame_scan_plain : (df : Option ℕ) (schema : Columns) (output : Option Columns) → IsPlain (frame_scan_data df schema output)
+unfolding frame_scan_data
+frame_scan_plain df schema output = rw (nullable_plain number_data df (λ n. refl), nullable_plain columns_data output columns_plain, columns_plain schema) refl
+
+made_plain : (op : List ℕ) (input : Node) (exprs : List ExprIR) (schema : Columns) (options : ProjectionOptions) → IsPlain (made_data op input exprs schema options)
+unfolding made_data
+made_plain op input exprs schema options = rw (outputs_plain exprs, options_plain options, columns_plain schema) refl
+
+-- the same of the members of a scan, whatever their values are called
+pub scan_members_plain : (from : ScanSources) (info : FileInfo) (predicate : Option ExprIR) (output : Option Columns) (format : FileScan) (options : FileScanOptions)
+    (columns hive kind op out path named reader rechunk row all slice places : Data)
+    → columns ≡ nullable_data names_data options.with_columns → hive ≡ json.null → kind ≡ string (format_text format) → op ≡ string (codes "Scan")
+    → out ≡ nullable_data columns_data output → path ≡ nullable_data string options.include_file_paths → named ≡ nullable_data output_data predicate
+    → reader ≡ nullable_data columns_data info.reader_schema → rechunk ≡ boolean options.rechunk → row ≡ nullable_data row_index_data options.row_index
+    → all ≡ columns_data info.schema → slice ≡ nullable_data slice_data options.slice → places ≡ sources_data from
+    → members_have_float (member (codes "columns") columns (member (codes "hive") hive (member (codes "kind") kind (member (codes "op") op (member (codes "output") out (member (codes "path_column") path (member (codes "predicate") named (member (codes "reader") reader (member (codes "rechunk") rechunk (member (codes "row_index") row (member (codes "schema") all (member (codes "slice") slice (member (codes "sources") places no_members))))))))))))) ≡ false
+unfolding scan_data
+scan_members_plain from info predicate output format options columns hive kind op out path named reader rechunk row all slice places e1 e2 e3 e4 e5 e6 e7 e8 e9 e10 e11 e12 e13 =
+    rw (e1, e2, e3, e4, e5, e6, e7, e8, e9, e10, e11, e12, e13) (scan_plain from info predicate output format options)
+
+pub node_plain : (n : IR) → IsPlain (node_data n)
 unfolding node_data
+node_plain (nodes.Slice input offset len) = slice_node_plain input offset len
 node_plain (nodes.Filter input predicate) = rw (output_plain predicate) refl
 node_plain (nodes.Scan from info predicate output format options) = scan_plain from info predicate output format options
+node_plain (nodes.DataFrameScan df schema output) = frame_scan_plain df schema output
 node_plain (nodes.SimpleProjection input columns) = rw (columns_plain columns) refl
+node_plain (nodes.Select input expr schema options) = made_plain _ input expr schema options
+node_plain (nodes.HStack input exprs schema options) = made_plain _ input exprs schema options
 node_plain nodes.Invalid = refl
+
+pub exprs_plain : (ex : List AExpr) → has_float (list_data expr_data ex) ≡ false
+exprs_plain ex = list_plain expr_data ex expr_plain
 
 pub plan_plain : (lp : List IR) (ex : List AExpr) (root : Node) → has_float (plan_data lp ex root) ≡ false
 unfolding plan_data
-plan_plain lp ex root = rw (list_plain expr_data ex expr_plain, list_plain node_data lp node_plain) refl
-
-pub listing_plain : (lp : List IR) (ex : List AExpr) (root : Node) (reads : List (List (List ℕ))) → has_float (listing_data lp ex root reads) ≡ false
-unfolding listing_data
-listing_plain lp ex root reads = rw (plan_plain lp ex root, list_plain names_data reads names_plain) refl
+plan_plain lp ex root = rw (exprs_plain ex, list_plain node_data lp node_plain) refl
 
 pub fault_plain : (e : PolarsError) → has_float (fault_data e) ≡ false
 unfolding fault_data

@@ -2,9 +2,13 @@
 use Rattle.std.specs.Prelude.{ℕ, List, None, codes}
 use Rattle.plan_core.specs.declared.data_type.DataType.{DataType}
 use Rattle.plan_core.specs.declared.data_type.DataType.TheVariants as types
+use Rattle.plan_core.specs.declared.data_type.PlainType.{PlainType}
+use Rattle.plan_core.specs.declared.data_type.PlainType.TheVariants as plains
 use Rattle.plan_core.specs.declared.error.At.{At}
 use Rattle.plan_core.specs.declared.error.PolarsError.{PolarsError}
 use Rattle.plan_core.specs.declared.error.PolarsError.TheVariants as errors
+use Rattle.plan_ir.specs.declared.expr.LiteralValue.{LiteralValue}
+use Rattle.plan_ir.specs.declared.expr.LiteralValue.TheVariants as literals
 use Rattle.plan_ir.specs.declared.expr.Operator.{Operator}
 use Rattle.plan_ir.specs.declared.expr.Operator.TheVariants as operators
 use Rattle.plan_ir.specs.declared.scan.FileScan.{FileScan}
@@ -16,6 +20,19 @@ type_text types.Int64 = codes "Int64"
 type_text types.String = codes "String"
 type_text types.Boolean = codes "Boolean"
 
+-- the name of the type of a single value
+abbrev pub plain_text : PlainType → List ℕ
+plain_text plains.Int64 = codes "Int64"
+plain_text plains.String = codes "String"
+plain_text plains.Boolean = codes "Boolean"
+
+-- the name of the type of a value that is written out
+abbrev pub literal_text : LiteralValue → List ℕ
+literal_text (literals.Null t) = plain_text t
+literal_text (literals.Int64 z) = codes "Int64"
+literal_text (literals.String s) = codes "String"
+literal_text (literals.Boolean b) = codes "Boolean"
+
 -- the name of an operator
 abbrev pub operator_text : Operator → List ℕ
 operator_text operators.Eq = codes "Eq"
@@ -24,6 +41,14 @@ operator_text operators.Lt = codes "Lt"
 operator_text operators.LtEq = codes "LtEq"
 operator_text operators.Gt = codes "Gt"
 operator_text operators.GtEq = codes "GtEq"
+operator_text operators.EqValidity = codes "EqValidity"
+operator_text operators.NotEqValidity = codes "NotEqValidity"
+operator_text operators.And = codes "And"
+operator_text operators.Or = codes "Or"
+operator_text operators.Xor = codes "Xor"
+operator_text operators.Plus = codes "Plus"
+operator_text operators.Minus = codes "Minus"
+operator_text operators.Multiply = codes "Multiply"
 
 -- the name of a format of files
 abbrev pub format_text : FileScan → List ℕ

@@ -2,3 +2,4 @@
 pub mod Lists
 pub mod Kinds
 pub mod Written
+pub mod Pieces

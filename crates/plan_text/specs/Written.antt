@@ -10,10 +10,12 @@ use Rattle.plan_core.specs.declared.arena.Node.{Node}
 use Rattle.plan_core.specs.declared.data_type.DataType.{DataType}
 use Rattle.plan_core.specs.declared.error.PolarsError.{PolarsError}
 use Rattle.plan_core.specs.declared.options.FileScanOptions.{FileScanOptions}
+use Rattle.plan_core.specs.declared.options.ProjectionOptions.{ProjectionOptions}
 use Rattle.plan_core.specs.declared.options.RowIndex.{RowIndex}
 use Rattle.plan_ir.specs.declared.expr.AExpr.{AExpr}
 use Rattle.plan_ir.specs.declared.expr.AExpr.TheVariants as exprs
 use Rattle.plan_ir.specs.declared.expr.ExprIR.{ExprIR}
+use Rattle.plan_ir.specs.declared.expr.LiteralValue.{LiteralValue}
 use Rattle.plan_ir.specs.declared.expr.LiteralValue.TheVariants as literals
 use Rattle.plan_ir.specs.declared.expr.OutputName.{OutputName}
 use Rattle.plan_ir.specs.declared.expr.OutputName.TheVariants as names
@@ -23,7 +25,7 @@ use Rattle.plan_ir.specs.declared.scan.FileInfo.{FileInfo}
 use Rattle.plan_ir.specs.declared.scan.FileScan.{FileScan}
 use Rattle.plan_ir.specs.declared.scan.ScanSources.{ScanSources}
 use Rattle.plan_ir.specs.declared.scan.ScanSources.TheVariants as sources
-use Rattle.plan_text.specs.Kinds.{type_text, operator_text, format_text, fault_text, place_of}
+use Rattle.plan_text.specs.Kinds.{type_text, literal_text, operator_text, format_text, fault_text, place_of}
 
 -- the number of a node or of an expression
 abbrev pub link_data : Node → Data
@@ -32,6 +34,10 @@ link_data n = number (unsigned n.0)
 -- a whole number
 abbrev pub integer_data : ℤ → Data
 integer_data z = number (of_integer z)
+
+-- a number from 0 on
+abbrev pub number_data : ℕ → Data
+number_data n = number (unsigned n)
 
 -- an array of what each value gives
 unfoldable pub list_data : {A : Type 0} → (A → Data) → List A → Data
@@ -76,22 +82,38 @@ name_text (names.Alias s) = s
 unfoldable pub output_data : ExprIR → Data
 output_data e = array (item (link_data e.node) (item (string (origin_text e.output_name)) (item (string (name_text e.output_name)) no_items)))
 
+-- expressions that are put out under names
+abbrev pub outputs_data : List ExprIR → Data
+outputs_data es = list_data output_data es
+
+-- what a node that makes columns may do
+unfoldable pub options_data : ProjectionOptions → Data
+options_data o = array (item (boolean o.run_parallel) (item (boolean o.duplicate_check) (item (boolean o.should_broadcast) no_items)))
+
 -- the first row, and how many rows
 abbrev pub slice_data : ℤ × ℕ → Data
-slice_data s = two_data (integer_data s.0) (number (unsigned s.1))
+slice_data s = two_data (integer_data s.0) (number_data s.1)
 
 -- the column that numbers the rows
 abbrev pub row_index_data : RowIndex → Data
-row_index_data r = two_data (string r.name) (number (unsigned r.offset))
+row_index_data r = two_data (string r.name) (number_data r.offset)
 
 -- where a scan reads from
 abbrev pub sources_data : ScanSources → Data
 sources_data (sources.Paths ps) = object (member (codes "paths") (names_data ps) no_members)
 
+-- a value that is written out, null where there is none
+abbrev pub literal_data : LiteralValue → Data
+literal_data (literals.Null t) = json.null
+literal_data (literals.Int64 z) = integer_data z
+literal_data (literals.String s) = string s
+literal_data (literals.Boolean b) = boolean b
+
 -- an expression
 unfoldable pub expr_data : AExpr → Data
 expr_data (exprs.Column s) = object (member (codes "name") (string s) (member (codes "op") (string (codes "Column")) no_members))
-expr_data (exprs.Literal (literals.Int64 z)) = object (member (codes "op") (string (codes "Literal")) (member (codes "type") (string (codes "Int64")) (member (codes "value") (integer_data z) no_members)))
+expr_data (exprs.Literal v) = object (member (codes "op") (string (codes "Literal")) (member (codes "type") (string (literal_text v)) (member (codes "value") (literal_data v) no_members)))
+expr_data (exprs.Alias input s) = object (member (codes "input") (link_data input) (member (codes "name") (string s) (member (codes "op") (string (codes "Alias")) no_members)))
 expr_data (exprs.BinaryExpr left op right) = object (member (codes "left") (link_data left) (member (codes "op") (string (codes "BinaryExpr")) (member (codes "operator") (string (operator_text op)) (member (codes "right") (link_data right) no_members))))
 
 -- a scan
@@ -111,11 +133,40 @@ scan_data from info predicate output format options = object (
     member (codes "slice") (nullable_data slice_data options.slice) (
     member (codes "sources") (sources_data from) no_members)))))))))))))
 
+-- some rows of the input, one after another
+unfoldable pub slice_node_data : Node → ℤ → ℕ → Data
+slice_node_data input offset len = object (
+    member (codes "input") (link_data input) (
+    member (codes "len") (number_data len) (
+    member (codes "offset") (integer_data offset) (
+    member (codes "op") (string (codes "Slice")) no_members))))
+
+-- the columns of a frame that is handed in
+unfoldable pub frame_scan_data : Option ℕ → Columns → Option Columns → Data
+frame_scan_data df schema output = object (
+    member (codes "frame") (nullable_data number_data df) (
+    member (codes "op") (string (codes "DataFrameScan")) (
+    member (codes "output") (nullable_data columns_data output) (
+    member (codes "schema") (columns_data schema) no_members))))
+
+-- a node of this name that makes a column for each expression
+unfoldable pub made_data : List ℕ → Node → List ExprIR → Columns → ProjectionOptions → Data
+made_data op input exprs schema options = object (
+    member (codes "exprs") (outputs_data exprs) (
+    member (codes "input") (link_data input) (
+    member (codes "op") (string op) (
+    member (codes "options") (options_data options) (
+    member (codes "schema") (columns_data schema) no_members)))))
+
 -- a node
 unfoldable pub node_data : IR → Data
+node_data (nodes.Slice input offset len) = slice_node_data input offset len
 node_data (nodes.Filter input predicate) = object (member (codes "input") (link_data input) (member (codes "op") (string (codes "Filter")) (member (codes "predicate") (output_data predicate) no_members)))
 node_data (nodes.Scan from info predicate output format options) = scan_data from info predicate output format options
+node_data (nodes.DataFrameScan df schema output) = frame_scan_data df schema output
 node_data (nodes.SimpleProjection input columns) = object (member (codes "columns") (columns_data columns) (member (codes "input") (link_data input) (member (codes "op") (string (codes "SimpleProjection")) no_members)))
+node_data (nodes.Select input expr schema options) = made_data (codes "Select") input expr schema options
+node_data (nodes.HStack input exprs schema options) = made_data (codes "HStack") input exprs schema options
 node_data nodes.Invalid = object (member (codes "op") (string (codes "Invalid")) no_members)
 
 -- a plan: its expressions, its nodes and its root

@@ -1,9 +1,9 @@
 //! The names of types, operators, formats of files, and errors.
 ghost use Rattle.std.specs.Prelude.{◌≡◌};
-ghost use Rattle.plan_text.specs.Kinds.{type_text, operator_text, format_text, fault_text, place_of};
+ghost use Rattle.plan_text.specs.Kinds.{type_text, plain_text, literal_text, operator_text, format_text, fault_text, place_of};
 
-use plan_core::{At, DataType, PolarsError};
-use plan_ir::{FileScan, Operator};
+use plan_core::{At, DataType, PlainType, PolarsError};
+use plan_ir::{FileScan, LiteralValue, Operator};
 
 /// The name of a type in a document: `Int64`, `String` or `Boolean`.
 pub fn type_name(data_type: DataType) -> &'static str
@@ -13,6 +13,29 @@ pub fn type_name(data_type: DataType) -> &'static str
         DataType::Int64 => "Int64",
         DataType::String => "String",
         DataType::Boolean => "Boolean",
+    }
+}
+
+/// The name of the type of a single value in a document.
+fn plain_name(plain: PlainType) -> &'static str
+    ensures { result.now ≡ plain_text plain }
+{
+    match plain {
+        PlainType::Int64 => "Int64",
+        PlainType::String => "String",
+        PlainType::Boolean => "Boolean",
+    }
+}
+
+/// The name of the type of a literal in a document.
+pub fn literal_type(value: &LiteralValue) -> &'static str
+    ensures { result.now ≡ literal_text value.now }
+{
+    match value {
+        LiteralValue::Null(plain) => plain_name(*plain),
+        LiteralValue::Int64(_) => "Int64",
+        LiteralValue::String(_) => "String",
+        LiteralValue::Boolean(_) => "Boolean",
     }
 }
 
@@ -27,6 +50,14 @@ pub fn operator_name(operator: Operator) -> &'static str
         Operator::LtEq => "LtEq",
         Operator::Gt => "Gt",
         Operator::GtEq => "GtEq",
+        Operator::EqValidity => "EqValidity",
+        Operator::NotEqValidity => "NotEqValidity",
+        Operator::And => "And",
+        Operator::Or => "Or",
+        Operator::Xor => "Xor",
+        Operator::Plus => "Plus",
+        Operator::Minus => "Minus",
+        Operator::Multiply => "Multiply",
     }
 }
 

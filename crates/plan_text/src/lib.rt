@@ -2,9 +2,11 @@
 #![tactic(auto)]
 
 mod kinds;
+mod listing;
 mod lists;
 mod objects;
 mod parts;
+mod pieces;
 mod plan;
 #[cfg(test)]
 mod tests;

@@ -2,12 +2,12 @@
 ghost use Rattle.std.specs.Prelude.{◌≡◌, IfOk};
 ghost use Rattle.serde_json.specs.Data.{string};
 ghost use Rattle.serde_json.specs.View.{view};
-ghost use Rattle.plan_text.specs.Written.{columns_data, names_data, list_data, link_data, field_data, output_data, sources_data, slice_data, row_index_data, nullable_data, origin_text, name_text};
+ghost use Rattle.plan_text.specs.Written.{columns_data, names_data, list_data, link_data, number_data, field_data, output_data, outputs_data, options_data, literal_data, sources_data, slice_data, row_index_data, nullable_data, origin_text, name_text};
 
 use crate::kinds::type_name;
 use crate::lists::each;
-use plan_core::{DataType, Items, Node, PlSmallStr, RowIndex, Schema};
-use plan_ir::{ExprIR, OutputName, ScanSources};
+use plan_core::{DataType, Items, Node, PlSmallStr, ProjectionOptions, RowIndex, Schema};
+use plan_ir::{ExprIR, LiteralValue, OutputName, ScanSources};
 use serde_json::{Value, json};
 use std::alloc::{AllocError, Global};
 
@@ -72,6 +72,35 @@ pub fn output(alloc: Global, expr: &ExprIR) -> Result<Value, AllocError>
     json!(in alloc; [expr.node.0, origin(name), name_of(name)])
 }
 
+/// The array of expressions that are put out, each with its name.
+pub fn outputs(alloc: Global, exprs: &Items<ExprIR>) -> Result<Value, AllocError>
+    ensures { IfOk result (λ v. view v ≡ outputs_data exprs.now) }
+{
+    let written = each(alloc, exprs.as_slice(), |expr| output(alloc, expr))?;
+    Ok(Value::Array(written))
+}
+
+/// The three truths of the options: whether expressions may run at one time, whether names that come twice are looked
+/// for, and whether a single value is spread.
+#[tactic(auto, unfolding(crate::specs::Written::options_data))]
+pub fn options(alloc: Global, given: ProjectionOptions) -> Result<Value, AllocError>
+    ensures { IfOk result (λ v. view v ≡ options_data given) }
+{
+    json!(in alloc; [given.run_parallel, given.duplicate_check, given.should_broadcast])
+}
+
+/// The value of a literal: null, a number, a text or a truth.
+pub fn literal(alloc: Global, value: &LiteralValue) -> Result<Value, AllocError>
+    ensures { IfOk result (λ v. view v ≡ literal_data value.now) }
+{
+    match value {
+        LiteralValue::Null(_) => Ok(Value::Null),
+        LiteralValue::Int64(number) => Ok(Value::from(*number)),
+        LiteralValue::String(text) => Value::try_from_str(alloc, text.as_str()),
+        LiteralValue::Boolean(truth) => Ok(Value::Bool(*truth)),
+    }
+}
+
 /// The number of a node, or null.
 pub fn optional_link(link: Option<Node>) -> Value
     ensures { view result ≡ nullable_data link_data link }
@@ -79,6 +108,16 @@ pub fn optional_link(link: Option<Node>) -> Value
     match link {
         None => Value::Null,
         Some(node) => Value::from(node.0),
+    }
+}
+
+/// The number, or null.
+pub fn optional_number(given: Option<u32>) -> Value
+    ensures { view result ≡ nullable_data number_data given }
+{
+    match given {
+        None => Value::Null,
+        Some(number) => Value::from(number),
     }
 }
 

@@ -1,17 +1,17 @@
 //! The JSON values of expressions, nodes and plans.
 ghost use Rattle.std.specs.Prelude.{◌≡◌, IfOk};
 ghost use Rattle.serde_json.specs.View.{view};
-ghost use Rattle.plan_text.specs.Written.{expr_data, node_data, scan_data, list_data, plan_data};
+ghost use Rattle.plan_text.specs.Written.{expr_data, node_data, slice_node_data, scan_data, frame_scan_data, made_data, list_data, plan_data};
 
-use crate::kinds::{format_name, operator_name};
+use crate::kinds::{format_name, literal_type, operator_name};
 use crate::lists::each_entry;
 use crate::objects::object;
 use crate::parts::{
-    columns, optional_columns, optional_name, optional_names, optional_output, optional_row_index,
-    optional_slice, output, sources,
+    columns, literal, optional_columns, optional_name, optional_names, optional_number,
+    optional_output, optional_row_index, optional_slice, options, output, outputs, sources,
 };
-use plan_core::{Arena, FileScanOptions, Schema};
-use plan_ir::{AExpr, ExprIR, FileInfo, FileScan, IR, LiteralValue, PlanCopy, ScanSources};
+use plan_core::{Arena, FileScanOptions, Items, Node, ProjectionOptions, Schema};
+use plan_ir::{AExpr, ExprIR, FileInfo, FileScan, IR, PlanCopy, ScanSources};
 use serde_json::{Value, json};
 use std::alloc::{AllocError, Global};
 
@@ -22,8 +22,12 @@ fn expr(alloc: Global, expr: &AExpr) -> Result<Value, AllocError>
 {
     match expr {
         AExpr::Column(name) => json!(in alloc; {"name": name.as_str(), "op": "Column"}),
-        AExpr::Literal(LiteralValue::Int64(number)) => {
-            json!(in alloc; {"op": "Literal", "type": "Int64", "value": *number})
+        AExpr::Literal(given) => {
+            let value = literal(alloc, given)?;
+            json!(in alloc; {"op": "Literal", "type": literal_type(given), "value": value})
+        }
+        AExpr::Alias(input, name) => {
+            json!(in alloc; {"input": input.0, "name": name.as_str(), "op": "Alias"})
         }
         AExpr::BinaryExpr { left, op, right } => json!(in alloc; {
             "left": left.0,
@@ -77,12 +81,61 @@ fn scan(
     object(alloc, entries)
 }
 
+/// The object of a slice.
+#[tactic(auto, unfolding(crate::specs::Written::slice_node_data))]
+fn slice_node(alloc: Global, input: Node, offset: i64, len: u32) -> Result<Value, AllocError>
+    ensures { IfOk result (λ v. view v ≡ slice_node_data input offset len) }
+{
+    json!(in alloc; {"input": input.0, "len": len, "offset": offset, "op": "Slice"})
+}
+
+/// The object of a scan of a frame.
+#[tactic(auto, unfolding(crate::specs::Written::frame_scan_data))]
+fn frame_scan(
+    alloc: Global,
+    df: Option<u32>,
+    schema: &Schema,
+    output_schema: &Option<Schema>,
+) -> Result<Value, AllocError>
+    ensures { IfOk result (λ v. view v ≡ frame_scan_data df schema.now output_schema.now) }
+{
+    let frame = optional_number(df);
+    let output = optional_columns(alloc, output_schema)?;
+    let schema = columns(alloc, schema)?;
+    json!(in alloc; {"frame": frame, "op": "DataFrameScan", "output": output, "schema": schema})
+}
+
+/// A node of this name that makes a column for each expression.
+#[tactic(auto, unfolding(crate::specs::Written::made_data))]
+fn made(
+    alloc: Global,
+    op: &str,
+    input: Node,
+    exprs: &Items<ExprIR>,
+    schema: &Schema,
+    given: ProjectionOptions,
+) -> Result<Value, AllocError>
+    ensures { IfOk result (λ v. view v ≡ made_data op.now input exprs.now schema.now given) }
+{
+    let exprs = outputs(alloc, exprs)?;
+    let options = options(alloc, given)?;
+    let schema = columns(alloc, schema)?;
+    json!(in alloc; {
+        "exprs": exprs,
+        "input": input.0,
+        "op": op,
+        "options": options,
+        "schema": schema
+    })
+}
+
 /// The object of a node.
 #[tactic(auto, unfolding(crate::specs::Written::node_data))]
-fn node(alloc: Global, node: &IR) -> Result<Value, AllocError>
+pub fn node(alloc: Global, node: &IR) -> Result<Value, AllocError>
     ensures { IfOk result (λ v. view v ≡ node_data node.now) }
 {
     match node {
+        IR::Slice { input, offset, len } => slice_node(alloc, *input, *offset, *len),
         IR::Filter { input, predicate } => {
             let predicate = output(alloc, predicate)?;
             json!(in alloc; {"input": input.0, "op": "Filter", "predicate": predicate})
@@ -103,6 +156,11 @@ fn node(alloc: Global, node: &IR) -> Result<Value, AllocError>
             *scan_type,
             file_options,
         ),
+        IR::DataFrameScan {
+            df,
+            schema,
+            output_schema,
+        } => frame_scan(alloc, *df, schema, output_schema),
         IR::SimpleProjection {
             input,
             columns: schema,
@@ -110,6 +168,18 @@ fn node(alloc: Global, node: &IR) -> Result<Value, AllocError>
             let columns = columns(alloc, schema)?;
             json!(in alloc; {"columns": columns, "input": input.0, "op": "SimpleProjection"})
         }
+        IR::Select {
+            input,
+            expr,
+            schema,
+            options,
+        } => made(alloc, "Select", *input, expr, schema, *options),
+        IR::HStack {
+            input,
+            exprs,
+            schema,
+            options,
+        } => made(alloc, "HStack", *input, exprs, schema, *options),
         IR::Invalid => json!(in alloc; {"op": "Invalid"}),
     }
 }
@@ -123,7 +193,7 @@ fn nodes(alloc: Global, arena: &Arena<IR>) -> Result<Value, AllocError>
 }
 
 /// The array of the expressions of an arena, by their numbers.
-fn exprs(alloc: Global, arena: &Arena<AExpr>) -> Result<Value, AllocError>
+pub fn exprs(alloc: Global, arena: &Arena<AExpr>) -> Result<Value, AllocError>
     ensures { IfOk result (λ v. view v ≡ list_data expr_data arena.now) }
 {
     let written = each_entry(alloc, arena, |given| expr(alloc, given))?;

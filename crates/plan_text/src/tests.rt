@@ -2,7 +2,8 @@
 
 use super::{write_fault, write_listing, write_plan};
 use plan_core::{
-    Arena, At, DataType, FileScanOptions, Items, Node, PlSmallStr, PolarsError, RowIndex, Schema,
+    Arena, At, DataType, FileScanOptions, Items, Node, PlSmallStr, PlainType, PolarsError,
+    ProjectionOptions, RowIndex, Schema,
 };
 use plan_ir::{
     AExpr, ExprIR, FileInfo, FileScan, IR, LiteralValue, Operator, OutputName, PlanCopy,
@@ -15,6 +16,12 @@ const SIMPLE_PLAN: &str =
 
 const FULL_PLAN: &str =
     r#"{"exprs":[{"name":"\"é\n","op":"Column"},{"op":"Literal","type":"Int64","value":-7}],"nodes":[{"op":"Invalid"},{"columns":null,"hive":null,"kind":"Parquet","op":"Scan","output":null,"path_column":"p","predicate":[0,"alias","\\"],"reader":null,"rechunk":true,"row_index":["i",9],"schema":[["\"é\n","Boolean"]],"slice":[-3,4],"sources":{"paths":[]}}],"root":1}"#;
+
+const MORE_PLAN: &str =
+    r#"{"exprs":[{"input":1,"name":"x","op":"Alias"},{"op":"Literal","type":"String","value":"t"},{"left":3,"op":"BinaryExpr","operator":"Xor","right":4},{"op":"Literal","type":"Boolean","value":true},{"op":"Literal","type":"Boolean","value":null},{"op":"Literal","type":"Int64","value":null},{"op":"Literal","type":"String","value":null}],"nodes":[{"input":1,"len":4294967295,"offset":-3,"op":"Slice"},{"exprs":[[0,"alias","x"],[1,"lit","literal"]],"input":2,"op":"Select","options":[true,false,false],"schema":[["x","String"],["literal","String"]]},{"exprs":[[2,"lit","b"]],"input":3,"op":"HStack","options":[false,true,false],"schema":[["a","Int64"],["b","Boolean"]]},{"frame":7,"op":"DataFrameScan","output":[["a","Int64"]],"schema":[["a","Int64"]]},{"frame":null,"op":"DataFrameScan","output":null,"schema":[]}],"root":0}"#;
+
+const OPERATORS: &str =
+    r#"{"exprs":[{"left":0,"op":"BinaryExpr","operator":"Eq","right":1},{"left":0,"op":"BinaryExpr","operator":"NotEq","right":1},{"left":0,"op":"BinaryExpr","operator":"Lt","right":1},{"left":0,"op":"BinaryExpr","operator":"LtEq","right":1},{"left":0,"op":"BinaryExpr","operator":"Gt","right":1},{"left":0,"op":"BinaryExpr","operator":"GtEq","right":1},{"left":0,"op":"BinaryExpr","operator":"EqValidity","right":1},{"left":0,"op":"BinaryExpr","operator":"NotEqValidity","right":1},{"left":0,"op":"BinaryExpr","operator":"And","right":1},{"left":0,"op":"BinaryExpr","operator":"Or","right":1},{"left":0,"op":"BinaryExpr","operator":"Xor","right":1},{"left":0,"op":"BinaryExpr","operator":"Plus","right":1},{"left":0,"op":"BinaryExpr","operator":"Minus","right":1},{"left":0,"op":"BinaryExpr","operator":"Multiply","right":1}],"nodes":[],"root":0}"#;
 
 fn name(alloc: Global, text: &str) -> Result<PlSmallStr, AllocError> {
     PlSmallStr::new(alloc, text)
@@ -131,6 +138,113 @@ fn full_plan(alloc: Global) -> Result<PlanCopy, AllocError> {
     })
 }
 
+fn more_exprs(alloc: Global) -> Result<Arena<AExpr>, AllocError> {
+    let mut ex = Arena::new(alloc);
+    let _ = ex.add(AExpr::Alias(Node(1), name(alloc, "x")?))?;
+    let _ = ex.add(AExpr::Literal(LiteralValue::String(name(alloc, "t")?)))?;
+    let _ = ex.add(AExpr::BinaryExpr {
+        left: Node(3),
+        op: Operator::Xor,
+        right: Node(4),
+    })?;
+    let _ = ex.add(AExpr::Literal(LiteralValue::Boolean(true)))?;
+    let _ = ex.add(AExpr::Literal(LiteralValue::Null(PlainType::Boolean)))?;
+    let _ = ex.add(AExpr::Literal(LiteralValue::Null(PlainType::Int64)))?;
+    let _ = ex.add(AExpr::Literal(LiteralValue::Null(PlainType::String)))?;
+    Ok(ex)
+}
+
+fn select_of_two(alloc: Global) -> Result<IR, AllocError> {
+    let mut expr = Items::new(alloc);
+    expr.push(ExprIR::new(Node(0), OutputName::Alias(name(alloc, "x")?)))?;
+    expr.push(ExprIR::new(Node(1), OutputName::LiteralLhs(name(alloc, "literal")?)))?;
+    Ok(IR::Select {
+        input: Node(2),
+        expr,
+        schema: schema(
+            alloc,
+            &[("x", DataType::String), ("literal", DataType::String)],
+        )?,
+        options: ProjectionOptions {
+            run_parallel: true,
+            duplicate_check: false,
+            should_broadcast: false,
+        },
+    })
+}
+
+fn hstack_of_one(alloc: Global) -> Result<IR, AllocError> {
+    let mut exprs = Items::new(alloc);
+    exprs.push(ExprIR::new(Node(2), OutputName::LiteralLhs(name(alloc, "b")?)))?;
+    Ok(IR::HStack {
+        input: Node(3),
+        exprs,
+        schema: schema(alloc, &[("a", DataType::Int64), ("b", DataType::Boolean)])?,
+        options: ProjectionOptions {
+            run_parallel: false,
+            duplicate_check: true,
+            should_broadcast: false,
+        },
+    })
+}
+
+fn more_plan(alloc: Global) -> Result<PlanCopy, AllocError> {
+    let mut lp = Arena::new(alloc);
+    let _ = lp.add(IR::Slice {
+        input: Node(1),
+        offset: -3,
+        len: 4294967295,
+    })?;
+    let _ = lp.add(select_of_two(alloc)?)?;
+    let _ = lp.add(hstack_of_one(alloc)?)?;
+    let _ = lp.add(IR::DataFrameScan {
+        df: Some(7),
+        schema: schema(alloc, &[("a", DataType::Int64)])?,
+        output_schema: Some(schema(alloc, &[("a", DataType::Int64)])?),
+    })?;
+    let _ = lp.add(IR::DataFrameScan {
+        df: None,
+        schema: Schema::new(alloc),
+        output_schema: None,
+    })?;
+    Ok(PlanCopy {
+        root: Node(0),
+        lp,
+        ex: more_exprs(alloc)?,
+    })
+}
+
+fn all_operators(alloc: Global) -> Result<PlanCopy, AllocError> {
+    let mut ex = Arena::new(alloc);
+    for op in [
+        Operator::Eq,
+        Operator::NotEq,
+        Operator::Lt,
+        Operator::LtEq,
+        Operator::Gt,
+        Operator::GtEq,
+        Operator::EqValidity,
+        Operator::NotEqValidity,
+        Operator::And,
+        Operator::Or,
+        Operator::Xor,
+        Operator::Plus,
+        Operator::Minus,
+        Operator::Multiply,
+    ] {
+        let _ = ex.add(AExpr::BinaryExpr {
+            left: Node(0),
+            op,
+            right: Node(1),
+        })?;
+    }
+    Ok(PlanCopy {
+        root: Node(0),
+        lp: Arena::new(alloc),
+        ex,
+    })
+}
+
 #[test]
 fn writes_plans(rt: HostRuntime) -> Result<(), AllocError> {
     let alloc = rt.alloc();
@@ -138,6 +252,10 @@ fn writes_plans(rt: HostRuntime) -> Result<(), AllocError> {
     assert_eq!(rt; simple.as_str(), SIMPLE_PLAN);
     let full = write_plan(alloc, &full_plan(alloc)?)?;
     assert_eq!(rt; full.as_str(), FULL_PLAN);
+    let more = write_plan(alloc, &more_plan(alloc)?)?;
+    assert_eq!(rt; more.as_str(), MORE_PLAN);
+    let operators = write_plan(alloc, &all_operators(alloc)?)?;
+    assert_eq!(rt; operators.as_str(), OPERATORS);
     Ok(())
 }
 

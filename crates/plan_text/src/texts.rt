@@ -3,11 +3,11 @@ ghost use Rattle.std.specs.Prelude.{◌≡◌, IfOk, Some, false, string_bytes};
 ghost use Rattle.serde_json.specs.Read.{read};
 ghost use Rattle.serde_json.specs.View.{view};
 ghost use Rattle.serde_json.specs.Written.{has_float};
-ghost use Rattle.plan_text.specs.Written.{names_data, list_data, listing_data, fault_data, line_of, plan_data, plan_text, listing_text, error_text};
+ghost use Rattle.plan_text.specs.Written.{fault_data, line_of, plan_data, plan_text, listing_text, error_text};
 
 use crate::kinds::{fault_name, place};
-use crate::lists::each;
-use crate::parts::{names, optional_link};
+use crate::listing::listing_bytes;
+use crate::parts::optional_link;
 use crate::plan::plan as plan_value;
 use plan_core::{Items, PlSmallStr, PolarsError};
 use plan_ir::PlanCopy;
@@ -39,29 +39,20 @@ fn line(alloc: Global, value: &Value) -> Result<String, AllocError>
     Ok(text)
 }
 
-/// The array of what each scan reads, from left to right, each an array of names.
-fn reads_value(alloc: Global, reads: &[Items<PlSmallStr>]) -> Result<Value, AllocError>
-    ensures { IfOk result (λ v. view v ≡ list_data names_data reads.now) }
+/// The text of bytes. No clause says that they are UTF-8, so they are checked.
+fn text_of(bytes: Vec<u8>) -> Result<String, AllocError>
+    ensures { IfOk result (λ s. string_bytes s ≡ bytes.items) }
 {
-    let written = each(alloc, reads, |read| names(alloc, read))?;
-    Ok(Value::Array(written))
-}
-
-/// The object of a listing: its `plan`, its `reads` and its `rows`, which are null.
-#[tactic(auto, unfolding(crate::specs::Written::listing_data))]
-fn listing(alloc: Global, plan: &PlanCopy, reads: &[Items<PlSmallStr>]) -> Result<Value, AllocError>
-    ensures { IfOk result (λ v. view v
-        ≡ listing_data plan.now.lp plan.now.ex plan.now.root reads.now) }
-{
-    let plan = plan_value(alloc, plan)?;
-    let reads = reads_value(alloc, reads)?;
-    json!(in alloc; {"plan": plan, "reads": reads, "rows": null})
+    match String::from_utf8(bytes) {
+        Ok(text) => Ok(text),
+        Err(_) => Err(AllocError),
+    }
 }
 
 /// The text of a listing, with a line feed: the object of a `plan`, of the names that each of its
 /// scans `reads`, from left to right, and of its `rows`, which are null. It fails only where
 /// memory is wanting.
-#[tactic(auto, using(crate::proofs::FloatLemmas::listing_plain), unfolding(crate::specs::Written::listing_text))]
+#[tactic(auto, unfolding(crate::specs::Written::listing_text))]
 pub fn write_listing(
     alloc: Global,
     plan: &PlanCopy,
@@ -70,8 +61,9 @@ pub fn write_listing(
     ensures { IfOk result (λ s. string_bytes s
         ≡ listing_text plan.now.lp plan.now.ex plan.now.root reads.now) }
 {
-    let value = listing(alloc, plan, reads)?;
-    line(alloc, &value)
+    let mut bytes = listing_bytes(alloc, plan, reads)?;
+    bytes.push(b'\n')?;
+    text_of(bytes)
 }
 
 /// The object of an error.

@@ -1,15 +1,13 @@
 -- What the program says of bytes, from what it says of their document; and what it leaves in the sink.
-use Rattle.std.proofs.Common.{◌≡◌, ℕ, ◌≤◌, List, [], ◌∷◌, length, map, Bool, true, false, Option, Some, None, Result, Ok, Err, String, string_bytes, refl, sym, ap, ◌∙◌, subst, ◌⊎◌, inl, inr, slice_index_or, arith}
+use Rattle.std.proofs.Common.{◌≡◌, ℕ, ◌≤◌, List, [], ◌∷◌, length, map, Bool, true, false, Option, Some, None, Result, Ok, Err, String, string_bytes, refl, sym, ap, ◌∙◌, subst, inl, inr, slice_index_or, arith}
 use Rattle.std.specs.Prelude.{IfSome, IsTrue, ◌↔◌}
 use Rattle.std.specs.Str.{bytes_eq}
 use Rattle.std.proofs.lemmas.Slice.Eq.{bytes_eq-Decides}
 use Rattle.std.specs.declared.alloc.Global.{Global}
-use Rattle.std.specs.Io.KnownBytes.{Appends, Keeps}
+use Rattle.std.specs.Io.KnownBytes.{Appends}
 use Rattle.plan_core.specs.declared.error.PolarsError.{PolarsError}
 use Rattle.plan_doc.specs.declared.document.Document.{Document}
 use Rattle.plan_doc.specs.Document.{doc_of, document}
-use Rattle.plan_stream.specs.Causes.{Rose}
-use Rattle.plan_stream.specs.Texts.{GrowsByFront}
 use Rattle.plan_text.specs.Written.{error_text}
 use Rattle.plan_tool.specs.declared.stop.Stop.{Stop}
 use Rattle.plan_tool.specs.declared.stop.Stop.TheVariants.{NotJson, Form, Limit, Fault, OutOfMemory}
@@ -25,7 +23,7 @@ use Rattle.plan_meaning.proofs.Refining.{refines_refl}
 use Rattle.plan_meaning.specs.Scans.{scans}
 use Rattle.plan_prune.specs.Reads.{ReadWithin}
 use Rattle.plan_tool.specs.Listings.{IsAnswer, pushdown_bit, SaysOf, SaysOfDocument, Lists, Refuses}
-use Rattle.plan_tool.specs.Causes.{Call, Comes, IsCommand, IsReadWhole, Finished, Broke, Finishes, Listed, Told, Cut}
+use Rattle.plan_tool.specs.Causes.{Call, Comes, IsCommand, IsReadWhole, Finishes, Listed, Told, Cut}
 
 -- what is said of a document is said of its bytes
 pub said : (d : Document) (bytes : List ℕ) (r : Result (String Global) Stop) → doc_of bytes ≡ document d → SaysOfDocument r d → SaysOf r bytes

@@ -1,18 +1,16 @@
 -- What the checks say, from what each of them found.
-use Rattle.std.proofs.Common.{◌≡◌, ℕ, ◌<◌, ◌≤◌, List, Option, Some, None, Result, Ok, Err, refl, sym, ◌∙◌, ◌⊎◌, inl, inr, arith}
+use Rattle.std.proofs.Common.{◌≤◌, List, Err, inr, arith}
 use Rattle.plan_core.specs.declared.arena.Node.{Node}
 use Rattle.plan_core.specs.declared.error.PolarsError.{PolarsError}
 use Rattle.plan_core.specs.declared.error.PolarsError.TheVariants.{SchemaFieldNotFound, Duplicate, SchemaMismatch, InvalidOperation, ComputeError, OutOfMemory}
-use Rattle.plan_core.specs.Columns.{Columns}
-use Rattle.plan_tree.specs.Rose.{levels}
 use Rattle.plan_ir.specs.declared.expr.AExpr.{AExpr}
 use Rattle.plan_ir.specs.declared.ir.IR.{IR}
-use Rattle.plan_ir.specs.Parts.{StandsPlan, IsPlan}
+use Rattle.plan_ir.specs.Parts.{IsPlan}
 use Rattle.plan_meaning.specs.declared.depth.Depth.{Depth}
 use Rattle.plan_meaning.specs.Depths.{IsDepth}
 use Rattle.plan_meaning.specs.Typed.{typed, IsTyped}
 use Rattle.plan_tool.specs.Limits.{IsShallow}
-use Rattle.plan_tool.specs.Checked.{IsChecked, IsRefused, Checks}
+use Rattle.plan_tool.specs.Checked.{Checks}
 use Rattle.plan_tool.specs.Stops.{stop_of_fault}
 
 module _ (lp : List IR) (ex : List AExpr) (root : Node) where

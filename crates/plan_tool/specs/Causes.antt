@@ -1,5 +1,5 @@
 -- When each answer of the program comes, and what it leaves.
-use Rattle.std.specs.Prelude.{◌≡◌, ◌⊎◌, ℕ, ◌<◌, ◌≤◌, List, [], ◌∷◌, length, map, Bool, true, IfSome, codes}
+use Rattle.std.specs.Prelude.{◌≡◌, ◌⊎◌, ℕ, ◌<◌, ◌≤◌, List, [], ◌∷◌, length, Bool, true, IfSome, codes}
 use Rattle.std.specs.declared.option.Option.{Option}
 use Rattle.std.specs.Io.KnownBytes.{Appends, Keeps, IsAtEnd}
 use Rattle.plan_core.specs.declared.error.PolarsError.{PolarsError}

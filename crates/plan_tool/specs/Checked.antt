@@ -1,11 +1,10 @@
 -- What the checks on a document's plan say, in their order: bad numbers, depth, and then the faults of the nodes.
-use Rattle.std.specs.Prelude.{◌≡◌, ◌⊎◌, List, Option, Some, None, Result, Ok, Err}
+use Rattle.std.specs.Prelude.{◌≡◌, ◌⊎◌, List, Some, None, Result, Ok, Err}
 use Rattle.plan_core.specs.declared.arena.Node.{Node}
 use Rattle.plan_core.specs.declared.error.PolarsError.{PolarsError}
 use Rattle.plan_core.specs.Columns.{Columns}
 use Rattle.plan_ir.specs.declared.expr.AExpr.{AExpr}
 use Rattle.plan_ir.specs.declared.ir.IR.{IR}
-use Rattle.plan_ir.specs.Parts.{IsPlan}
 use Rattle.plan_meaning.specs.TreeFaults.{tree_fault}
 use Rattle.plan_meaning.specs.Typed.{typed}
 use Rattle.plan_tool.specs.declared.stop.Stop.{Stop}

@@ -1,5 +1,5 @@
 -- How deep a plan and its expressions may be.
-use Rattle.std.specs.Prelude.{◌≡◌, ℕ, ◌<◌, ◌≤◌, ◌⊎◌, List}
+use Rattle.std.specs.Prelude.{◌<◌, ◌≤◌, ◌⊎◌, List}
 use Rattle.plan_core.specs.declared.arena.Node.{Node}
 use Rattle.plan_tree.specs.Rose.{levels}
 use Rattle.plan_tree.specs.Stands.{Trees}

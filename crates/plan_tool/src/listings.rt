@@ -10,7 +10,7 @@ use crate::check::check;
 use crate::stop::Stop;
 use plan_core::{Arena, Node, OptFlags};
 use plan_doc::{Document, read_document};
-use plan_ir::{AExpr, IR, renumbered, scan_reads};
+use plan_ir::{AExpr, IR, into_renumbered, scan_reads};
 use plan_prune::ProjectionPushDown;
 use plan_text::write_listing;
 use std::alloc::{AllocError, Global};
@@ -38,14 +38,12 @@ fn optimized(
     Ok(lp)
 }
 
-/// The text that lists a plan, and what its scans read. The given nodes are gone before the text is made.
+/// The text that lists a plan, and what its scans read. The given columns move into the plan that is listed.
 fn list(alloc: Global, root: Node, lp: Arena<IR>, ex: Arena<AExpr>) -> Result<String, AllocError>
     requires { IsPlan lp ex root }
     ensures { IfOk result (λ text. IsListOf lp ex root (string_bytes text)) }
 {
-    let plan = renumbered(alloc, root, &lp, &ex)?;
-    drop(lp);
-    drop(ex);
+    let plan = into_renumbered(alloc, root, lp, ex)?;
     let reads = scan_reads(alloc, &plan)?;
     Ok(write_listing(alloc, &plan, reads.as_slice())?)
 }

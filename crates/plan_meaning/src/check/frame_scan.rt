@@ -21,12 +21,7 @@ fn check_number(node: Node, df: Option<u32>, schema: &Schema) -> PolarsResult<()
 
 /// What is put out are columns of the frame, with their types.
 #[tactic(auto, using(crate::proofs::CheckLemmas::fault_append), unfolding(crate::specs::Typing::frame_checks))]
-fn check_put_out(
-    node: Node,
-    df: Option<u32>,
-    schema: &Schema,
-    output: &Schema,
-) -> PolarsResult<()>
+fn check_put_out(node: Node, df: Option<u32>, schema: &Schema, output: &Schema) -> PolarsResult<()>
     ensures { Says result (first_fault node (frame_checks df schema.now output.now)) }
 {
     check_columns_known(node, output, schema)?;

@@ -1,4 +1,4 @@
-use Rattle.std.proofs.Common.{◌≡◌, rules}
+use Rattle.std.proofs.Common.{rules}
 use Rattle.plan_meaning.proofs.TreeFaultLemmas.{roots_found}
 use Rattle.plan_meaning.proofs.depth.expr_roots.Goals as goal
 

@@ -1,5 +1,5 @@
-use Rattle.std.proofs.Common.{◌≡◌, ◌∙◌, ap, refl, sym, arith, Some}
-use Rattle.plan_ir.specs.declared.expr.AExpr.TheVariants.{Column, Literal, Alias, BinaryExpr}
+use Rattle.std.proofs.Common.{◌≡◌, ◌∙◌, ap, refl, arith, Some}
+use Rattle.plan_ir.specs.declared.expr.AExpr.TheVariants.{BinaryExpr}
 use Rattle.plan_ir.proofs.ExprLemmas.{expr_down}
 use Rattle.plan_ir.specs.Plans.{expr_at}
 use Rattle.plan_meaning.specs.Exprs.{Naming, or_naming, unnamed, naming}

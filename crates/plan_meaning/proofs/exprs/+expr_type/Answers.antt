@@ -1,5 +1,5 @@
-use Rattle.std.proofs.Common.{◌≡◌, ◌∙◌, ap, ap₂, refl, sym, arith, rules, Some}
-use Rattle.plan_ir.specs.declared.expr.AExpr.TheVariants.{Column, Literal, Alias, BinaryExpr}
+use Rattle.std.proofs.Common.{◌≡◌, ◌∙◌, ap, ap₂, refl, arith, rules, Some}
+use Rattle.plan_ir.specs.declared.expr.AExpr.TheVariants.{Alias, BinaryExpr}
 use Rattle.plan_ir.proofs.ExprLemmas.{expr_down}
 use Rattle.plan_meaning.specs.Exprs.{operator_type}
 use Rattle.plan_meaning.proofs.ExprSteps.{type-column, type-literal, type-alias, type-binary}

@@ -1,7 +1,5 @@
-use Rattle.std.proofs.Common.{◌≡◌, ◌∙◌, ◌&&◌, ap, ap₂, refl, sym, arith, rules, Some, Bool, true, false, List}
-use Rattle.std.specs.List.{slice_get}
-use Rattle.plan_ir.specs.declared.expr.AExpr.{AExpr}
-use Rattle.plan_ir.specs.declared.expr.AExpr.TheVariants.{Column, Literal, Alias, BinaryExpr}
+use Rattle.std.proofs.Common.{◌≡◌, ◌∙◌, ◌&&◌, ap, refl, sym, arith, rules, Some, Bool, true, false}
+use Rattle.plan_ir.specs.declared.expr.AExpr.TheVariants.{Alias, BinaryExpr}
 use Rattle.plan_ir.proofs.ExprLemmas.{expr_down}
 use Rattle.plan_ir.specs.Plans.{expr_at}
 use Rattle.plan_meaning.specs.Exprs.{leaves, all_known}

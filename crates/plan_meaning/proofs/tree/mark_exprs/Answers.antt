@@ -1,4 +1,4 @@
-use Rattle.std.proofs.Common.{◌≡◌, ◌∙◌, ◌++◌, ◌∷◌, [], ap, sym, List, take, arith, rules, append_assoc, get_or, ◌+◌}
+use Rattle.std.proofs.Common.{◌≡◌, ◌∙◌, ◌++◌, ◌∷◌, [], ap, sym, List, take, append_assoc}
 use Rattle.plan_core.specs.declared.error.At.{At}
 use Rattle.plan_tree.specs.declared.walking.Step.{Step}
 use Rattle.plan_meaning.specs.TreeFaults.{marked}

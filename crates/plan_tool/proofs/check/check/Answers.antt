@@ -1,4 +1,4 @@
-use Rattle.std.proofs.Common.{◌≡◌, ◌≤◌, sym, arith, rules, Err, Result, subst}
+use Rattle.std.proofs.Common.{◌≡◌, sym, arith, rules, Err, Result, subst}
 use Rattle.plan_core.specs.declared.error.PolarsError.{PolarsError}
 use Rattle.plan_tool.specs.declared.stop.Stop.{Stop}
 use Rattle.plan_tool.specs.Checked.{Checks}

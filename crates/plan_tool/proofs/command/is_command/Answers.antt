@@ -1,4 +1,4 @@
-use Rattle.std.proofs.Common.{◌≡◌, ◌∙◌, ◌∷◌, [], ap, rules, List, ℕ, sym}
+use Rattle.std.proofs.Common.{◌∙◌, rules}
 use Rattle.plan_tool.proofs.AnswerLemmas.{one_word, same_word}
 use Rattle.plan_tool.proofs.command.is_command.Goals as goal
 

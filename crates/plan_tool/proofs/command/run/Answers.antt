@@ -1,7 +1,7 @@
-use Rattle.std.proofs.Common.{◌≡◌, ◌∙◌, rules, map, string_bytes}
+use Rattle.std.proofs.Common.{◌≡◌, rules, map, string_bytes}
 use Rattle.plan_tool.specs.Causes.{IsCommand}
 use Rattle.plan_text.specs.Written.{error_text}
-use Rattle.plan_tool.proofs.AnswerLemmas.{told, listed}
+use Rattle.plan_tool.proofs.AnswerLemmas.{told}
 use Rattle.plan_tool.proofs.command.run.Goals as goal
 
 pub returns-in-Ok-write_fault : goal.returns-in-Ok-write_fault

@@ -1,4 +1,4 @@
-use Rattle.std.proofs.Common.{◌≡◌, ◌∙◌, ap, sym, refl, arith, Some, is_some, true, false, rules}
+use Rattle.std.proofs.Common.{◌≡◌, arith, true, false, rules}
 use Rattle.plan_core.specs.declared.error.PolarsError.TheVariants.{SchemaFieldNotFound}
 use Rattle.plan_meaning.specs.Typing.{is_known}
 use Rattle.plan_meaning.proofs.CheckLemmas.{left-next, left-bad, past}

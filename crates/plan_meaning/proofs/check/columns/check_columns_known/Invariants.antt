@@ -1,6 +1,5 @@
-use Rattle.std.proofs.Common.{◌&&◌}
 use Rattle.plan_core.specs.declared.error.PolarsError.TheVariants.{SchemaFieldNotFound}
-use Rattle.plan_meaning.specs.Typing.{is_known, is_column, has_columns}
+use Rattle.plan_meaning.specs.Typing.{is_known}
 use Rattle.plan_meaning.proofs.CheckLemmas.{Left}
 use Rattle.plan_meaning.proofs.check.columns.check_columns_known.Given as goal
 

@@ -1,4 +1,4 @@
-use Rattle.std.proofs.Common.{◌≡◌, ◌∙◌, ap, sym, refl, arith, Some, true, false, rules}
+use Rattle.std.proofs.Common.{◌≡◌, arith, true, false, rules}
 use Rattle.plan_core.specs.declared.error.PolarsError.TheVariants.{SchemaMismatch}
 use Rattle.plan_meaning.specs.Typing.{is_column}
 use Rattle.plan_meaning.proofs.CheckLemmas.{left-next, left-bad, past}

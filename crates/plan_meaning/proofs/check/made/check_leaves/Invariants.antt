@@ -1,4 +1,3 @@
-use Rattle.std.proofs.Common.{is_some}
 use Rattle.plan_core.specs.declared.error.PolarsError.TheVariants.{SchemaFieldNotFound}
 use Rattle.plan_ir.specs.Plans.{expr_at}
 use Rattle.plan_meaning.specs.Exprs.{leaves, all_known}

@@ -1,4 +1,3 @@
-use Rattle.std.proofs.Common.{is_some}
 use Rattle.plan_core.specs.declared.error.PolarsError.TheVariants.{SchemaMismatch}
 use Rattle.plan_ir.specs.Plans.{expr_at}
 use Rattle.plan_meaning.specs.Exprs.{naming, may_be_named}

@@ -1,6 +1,4 @@
-use Rattle.std.proofs.Common.{◌≡◌, ◌∙◌, ◌+◌, ◌++◌, ◌∷◌, [], ap, sym, map, true, false, not, subst, List, Some, rules, option_map}
-use Rattle.std.specs.List.{slice_get}
-use Rattle.std.proofs.lemmas.Option.{slice_get-map}
+use Rattle.std.proofs.Common.{◌≡◌, ◌∙◌, ◌+◌, ◌++◌, ◌∷◌, [], ap, sym, map, true, false, subst, List, Some, rules}
 use Rattle.plan_core.specs.declared.error.At.{At}
 use Rattle.plan_core.specs.declared.error.PolarsError.TheVariants.{Duplicate}
 use Rattle.plan_core.specs.Names.{has}

@@ -1,4 +1,4 @@
-use Rattle.std.proofs.Common.{◌≡◌, ◌∙◌, ap, sym, is_some, true, false, Some, rules}
+use Rattle.std.proofs.Common.{◌∙◌, ap, sym, is_some, Some, rules}
 use Rattle.plan_core.specs.declared.error.At.{At}
 use Rattle.plan_core.specs.declared.error.PolarsError.TheVariants.{SchemaMismatch}
 use Rattle.plan_ir.specs.Plans.{expr_at}

@@ -1,4 +1,4 @@
-use Rattle.std.proofs.Common.{◌≡◌, ◌∙◌, ap, ap₂, unwrap_or, Option, rules, take}
+use Rattle.std.proofs.Common.{◌≡◌, ◌∙◌, ap, ap₂, unwrap_or, Option}
 use Rattle.plan_core.specs.Columns.{Columns, with_type}
 use Rattle.plan_core.specs.declared.data_type.DataType.{DataType}
 use Rattle.plan_core.specs.declared.data_type.DataType.TheVariants.{Int64}
