@@ -1,5 +1,5 @@
 -- What the program says of bytes, from what it says of their document; and what it leaves in the sink.
-use Rattle.std.proofs.Common.{◌≡◌, ℕ, ◌≤◌, List, [], ◌∷◌, length, map, Bool, true, false, Option, Some, None, Result, Ok, Err, String, string_bytes, refl, sym, ap, ◌∙◌, subst, inl, inr, slice_index_or, arith}
+use Rattle.std.proofs.Common.{◌≡◌, ℕ, ◌≤◌, ◌+◌, List, [], ◌∷◌, length, map, Bool, true, false, Option, Some, None, Result, Ok, Err, String, string_bytes, refl, sym, ap, ◌∙◌, subst, inl, inr, slice_index_or, arith}
 use Rattle.std.specs.Prelude.{IfSome, IsTrue, ◌↔◌}
 use Rattle.std.specs.Str.{bytes_eq}
 use Rattle.std.proofs.lemmas.Slice.Eq.{bytes_eq-Decides}
@@ -17,11 +17,12 @@ use Rattle.plan_core.specs.declared.flags.OptFlags.{OptFlags}
 use Rattle.plan_core.specs.Flags.{bits_of, has_bits}
 use Rattle.plan_ir.specs.Plans.{Plan}
 use Rattle.plan_meaning.specs.Asked.{sites_of}
-use Rattle.plan_meaning.specs.Relating.{Refines}
+use Rattle.plan_meaning.specs.Relating.{all, Refines}
 use Rattle.plan_meaning.specs.Steps.{IsValid}
 use Rattle.plan_meaning.proofs.Refining.{refines_refl}
-use Rattle.plan_meaning.specs.Scans.{scans}
-use Rattle.plan_prune.specs.Reads.{ReadWithin}
+use Rattle.plan_meaning.specs.Scans.{nodes, scans}
+use Rattle.plan_meaning.specs.Work.{made, kept}
+use Rattle.plan_prune.specs.Reads.{ReadWithin, tops}
 use Rattle.plan_tool.specs.Listings.{IsAnswer, pushdown_bit, SaysOf, SaysOfDocument, Lists, Refuses}
 use Rattle.plan_tool.specs.Causes.{Call, Comes, IsCommand, IsReadWhole, Finishes, Listed, Told, Cut}
 
@@ -86,13 +87,17 @@ pub given_answer : (flags : OptFlags) (p : Plan) → IsValid p → has_bits (bit
 given_answer flags p v off = record {
   refines = refines_refl p v;
   reads = λ on. let u : true ≡ false = sym on ∙ off in cc;
+  work = λ on. let u : true ≡ false = sym on ∙ off in cc;
+  nodes = λ on. let u : true ≡ false = sym on ∙ off in cc;
   same = λ _. refl;
 }
 
 -- what pushdown leaves is an answer where it is asked
-pub pruned_answer : (flags : OptFlags) (q p : Plan) → Refines q p → ReadWithin (scans q) (sites_of p) → has_bits (bits_of flags) pushdown_bit ≡ true → IsAnswer flags q p
-pruned_answer flags q p r reads on = record {
+pub pruned_answer : (flags : OptFlags) (q p : Plan) → Refines q p → ReadWithin (scans q) (sites_of p) → made q ≤ kept p → nodes q ≤ nodes p + tops p all → has_bits (bits_of flags) pushdown_bit ≡ true → IsAnswer flags q p
+pruned_answer flags q p r reads work few on = record {
   refines = r;
   reads = λ _. reads;
+  work = λ _. work;
+  nodes = λ _. few;
   same = λ off. let u : true ≡ false = sym on ∙ off in cc;
 }

@@ -1,5 +1,5 @@
 -- What is listed for a document, and what the program says of bytes.
-use Rattle.std.specs.Prelude.{◌≡◌, ℕ, true, false, List, [], ◌∷◌, Result, Ok, Err, String, string_bytes, if◌then◌else◌}
+use Rattle.std.specs.Prelude.{◌≡◌, ◌≤◌, ◌+◌, ℕ, true, false, List, [], ◌∷◌, Result, Ok, Err, String, string_bytes, if◌then◌else◌}
 use Rattle.std.specs.declared.alloc.Global.{Global}
 use Rattle.plan_core.specs.declared.arena.Node.{Node}
 use Rattle.plan_core.specs.declared.error.PolarsError.{PolarsError}
@@ -16,10 +16,11 @@ use Rattle.plan_ir.specs.Plans.{Op, Plan, bare, plans_at}
 use Rattle.plan_ir.specs.Reads.{scan_reads_of}
 use Rattle.plan_meaning.specs.Asked.{sites_of}
 use Rattle.plan_meaning.specs.PlanAt.{plan_at}
-use Rattle.plan_meaning.specs.Relating.{Refines}
+use Rattle.plan_meaning.specs.Relating.{all, Refines}
 use Rattle.plan_prune.specs.Pruned.{pruned_all}
-use Rattle.plan_meaning.specs.Scans.{scans}
-use Rattle.plan_prune.specs.Reads.{ReadWithin}
+use Rattle.plan_meaning.specs.Scans.{nodes, scans}
+use Rattle.plan_meaning.specs.Work.{made, kept}
+use Rattle.plan_prune.specs.Reads.{ReadWithin, tops}
 use Rattle.plan_text.specs.Written.{listing_text}
 use Rattle.plan_tool.specs.declared.stop.Stop.{Stop}
 use Rattle.plan_tool.specs.declared.stop.Stop.TheVariants as stops
@@ -33,10 +34,12 @@ pushdown_bit = 1
 abbrev pub answered : OptFlags → Roses (Unit {0}) Op → Roses (Unit {0}) Op
 answered flags plan = if has_bits (bits_of flags) pushdown_bit then pruned_all true [] plan else plan
 
--- what is promised of the plan that is answered for a plan: it can give a frame over all contents that fit, and gives only frames that the given plan may give; where pushdown is asked, its scans are the given ones, one for one, each reading only columns that are asked of it; else it is the given plan
+-- what is promised of the plan that is answered for a plan: it can give a frame over all contents that fit, and gives only frames that the given plan may give; where pushdown is asked, its scans are the given ones, one for one, each reading only columns that are asked of it, its nodes make at most the columns that are asked of the given ones, and it has few nodes more; else it is the given plan
 pub record IsAnswer (flags : OptFlags) (answer given : Plan) : Type 0 where
   pub refines : Refines answer given
   pub reads : has_bits (bits_of flags) pushdown_bit ≡ true → ReadWithin (scans answer) (sites_of given)
+  pub work : has_bits (bits_of flags) pushdown_bit ≡ true → made answer ≤ kept given
+  pub nodes : has_bits (bits_of flags) pushdown_bit ≡ true → nodes answer ≤ nodes given + tops given all
   pub same : has_bits (bits_of flags) pushdown_bit ≡ false → answer ≡ given
 
 -- the text lists the plan at a number, numbered from 0, and what its scans read
