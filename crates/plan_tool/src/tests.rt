@@ -1,6 +1,11 @@
 //! The command on documents, each with its status and all that it writes.
 ghost use Rattle.std.specs.Prelude.{None, Some};
 
+mod faults;
+mod first_faults;
+mod made_faults;
+mod plans;
+
 use crate::{LIMIT, run};
 use plan_stream::{Failed, MemorySink, MemorySource, Sink, Source};
 use std::alloc::Global;
