@@ -388,6 +388,7 @@ fn operators_refuse_operands_of_other_types(rt: HostRuntime) -> Result<(), Fail>
     for (operator, left, right) in [
         ("Eq", "<a>", "<c>"),
         ("NotEq", "<d>", "<a>"),
+        ("NotEq", "<null Boolean>", "<1>"),
         ("Lt", "<c>", "<1>"),
         ("LtEq", "<x>", "<d>"),
         ("Gt", "<a>", "<null Boolean>"),

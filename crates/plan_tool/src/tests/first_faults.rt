@@ -1,5 +1,6 @@
 //! Plans with more than one fault: the first one is told.
-use crate::tests::plans::refused;
+use crate::tests::plans::{refused, too_deep};
+use std::alloc::Global;
 use std::test::Fail;
 
 #[test]
@@ -109,6 +110,71 @@ fn faults_of_numbers_come_before_all_others(rt: HostRuntime) -> Result<(), Fail>
             ),
         ],
     )
+}
+
+// So many slices, each on the next, and the last on another node.
+fn slices(alloc: Global, count: u32, last: &str) -> Result<String, Fail> {
+    let mut nodes = String::new(alloc);
+    for i in 0..count {
+        let input = i.saturating_add(1);
+        let slice = format!(in alloc; r#"{{"op":"Slice","input":{input},"offset":0,"len":1}},"#)?;
+        nodes.push_str(slice.as_str())?;
+    }
+    nodes.push_str(last)?;
+    Ok(nodes)
+}
+
+// So many aliases, each of the next, and the last of another expression.
+fn aliases(alloc: Global, count: u32, last: &str) -> Result<String, Fail> {
+    let mut exprs = String::new(alloc);
+    for i in 0..count {
+        let input = i.saturating_add(1);
+        let alias = format!(in alloc; r#"{{"op":"Alias","input":{input},"name":"e"}},"#)?;
+        exprs.push_str(alias.as_str())?;
+    }
+    exprs.push_str(last)?;
+    Ok(exprs)
+}
+
+#[test]
+fn depths_come_after_numbers_and_before_other_faults(rt: HostRuntime) -> Result<(), Fail> {
+    let alloc = rt.alloc();
+    let bad = r#"{"op":"DataFrameScan","frame":null,"schema":<abcd>,"output":null}"#;
+    let nodes = slices(alloc, 255, bad)?;
+    refused(
+        &rt,
+        alloc,
+        &[(nodes.as_str(), "", "SchemaMismatch", 255, 0)],
+    )?;
+    too_deep(&rt, alloc, slices(alloc, 256, bad)?.as_str(), "")?;
+    let nodes = slices(alloc, 256, r#"{"op":"Invalid"}"#)?;
+    refused(&rt, alloc, &[(nodes.as_str(), "", "ComputeError", 256, 0)])?;
+
+    let filter = r#"{"op":"Filter","input":1,"predicate":[0,"alias","e"]},<f>"#;
+    let exprs = aliases(alloc, 127, "<z>")?;
+    refused(
+        &rt,
+        alloc,
+        &[(filter, exprs.as_str(), "SchemaFieldNotFound", 0, 1)],
+    )?;
+    too_deep(&rt, alloc, filter, aliases(alloc, 128, "<z>")?.as_str())?;
+    let exprs = aliases(alloc, 128, r#"{"op":"Alias","input":5,"name":"e"}"#)?;
+    refused(
+        &rt,
+        alloc,
+        &[(filter, exprs.as_str(), "ComputeError", 0, 1)],
+    )?;
+
+    // A scan's predicate has a depth too.
+    let scan =
+        r#"{<Scan>,"schema":<abcd>,"reader":<abcd>,"output":null,"columns":null,"slice":null,"predicate":[0,"alias","e"]}"#;
+    let exprs = aliases(alloc, 127, "<d>")?;
+    refused(
+        &rt,
+        alloc,
+        &[(scan, exprs.as_str(), "InvalidOperation", 0, 0)],
+    )?;
+    too_deep(&rt, alloc, scan, aliases(alloc, 128, "<d>")?.as_str())
 }
 
 #[test]

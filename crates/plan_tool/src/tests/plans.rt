@@ -105,6 +105,12 @@ pub fn refused(rt: &impl Abort, alloc: Global, plans: &[Refused<'_>]) -> Result<
     Ok(())
 }
 
+/// The plan, or one of its expressions, has more levels than it may have.
+pub fn too_deep(rt: &impl Abort, alloc: Global, nodes: &str, exprs: &str) -> Result<(), Fail> {
+    let text = document(alloc, 0, nodes, exprs, 1)?;
+    case(rt, alloc, &["optimize"], text.as_str(), 7, "")
+}
+
 // The plan with these flags is listed as the other.
 fn listed(
     rt: &impl Abort,
