@@ -5,6 +5,7 @@ mod faults;
 mod first_faults;
 mod made_faults;
 mod plans;
+mod pruned;
 
 use crate::{LIMIT, run};
 use plan_stream::{Failed, MemorySink, MemorySource, Sink, Source};

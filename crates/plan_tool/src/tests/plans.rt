@@ -11,7 +11,7 @@ pub type Refused<'a> = (&'a str, &'a str, &'a str, u32, u32);
 pub type Kept<'a> = (&'a str, &'a str, &'a str);
 
 /// The columns that a scan reads where it reads all.
-const ALL: &str = r#"["a","b","c","d"]"#;
+pub const ALL: &str = r#"["a","b","c","d"]"#;
 
 /// Short words, each with the text that it stands for. A later word may stand in an earlier one's text.
 const WORDS: &[(&str, &str)] = &[
@@ -111,8 +111,8 @@ pub fn too_deep(rt: &impl Abort, alloc: Global, nodes: &str, exprs: &str) -> Res
     case(rt, alloc, &["optimize"], text.as_str(), 7, "")
 }
 
-// The plan with these flags is listed as the other.
-fn listed(
+/// The plan with these flags is listed as the other.
+pub fn listed(
     rt: &impl Abort,
     alloc: Global,
     given: Kept<'_>,
