@@ -26,10 +26,10 @@ n i = whole (pos i)
 abbrev columns_abc : Columns
 columns_abc = (codes "a", types.Int64) ∷ (codes "b", types.Int64) ∷ (codes "c", types.String) ∷ []
 
-abbrev columns_ab : Columns
+abbrev pub columns_ab : Columns
 columns_ab = (codes "a", types.Int64) ∷ (codes "b", types.Int64) ∷ []
 
-abbrev columns_a : Columns
+abbrev pub columns_a : Columns
 columns_a = (codes "a", types.Int64) ∷ []
 
 abbrev table_t : Frame
@@ -47,7 +47,7 @@ contents = (path (codes "t"), table_t) ∷ []
 abbrev info : FileInfo
 info = record { schema = columns_abc; reader_schema = Some columns_abc }
 
-abbrev leaf : ExprOp → Expr
+abbrev pub leaf : ExprOp → Expr
 leaf op = rose tt op no_roses
 
 abbrev over_one : Expr
@@ -56,10 +56,10 @@ over_one = rose tt (binary Gt) (more (leaf (column (codes "b"))) (more (leaf (li
 abbrev predicate : Named
 predicate = record { name = ColumnLhs (codes "b"); expr = over_one }
 
-abbrev node : Op → Plan → Plan
+abbrev pub node : Op → Plan → Plan
 node op p = rose tt op (more p no_roses)
 
-abbrev scanned : Option Columns → FileScanOptions → Op
+abbrev pub scanned : Option Columns → FileScanOptions → Op
 scanned output options = scan (Paths (codes "t" ∷ [])) info None output Parquet options
 
 abbrev plan : FileScanOptions → Plan

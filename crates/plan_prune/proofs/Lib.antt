@@ -17,3 +17,4 @@ pub mod PrunedReads
 pub mod PrunedWork
 pub mod PlanPruned
 mod Example
+mod KeptExample

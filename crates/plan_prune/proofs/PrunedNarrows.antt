@@ -12,7 +12,7 @@ use Rattle.plan_ir.specs.Plans.{Op, slice, filter, scan, frame_scan, simple_proj
 use Rattle.plan_meaning.specs.Typing.{columns_or, file_columns, first_schema, out_names, made_schema, schema_by, schema, schemas, checks, AllHold, AllValid}
 use Rattle.plan_meaning.specs.Steps.{made, IsValid}
 use Rattle.plan_meaning.specs.Relating.{Refines, Asked, all, names, NarrowColumns, AgreeOn, Narrows}
-use Rattle.plan_meaning.specs.Asked.{set_of, with_more, kept_exprs, selected_exprs, all_leaves, asks_added, Fair, IsFair}
+use Rattle.plan_meaning.specs.Asked.{set_of, kept_exprs, selected_exprs, all_leaves, asks_added, Fair, IsFair}
 use Rattle.plan_meaning.specs.Asked as asked
 use Rattle.plan_meaning.proofs.Refining.{relates_refines}
 use Rattle.plan_meaning.proofs.Related.{SchemasRelated, AllRelate, relates_node, relates_top, relates_drop}
@@ -47,17 +47,22 @@ none_here : (o op : Op) (b : Asked) (rs : List Columns) → NarrowSchemas [] rs 
 none_here o op b [] h l = l
 none_here o op b (r ∷ rs) h l = absurd h
 
+-- one node over one input
+
+one_narrows : (o op : Op) (a b : Asked) (rs : Roses (Unit {0}) Op) (t : Plan) (s : Columns) → schemas (more t no_roses) ≡ s ∷ [] → IsValid (rose tt op (more t no_roses)) → AllNarrow (a ∷ []) rs (more t no_roses) → ((r : Columns) → NarrowColumns a r s → Local o op (a ∷ []) b (r ∷ []) (s ∷ [])) → Narrows (rose tt o rs) (rose tt op (more t no_roses)) b
+one_narrows o op a b rs t s is v h by =
+    relates_node Asked NarrowColumns AgreeOn o op (a ∷ []) b rs (more t no_roses) v h (λ k.
+    subst (λ (ss : List Columns). Local o op (a ∷ []) b (schemas rs) ss) (sym is) (one_here o op a b s (schemas rs) (subst (λ (ss : List Columns). NarrowSchemas (a ∷ []) (schemas rs) ss) is k) by))
+
 -- filters
 
 filter_narrows : (p : Named) (l : List Name) (rs : Roses (Unit {0}) Op) (t : Plan) (s : Columns) → schemas (more t no_roses) ≡ s ∷ [] → IsValid (rose tt (filter p) (more t no_roses)) → AllNarrow (set_of (asks l (filter p) []) ∷ []) rs (more t no_roses) → Narrows (rose tt (filter p) rs) (rose tt (filter p) (more t no_roses)) (set_of l)
 filter_narrows p l rs t s is v h =
     let a = set_of (asks l (filter p) []) in
     let good : AllHold (checks (filter p) (s ∷ [])) = subst (λ (ss : List Columns). AllHold (checks (filter p) ss)) is v.0 in
-    relates_node Asked NarrowColumns AgreeOn (filter p) (filter p) (a ∷ []) (set_of l) rs (more t no_roses) v h (λ k.
-    subst (λ (ss : List Columns). Local (filter p) (filter p) (a ∷ []) (set_of l) (schemas rs) ss) (sym is)
-    (one_here (filter p) (filter p) a (set_of l) s (schemas rs) (subst (λ (ss : List Columns). NarrowSchemas (a ∷ []) (schemas rs) ss) is k) (λ r q.
+    one_narrows (filter p) (filter p) a (set_of l) rs t s is v h (λ r q.
     subst (λ (x : Asked). Local (filter p) (filter p) (x ∷ []) (set_of l) (r ∷ []) (s ∷ [])) (filter_asks p l [])
-    (local_filter p (set_of l) r s good (subst (λ (x : Asked). NarrowColumns x r s) (sym (filter_asks p l [])) q)))))
+    (local_filter p (set_of l) r s good (subst (λ (x : Asked). NarrowColumns x r s) (sym (filter_asks p l [])) q)))
 
 -- projections
 
@@ -76,9 +81,7 @@ projection_narrows cs l rs t s is v fair h =
     let op = simple_projection cs in
     let a = set_of (asks l op []) in
     let good : AllHold (checks op (s ∷ [])) = subst (λ (ss : List Columns). AllHold (checks op ss)) is v.0 in
-    relates_node Asked NarrowColumns AgreeOn o op (a ∷ []) (set_of l) rs (more t no_roses) v h (λ k.
-    subst (λ (ss : List Columns). Local o op (a ∷ []) (set_of l) (schemas rs) ss) (sym is)
-    (one_here o op a (set_of l) s (schemas rs) (subst (λ (ss : List Columns). NarrowSchemas (a ∷ []) (schemas rs) ss) is k) (λ r q. local_kept cs l r s good fair q)))
+    one_narrows o op a (set_of l) rs t s is v h (λ r q. local_kept cs l r s good fair q)
 
 -- scans
 
@@ -111,17 +114,7 @@ scan_narrows top (a ∷ l) sources info predicate output kind options rs v fair 
 
 slice_narrows : (offset : ℤ) (len : ℕ) (l : List Name) (rs : Roses (Unit {0}) Op) (t : Plan) (s : Columns) → schemas (more t no_roses) ≡ s ∷ [] → IsValid (rose tt (slice offset len) (more t no_roses)) → AllNarrow (set_of l ∷ []) rs (more t no_roses) → Narrows (rose tt (slice offset len) rs) (rose tt (slice offset len) (more t no_roses)) (set_of l)
 slice_narrows offset len l rs t s is v h =
-    let o = slice offset len in
-    relates_node Asked NarrowColumns AgreeOn o o (set_of l ∷ []) (set_of l) rs (more t no_roses) v h (λ k.
-    subst (λ (ss : List Columns). Local o o (set_of l ∷ []) (set_of l) (schemas rs) ss) (sym is)
-    (one_here o o (set_of l) (set_of l) s (schemas rs) (subst (λ (ss : List Columns). NarrowSchemas (set_of l ∷ []) (schemas rs) ss) is k) (λ r q. local_slice offset len (set_of l) r s q)))
-
--- one node over one input
-
-one_narrows : (o op : Op) (a b : Asked) (rs : Roses (Unit {0}) Op) (t : Plan) (s : Columns) → schemas (more t no_roses) ≡ s ∷ [] → IsValid (rose tt op (more t no_roses)) → AllNarrow (a ∷ []) rs (more t no_roses) → ((r : Columns) → NarrowColumns a r s → Local o op (a ∷ []) b (r ∷ []) (s ∷ [])) → Narrows (rose tt o rs) (rose tt op (more t no_roses)) b
-one_narrows o op a b rs t s is v h by =
-    relates_node Asked NarrowColumns AgreeOn o op (a ∷ []) b rs (more t no_roses) v h (λ k.
-    subst (λ (ss : List Columns). Local o op (a ∷ []) b (schemas rs) ss) (sym is) (one_here o op a b s (schemas rs) (subst (λ (ss : List Columns). NarrowSchemas (a ∷ []) (schemas rs) ss) is k) by))
+    one_narrows (slice offset len) (slice offset len) (set_of l) (set_of l) rs t s is v h (λ r q. local_slice offset len (set_of l) r s q)
 
 -- selections
 

@@ -99,9 +99,9 @@ module _ (es : List Named) (schema : Columns) (options : ProjectionOptions) (s :
     within = λ b e.
         some-made s s es b
         ∙ ⊎_elim
-            (λ q. or_left (is_some (type_of s b)) (has (out_names es) b) (set_within w r s h b q))
-            (λ q. or_right (is_some (type_of s b)) (has (out_names es) b) (kept_named (names wanted) es b q).0)
-            (or_cases (is_some (type_of r b)) (has (out_names ks) b) (sym (some-made r r ks b) ∙ e));
+        (λ q. or_left (is_some (type_of s b)) (has (out_names es) b) (set_within w r s h b q))
+        (λ q. or_right (is_some (type_of s b)) (has (out_names es) b) (kept_named (names wanted) es b q).0)
+        (or_cases (is_some (type_of r b)) (has (out_names ks) b) (sym (some-made r r ks b) ∙ e));
   }
 
   agrees : (f g : Frame) → HasSchema f r → HasSchema g s → Agree (with_names (only_where (has (names_of s)) wanted) (all_leaves (kept_exprs (names wanted) es))) f g → Agree wanted (made f.height f.columns (kept_exprs (names wanted) es) f) (made g.height g.columns es g)
