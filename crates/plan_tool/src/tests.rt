@@ -1,6 +1,11 @@
 //! The command on documents, each with its status and all that it writes.
 ghost use Rattle.std.specs.Prelude.{None, Some};
 
+mod faults;
+mod first_faults;
+mod made_faults;
+mod plans;
+
 use crate::{LIMIT, run};
 use plan_stream::{Failed, MemorySink, MemorySource, Sink, Source};
 use std::alloc::Global;
@@ -228,7 +233,7 @@ fn other_documents_give_a_status_alone(rt: HostRuntime) -> Result<(), Fail> {
         (r#""tables":null}"#, r#""tables":null"#, 3),
         (
             r#""predicate":null}]"#,
-            r#""predicate":null},{"op":"Slice","input":0,"offset":0,"len":1}]"#,
+            r#""predicate":null},{"op":"slice","input":0,"offset":0,"len":1}]"#,
             4,
         ),
         (r#""value":1"#, r#""value":1.5"#, 4),
