@@ -1,7 +1,6 @@
 -- How many columns the nodes of a plan make, and how many they would where each made only what is asked of it.
 use Rattle.std.specs.Prelude.{ℕ, ◌+◌, Bool, true, false, not, List, [], ◌∷◌, length}
 use Rattle.std.specs.List.{filter as only_where}
-use Rattle.plan_core.specs.Columns.{Columns}
 use Rattle.plan_tree.specs.Rose.{Roses, rose, no_roses, more}
 use Rattle.plan_ir.specs.Plans.{ExprOp, column, literal, alias, binary, Expr, Op, slice, filter, scan, frame_scan, simple_projection, select, hstack, invalid, Named, Plan}
 use Rattle.plan_meaning.specs.Typing.{schemas}

@@ -132,7 +132,7 @@ select_narrows es stored options (b ∷ l) rs t s is v fair h =
     let ks = selected_exprs (names (b ∷ l)) es in
     let a = set_of (with_names [] (all_leaves ks)) in
     let good : AllHold (checks op (s ∷ [])) = subst (λ (ss : List Columns). AllHold (checks op ss)) is v.0 in
-    one_narrows (select ks (typed_names stored (out_names ks)) options) op a (names (b ∷ l)) rs t s is v h (λ r q.
+    one_narrows (select ks (with_types [] (typed_names stored (out_names ks))) options) op a (names (b ∷ l)) rs t s is v h (λ r q.
     local_selected es stored options s good (b ∷ l) fair r (leaf_types ks r s q) a (λ f g k. leaf_frames ks f g k))
 
 -- additions

@@ -49,10 +49,8 @@ module _ (es : List Named) (schema : Columns) (options : ProjectionOptions) (s :
         let first = has_some wanted fair.some in
         some_exprs ks first.0 (named_selected (names wanted) es first.0 first.1 (made_name first.0 first.1))
 
-    stored-left : typed_names schema (out_names (selected_exprs (names wanted) es)) ≡ made_schema [] (selected_exprs (names wanted) es) r
-    stored-left =
-        left_stored [] es schema s parts ks sub r same
-        ∙ sym (types_new 1 [] (map (made_column r) ks) (subst (λ (x : List Name). AllHold (each_new 1 [] x)) (sym (names-made r ks)) (new_from 1 [] (out_names ks) (λ a i. refl) once)))
+    stored-left : with_types [] (typed_names schema (out_names (selected_exprs (names wanted) es))) ≡ made_schema [] (selected_exprs (names wanted) es) r
+    stored-left = ap (with_types []) (left_stored [] es schema s parts ks sub r same)
 
     type-now : (b : Name) → has wanted b ≡ true → type_of (made_schema [] (selected_exprs (names wanted) es) r) b ≡ type_of (made_schema [] es s) b
     type-now b i = ap (λ (cs : Columns). type_of (with_types [] cs) b) (same_made ks r s same) ∙ types_selected s (names wanted) [] es b i
@@ -76,9 +74,9 @@ module _ (es : List Named) (schema : Columns) (options : ProjectionOptions) (s :
         }
 
     -- a selection that keeps what is asked, over an input that narrows at what it reads
-    pub local_selected : (x : Asked) → ((f g : Frame) → AgreeOn x f g → Agree (all_leaves (selected_exprs (names wanted) es)) f g) → Local (select (selected_exprs (names wanted) es) (typed_names schema (out_names (selected_exprs (names wanted) es))) options) (select es schema options) (x ∷ []) (names wanted) (r ∷ []) (s ∷ [])
+    pub local_selected : (x : Asked) → ((f g : Frame) → AgreeOn x f g → Agree (all_leaves (selected_exprs (names wanted) es)) f g) → Local (select (selected_exprs (names wanted) es) (with_types [] (typed_names schema (out_names (selected_exprs (names wanted) es)))) options) (select es schema options) (x ∷ []) (names wanted) (r ∷ []) (s ∷ [])
     local_selected x weak =
-        let stored = typed_names schema (out_names ks) in
+        let stored = with_types [] (typed_names schema (out_names ks)) in
         record {
           good = (ap not some_left, good_made [] ks stored r (left_made [] es schema s parts ks sub r same [] stored once stored-left));
           schema = holds;
