@@ -4,6 +4,10 @@ pub mod ListSteps
 pub mod PruneLemmas
 pub mod NarrowLemmas
 mod AddedNames
+pub mod PlaceLemmas
+pub mod KeptLemmas
+mod ExprWalks
+mod StoredLemmas
 pub mod AskedNames
 pub mod ProjectionNarrows
 pub mod ScanNarrows

@@ -73,7 +73,7 @@ abbrev pub pruned_select : List Name → List Named → Columns → ProjectionOp
 pruned_select [] es schema options inputs = rose tt (select es schema options) inputs
 pruned_select (a ∷ asked) es schema options inputs =
     let ks = selected_exprs (these (a ∷ asked)) es in
-    rose tt (select ks (typed_names schema (out_names ks)) options) inputs
+    rose tt (select ks (with_types [] (typed_names schema (out_names ks))) options) inputs
 
 -- an addition of these expressions; without any its input takes its place
 abbrev pub stacked : List Named → Columns → ProjectionOptions → Roses (Unit {0}) Op → Plan
