@@ -1,6 +1,6 @@
 -- What selections and additions keep of their expressions, with numbers and without.
 use Rattle.std.proofs.Common.{◌≡◌, ◌&&◌, arith, length, get_or, option_map, Some, subst, Bool, true, false, cond, All, List, [], ◌∷◌, ◌++◌, map, refl, sym, ap, ap₂, ◌∙◌, append-nil}
-use Rattle.std.specs.List.{slice_get}
+use Rattle.std.specs.List.{slice_get, slice_set}
 use Rattle.std.proofs.lemmas.List.Elements.{All-filter}
 use Rattle.std.proofs.lemmas.Option.{slice_get-get_or, slice_get-map}
 use Rattle.plan_tree.proofs.TreeLemmas.{nth, StandsOnce-nth}
@@ -12,6 +12,8 @@ use Rattle.plan_core.specs.declared.arena.Node.{Node}
 use Rattle.plan_core.specs.Names.{has}
 use Rattle.plan_ir.specs.declared.expr.AExpr.{AExpr}
 use Rattle.plan_ir.specs.declared.expr.ExprIR.{ExprIR}
+use Rattle.plan_ir.specs.declared.ir.IR.{IR}
+use Rattle.plan_ir.specs.declared.ir.IR.TheVariants.{HStack}
 use Rattle.plan_ir.specs.Plans.{Op, select, hstack, Named, expr_at, named_at, all_named_at}
 use Rattle.plan_meaning.specs.Exprs.{Name, name_of, is_scalar}
 use Rattle.plan_meaning.specs.Steps.{all_scalar}
@@ -22,7 +24,7 @@ use Rattle.plan_meaning.specs.PlanAt.{one_plan}
 use Rattle.plan_meaning.specs.Typing.{first_schema, out_names}
 use Rattle.plan_prune.specs.Stored.{stored_all}
 use Rattle.plan_prune.specs.Pruned.{added_names, stacked_names, pruned_select, stacked, pruned_hstack}
-use Rattle.plan_prune.specs.Kept.{asked_exprs, many_at, selected_at, stacked_at, is_some_name, names_at, with_typed, stored_after, asks_after}
+use Rattle.plan_prune.specs.Kept.{asked_exprs, many_at, selected_at, stacked_at, is_some_name, names_at, with_typed, stored_after, asks_after, with_stacked}
 use Rattle.plan_prune.proofs.PlaceLemmas.{place_same, place_behind, place_trans, place_before, place_without, place_swapped}
 
 -- the numbers of expressions
@@ -105,11 +107,14 @@ module _ (ex : List AExpr) where
       drop : TakePlace ex (numbers_of es) (e.node ∷ numbers_of es)
       drop = place_before ex (numbers_of es) [] (e.node ∷ []) (place_without ex (e.node ∷ []))
 
+      none : false ≡ true → ⊥
+      none x = cc
+
       go : (b s : Bool) → is_scalar (expr_at ex e.node) ≡ s → all_scalar (all_named_at ex (cond b (e ∷ ks) ks)) ≡ true → (all_scalar (all_named_at ex ks) ≡ true → TakePlace ex (numbers_of (ks ++ many_at ex es)) (numbers_of es)) → TakePlace ex (numbers_of (cond b (e ∷ ks) ks ++ cond s (many_at ex es) (e ∷ []))) (numbers_of (e ∷ es))
       go true true is k f =
           let rest : all_scalar (all_named_at ex ks) ≡ true = (let q : (is_scalar (expr_at ex e.node) && all_scalar (all_named_at ex ks)) ≡ true = k in cc) in
           place_behind ex (e.node ∷ []) (numbers_of (ks ++ many_at ex es)) (numbers_of es) (f rest)
-      go true false is k f = cc
+      go true false is k f = absurd (none (subst (λ (b : Bool). (b && all_scalar (all_named_at ex ks)) ≡ true) is k))
       go false true is k f = place_trans ex (numbers_of (ks ++ many_at ex es)) (numbers_of es) (e.node ∷ numbers_of es) (f k) drop
       go false false is k f = λ before after x.
           let y = place_behind ex (e.node ∷ []) (numbers_of ks) (numbers_of es) (asked_place asked es) before after x in
@@ -188,3 +193,9 @@ module _ (ex : List AExpr) where
 
   pub stacked_stand : (asked : List Name) (es ks : List ExprIR) → ks ≡ stacked_at asked es → StandExprs ex (numbers_of es) → All (λ (e : ExprIR). IsExpr ex e.node) ks
   stacked_stand asked es ks is h = each_stands ks (rw is (placed (numbers_of (stacked_at asked es)) (numbers_of es) (stacked_place asked es) h))
+
+-- an addition is put with its columns
+pub stacked_put : (b : Bool) (lp : List IR) (n i : Node) (es : List ExprIR) (schema cs s : Columns) (options : ProjectionOptions) → b ≡ true → (length es ≡ 0 → ⊥) → cs ≡ with_typed s (names_at es) schema → slice_set lp n.0 (HStack i es cs options) ≡ with_stacked b lp n i es schema options s
+stacked_put false lp n i es schema cs s options yes some is = cc
+stacked_put true lp n i [] schema cs s options yes some is = absurd (some refl)
+stacked_put true lp n i (e ∷ es) schema cs s options yes some is = ap (λ (t : Columns). slice_set lp n.0 (HStack i (e ∷ es) t options)) is

@@ -1,5 +1,4 @@
 -- The lemmas of this crate.
-pub mod GrowLemmas
 pub mod ListSteps
 pub mod PruneLemmas
 pub mod NarrowLemmas

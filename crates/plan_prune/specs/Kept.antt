@@ -1,9 +1,13 @@
 -- What selections and additions keep and store, said of expressions with their numbers.
-use Rattle.std.specs.Prelude.{Bool, true, false, List, [], ◌∷◌, ◌++◌, map, if◌then◌else◌, filter as filter_list}
+use Rattle.std.specs.Prelude.{Bool, true, false, List, [], ◌∷◌, ◌++◌, map, if◌then◌else◌, filter as filter_list, slice_get, slice_set, unwrap_or}
+use Rattle.plan_core.specs.declared.arena.Node.{Node}
+use Rattle.plan_core.specs.declared.options.ProjectionOptions.{ProjectionOptions}
 use Rattle.plan_core.specs.Columns.{Columns, with_types}
 use Rattle.plan_core.specs.Names.{has}
 use Rattle.plan_ir.specs.declared.expr.AExpr.{AExpr}
 use Rattle.plan_ir.specs.declared.expr.ExprIR.{ExprIR}
+use Rattle.plan_ir.specs.declared.ir.IR.{IR}
+use Rattle.plan_ir.specs.declared.ir.IR.TheVariants.{HStack, Invalid}
 use Rattle.plan_ir.specs.Plans.{Named, expr_at, all_named_at}
 use Rattle.plan_meaning.specs.Exprs.{Name, name_of, is_scalar}
 use Rattle.plan_meaning.specs.Steps.{all_scalar}
@@ -54,3 +58,13 @@ stored_after false base names schema = schema
 abbrev pub asks_after : List Name → List Named → Columns → List Name
 asks_after [] es s = []
 asks_after (a ∷ asked) es s = added_names (a ∷ asked) es s
+
+-- the arena with what stands at the second number at the first
+abbrev pub moved : List IR → Node → Node → List IR
+moved lp n i = slice_set (slice_set lp i.0 Invalid) n.0 (unwrap_or (slice_get lp i.0) Invalid)
+
+-- the arena with an addition at the first number, over the second, where these are the columns; asked something and without expressions, with what stands at the second
+abbrev pub with_stacked : Bool → List IR → Node → Node → List ExprIR → Columns → ProjectionOptions → Columns → List IR
+with_stacked false lp n i es schema options s = slice_set lp n.0 (HStack i es schema options)
+with_stacked true lp n i [] schema options s = moved lp n i
+with_stacked true lp n i (e ∷ es) schema options s = slice_set lp n.0 (HStack i (e ∷ es) (with_typed s (names_at (e ∷ es)) schema) options)

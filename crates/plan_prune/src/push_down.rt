@@ -155,28 +155,7 @@ impl ProjectionPushDown {
                 let exprs = hstack::keep(alloc, exprs, &asked)?;
                 let asked = hstack::asks(alloc, asked, exprs.as_slice(), stored(input, lp), ex)?;
                 self.push_down(alloc, input, asked, lp, ex)?;
-                if is_asked {
-                    if exprs.len() == 0 {
-                        hstack::take_place(node, input, lp);
-                        return Ok(());
-                    }
-                }
-                let schema = hstack::columns(
-                    alloc,
-                    is_asked,
-                    schema,
-                    exprs.as_slice(),
-                    stored(input, lp),
-                )?;
-                lp.put(
-                    node,
-                    IR::HStack {
-                        input,
-                        exprs,
-                        schema,
-                        options,
-                    },
-                );
+                hstack::put(alloc, node, input, is_asked, exprs, schema, options, lp)?;
                 Ok(())
             }
             IR::Invalid => Ok(()),

@@ -2,17 +2,21 @@
 //! It stores the columns of its pruned input, and those of the kept expressions beside them.
 //! It asks its input the asked names that this has, and then the names that the kept expressions read; keeping none it asks
 //! what it is asked. Asked nothing, it stays as it is and asks nothing.
-ghost use Rattle.std.specs.Prelude.{◌≡◌, ◌<◌, All, IfOk, Some, filter as filter_list, length, slice_get, slice_set};
+ghost use Rattle.std.specs.Prelude.{◌≡◌, ◌<◌, ◌≤◌, All, List, [], ◌∷◌, IfOk, OnOk, filter as filter_list, length};
 ghost use Rattle.plan_core.specs.Columns.{names_of};
 ghost use Rattle.plan_core.specs.Names.{has};
-ghost use Rattle.plan_ir.specs.Parts.{IsExpr};
-ghost use Rattle.plan_ir.specs.Plans.{all_named_at};
+ghost use Rattle.plan_tree.specs.Stands.{Trees, StandsOnce};
+ghost use Rattle.plan_ir.specs.declared.expr.AExpr.{AExpr};
 ghost use Rattle.plan_ir.specs.declared.ir.IR.{IR};
-ghost use Rattle.plan_ir.specs.declared.ir.IR.TheVariants.{Invalid};
-ghost use Rattle.plan_prune.specs.Kept.{asks_after, names_at, stacked_at, stored_after};
+ghost use Rattle.plan_ir.specs.Parts.{plan_shape, IsExpr};
+ghost use Rattle.plan_ir.specs.Plans.{all_named_at, bare, plans_at};
+ghost use Rattle.plan_meaning.specs.Typing.{first_schema};
+ghost use Rattle.plan_prune.specs.Kept.{asks_after, stacked_at, with_stacked};
+ghost use Rattle.plan_prune.specs.Stored.{stored_all};
 
 use crate::push_down::exprs::{add_all_names, asked_exprs, with_typed};
-use plan_core::{Arena, Items, Names, Node, Schema, TryClone};
+use crate::push_down::stored::stored;
+use plan_core::{Arena, Items, Names, Node, ProjectionOptions, Schema, TryClone};
 use plan_ir::{AExpr, ExprIR, IR};
 use std::alloc::{AllocError, Global};
 
@@ -67,28 +71,35 @@ pub fn asks(
     Ok(names)
 }
 
-/// The columns that an addition stores that keeps these expressions, over an input of these columns.
-pub fn columns(
+/// Puts an addition of these expressions at `node`, over the pruned input; where names are asked, over its columns, and
+/// without expressions what stands at its number. Refuses for want of memory alone, and then nothing is known of what
+/// stands at `node`.
+pub fn put(
     alloc: Global,
+    node: Node,
+    input: Node,
     is_asked: bool,
+    exprs: Items<ExprIR>,
     schema: Schema,
-    exprs: &[ExprIR],
-    input: &Schema,
-) -> Result<Schema, AllocError>
-    ensures { IfOk result (λ columns. columns ≡ stored_after is_asked input.now (names_at exprs.now) schema) }
+    options: ProjectionOptions,
+    lp: &mut Arena<IR>,
+) -> Result<(), AllocError>
+    requires node { node.0 < length lp.old }
+    requires input { (t : Trees IR) × StandsOnce plan_shape lp.old (input ∷ []) t }
+    ensures placed { OnOk result ((ex : List AExpr) → lp.new ≡ with_stacked is_asked lp.old node input exprs schema options (first_schema (stored_all (bare (plans_at lp.old ex (input ∷ []))))))}
+    ensures grows { length lp.old ≤ length lp.new }
 {
     if !is_asked {
-        return Ok(schema);
+        lp.put(node, IR::HStack { input, exprs, schema, options });
+        return Ok(());
     }
-    Ok(with_typed(alloc, input.try_clone(alloc)?, exprs, &schema)?)
-}
-
-/// Puts what stands at the input's number at the node's.
-pub fn take_place(node: Node, input: Node, lp: &mut Arena<IR>)
-    requires input { input.0 < length lp.old }
-    requires node { node.0 < length lp.old }
-    ensures { (p : IR) × (slice_get lp.old input.0 ≡ Some p) × (lp.new ≡ slice_set (slice_set lp.old input.0 Invalid) node.0 p) }
-{
-    let entry = lp.take(input);
-    lp.put(node, entry);
+    if exprs.len() == 0 {
+        let entry = lp.take(input);
+        lp.put(node, entry);
+        return Ok(());
+    }
+    let base = stored(input, lp).try_clone(alloc)?;
+    let schema = with_typed(alloc, base, exprs.as_slice(), &schema)?;
+    lp.put(node, IR::HStack { input, exprs, schema, options });
+    Ok(())
 }

@@ -93,14 +93,26 @@ returns-in_ok-push_down-in-Select-clause-prunes t c = ?
 
 -- HStack
 
+pub stored-requires : goal.stored-requires
+stored-requires t c = ?
+
+pub asks-requires-in-HStack : goal.asks-requires-in-HStack
+asks-requires-in-HStack t c = ?
+
 pub push_down-requires-in-HStack : goal.push_down-requires-in-HStack
 push_down-requires-in-HStack t c =
     let p : IR = HStack c.in-HStack.input c.in-HStack.exprs c.in-HStack.schema c.in-HStack.options in
     let k = input_asks c.args.lp.now c.take.new.self c.args.ex.now c.args.node c.in-HStack.input p c.take.ensures.after.0 0 c.requires (c.take.ensures.given ∙ ap Some c.in-HStack.is) c.take.ensures.after.2 refl in
     (omega (arith, k.falls, c.decreases), k.plan)
 
-pub put-requires-in-HStack : goal.put-requires-in-HStack
-put-requires-in-HStack t c = ?
+pub put-requires-in-HStack-clause-node : goal.put-requires-in-HStack-clause-node
+put-requires-in-HStack-clause-node t c = ?
+
+pub put-requires-in-HStack-clause-input : goal.put-requires-in-HStack-clause-input
+put-requires-in-HStack-clause-input t c = ?
+
+pub returns-in_ok-put-in-HStack-clause-prunes : goal.returns-in_ok-put-in-HStack-clause-prunes
+returns-in_ok-put-in-HStack-clause-prunes t c = ?
 
 -- Scan
 
