@@ -1,9 +1,12 @@
 -- The lemmas of this crate.
-pub mod GrowLemmas
 pub mod ListSteps
 pub mod PruneLemmas
 pub mod NarrowLemmas
 mod AddedNames
+pub mod PlaceLemmas
+pub mod KeptLemmas
+mod ExprWalks
+mod StoredNodes
 pub mod StoredLemmas
 pub mod AskedNames
 pub mod ProjectionNarrows

@@ -20,16 +20,19 @@ use Rattle.plan_ir.specs.declared.ir.IR.TheVariants as nodes
 use Rattle.plan_ir.specs.declared.scan.FileInfo.{FileInfo}
 use Rattle.plan_ir.specs.declared.scan.FileScan.{FileScan}
 use Rattle.plan_ir.specs.declared.scan.ScanSources.{ScanSources}
-use Rattle.plan_ir.specs.Parts.{plan_shape, inputs_of, is_invalid, roots_of, IsExpr, IsPlan}
+use Rattle.plan_ir.specs.Parts.{plan_shape, inputs_of, is_invalid, roots_of, roots_in, IsExpr, IsPlan}
 use Rattle.plan_ir.specs.Plans.{Op, op_at, plans_of, plans_at, bare, expr_at, Expr}
 use Rattle.plan_ir.proofs.ExprLemmas.{expr_open}
 use Rattle.plan_ir.proofs.PlanLemmas.{plan_down}
 use Rattle.plan_core.specs.Names.{with_names, with_name}
 use Rattle.plan_meaning.specs.Exprs.{Name, leaves}
 use Rattle.plan_prune.specs.Pruned.{asks, rebuilt, pruned_all, typed_names}
-use Rattle.plan_prune.specs.Prunes.{Prunes, PrunesAt}
+use Rattle.plan_meaning.specs.PlanAt.{one_plan}
+use Rattle.plan_prune.specs.Stored.{stored_all}
+use Rattle.plan_prune.specs.Prunes.{StandExprs, TakePlace, Prunes, PrunesAt}
 use Rattle.plan_prune.specs.Scans.{narrowed, output_of, with_node, with_pruned_scan}
 use Rattle.plan_prune.proofs.ListSteps.{with_names-append}
+use Rattle.plan_prune.proofs.PlaceLemmas.{place_equal, place_both, place_before, place_trans, place_without}
 
 -- the names of an expression are added, kind by kind
 module _ (ex : List AExpr) (n : Node) (h : IsExpr ex n) where
@@ -81,22 +84,74 @@ entry_stays a b c n p d e taken grows =
     omega arith
 
 -- from the input of a node to the node, which goes back over the same input
-pub finish : (top : Bool) (asked names : List Name) (a b c : List IR) (ex : List AExpr) (n i : Node) (p q d : IR) (t : Trees IR) → StandsOnce plan_shape a (n ∷ []) t → slice_get a n.0 ≡ Some p → b ≡ slice_set a n.0 d → inputs_of p ≡ i ∷ [] → inputs_of q ≡ inputs_of p → is_invalid q ≡ false → roots_of q ≡ roots_of p → names ≡ asks asked (op_at ex p) → ((f : Roses (Unit {0}) Op) → rose tt (op_at ex q) f ≡ rebuilt top asked (op_at ex p) f) → PrunesAt top names b c ex i → Prunes top asked a (slice_set c n.0 q) ex n t
+pub finish : (top : Bool) (asked names : List Name) (a b c : List IR) (ex : List AExpr) (n i : Node) (p q d : IR) (t : Trees IR) → StandsOnce plan_shape a (n ∷ []) t → slice_get a n.0 ≡ Some p → b ≡ slice_set a n.0 d → inputs_of p ≡ i ∷ [] → inputs_of q ≡ inputs_of p → is_invalid q ≡ false → TakePlace ex (roots_of q) (roots_of p) → names ≡ asks asked (op_at ex p) (stored_all (bare (plans_at b ex (i ∷ [])))) → rose tt (op_at ex q) (bare (plans_at c ex (i ∷ []))) ≡ rebuilt top asked (op_at ex p) (bare (plans_at c ex (i ∷ []))) → PrunesAt top names b c ex i → Prunes top asked a (slice_set c n.0 q) ex n t
 finish top asked names a b c ex n i p q d t h e taken one same valid roots asks_is built below =
     let o = opened plan_shape a n p t h e in
     let under : StandsOnce plan_shape b (inputs_of p) o.kids = rw taken (StandsOnce-set plan_shape a (inputs_of p) o.kids n.0 d o.inputs o.above) in
-    let x = below o.kids (subst (λ (ns : List Node). StandsOnce plan_shape b ns o.kids) one under) in
+    let at_input : StandsOnce plan_shape b (i ∷ []) o.kids = subst (λ (ns : List Node). StandsOnce plan_shape b ns o.kids) one under in
+    let x = below o.kids at_input in
     let inside : Rewrites plan_shape b c (inputs_of p) o.kids x.trees = subst (λ (ns : List Node). Rewrites plan_shape b c ns o.kids x.trees) (sym one) x.rewrites in
     let kids : Roses (Unit {0}) Op = bare (plans_of ex o.kids) in
+    let before : bare (plans_at b ex (i ∷ [])) ≡ kids = ap (λ (u : Trees IR). bare (plans_of ex u)) (trees_at-is plan_shape b (i ∷ []) o.kids at_input) in
+    let after : bare (plans_at c ex (i ∷ [])) ≡ bare (plans_of ex x.trees) = ap (λ (u : Trees IR). bare (plans_of ex u)) (trees_at-is plan_shape c (i ∷ []) x.trees x.rewrites.stands) in
     rw o.is (record {
       trees = more (rose n q x.trees) no_roses;
       rewrites = Rewrites-back plan_shape a b c n p q d o.kids x.trees (rw o.is at h) taken inside same valid;
-      exprs = ap₂ (λ (l m : List Node). l ++ (m ++ [])) roots x.exprs;
+      exprs = place_both ex (roots_of q) (roots_of p) (roots_in x.trees ++ []) (roots_in o.kids ++ []) roots (place_before ex [] (roots_in x.trees) (roots_in o.kids) x.exprs);
       pruned =
-          ap (λ (f : Roses (Unit {0}) Op). more (rose tt (op_at ex q) f) no_roses) x.pruned
-          ∙ ap (λ (l : List Name). more (rose tt (op_at ex q) (pruned_all top l kids)) no_roses) asks_is
-          ∙ ap (λ r. more r no_roses) (built (pruned_all top (asks asked (op_at ex p)) kids));
+          ap (λ r. more r no_roses) (subst (λ (f : Roses (Unit {0}) Op). rose tt (op_at ex q) f ≡ rebuilt top asked (op_at ex p) f) after built)
+          ∙ ap (λ (f : Roses (Unit {0}) Op). more (rebuilt top asked (op_at ex p) f) no_roses) x.pruned
+          ∙ ap (λ (l : List Name). more (rebuilt top asked (op_at ex p) (pruned_all top l kids)) no_roses) asks_is
+          ∙ ap (λ (f : Roses (Unit {0}) Op). more (rebuilt top asked (op_at ex p) (pruned_all top (asks asked (op_at ex p) (stored_all f)) kids)) no_roses) before;
     })
+
+-- from the input of a node to the node, where what stands at the input's number takes its place
+pub moves_up : (top : Bool) (asked names : List Name) (a b c : List IR) (ex : List AExpr) (n i : Node) (p q d m : IR) (t : Trees IR) → StandsOnce plan_shape a (n ∷ []) t → slice_get a n.0 ≡ Some p → b ≡ slice_set a n.0 d → inputs_of p ≡ i ∷ [] → slice_get c i.0 ≡ Some q → names ≡ asks asked (op_at ex p) (stored_all (bare (plans_at b ex (i ∷ [])))) → ((f : Roses (Unit {0}) Op) → one_plan f ≡ rebuilt top asked (op_at ex p) f) → PrunesAt top names b c ex i → Prunes top asked a (slice_set (slice_set c i.0 m) n.0 q) ex n t
+moves_up top asked names a b c ex n i p q d m t h e taken one entry asks_is built below =
+    let o = opened plan_shape a n p t h e in
+    let under : StandsOnce plan_shape b (inputs_of p) o.kids = rw taken (StandsOnce-set plan_shape a (inputs_of p) o.kids n.0 d o.inputs o.above) in
+    let at_input : StandsOnce plan_shape b (i ∷ []) o.kids = subst (λ (ns : List Node). StandsOnce plan_shape b ns o.kids) one under in
+    let x = below o.kids at_input in
+    let y = opened plan_shape c i q x.trees x.rewrites.stands entry in
+    let kids : Roses (Unit {0}) Op = bare (plans_of ex o.kids) in
+    let before : bare (plans_at b ex (i ∷ [])) ≡ kids = ap (λ (u : Trees IR). bare (plans_of ex u)) (trees_at-is plan_shape b (i ∷ []) o.kids at_input) in
+    let whole : Trees IR = more (rose n p o.kids) no_roses in
+    let long : length b ≡ length a = rw taken (length-set a n.0 d) in
+    let reached : (k : ℕ) → Reaches (more (rose i q y.kids) no_roses) k → Reaches o.kids k ⊎ (length a ≤ k) = λ k r.
+      elim (x.rewrites.within k (subst (λ (u : Trees IR). Reaches u k) (sym y.is) r)) as (λ _. Reaches o.kids k ⊎ (length a ≤ k)) [ inl u ↦ inl u | inr v ↦ inr (omega (arith, long)) ] in
+    let up : Keeps a c whole = Keeps-trans plan_shape a b c whole o.kids (rw taken (Keeps-set plan_shape a n.0 d whole (inl refl))) x.rewrites.keeps (λ k r. inl (inr (inl r))) in
+    let keeps : Keeps a (slice_set c i.0 m) whole = Keeps-trans plan_shape a c (slice_set c i.0 m) whole (more (rose i q y.kids) no_roses) up (Keeps-set plan_shape c i.0 m (more (rose i q y.kids) no_roses) (inl refl)) (λ k r. elim (reached k r) as (λ _. Reaches whole k ⊎ (length a ≤ k)) [ inl u ↦ inl (inr (inl u)) | inr v ↦ inr v ]) in
+    let there : TakePlace ex (roots_of q ++ (roots_in y.kids ++ [])) (roots_in o.kids) = subst (λ (u : Trees IR). TakePlace ex (roots_in u) (roots_in o.kids)) y.is x.exprs in
+    rw o.is (record {
+      trees = more (rose n q y.kids) no_roses;
+      rewrites = Rewrites-above plan_shape a (slice_set c i.0 m) n p q o.kids y.kids (rw o.is at h) keeps (StandsOnce-set plan_shape c (inputs_of q) y.kids i.0 m y.inputs y.above) (λ k r. reached k (inr (inl r))) y.valid;
+      exprs = place_both ex [] (roots_of p) (roots_of q ++ (roots_in y.kids ++ [])) (roots_in o.kids ++ []) (place_without ex (roots_of p))
+          (place_trans ex (roots_of q ++ (roots_in y.kids ++ [])) (roots_in o.kids) (roots_in o.kids ++ []) there (place_equal ex (roots_in o.kids) (roots_in o.kids ++ []) (sym (append-nil (roots_in o.kids)))));
+      pruned =
+          ap (λ (u : Trees IR). more (one_plan (bare (plans_of ex u))) no_roses) (sym y.is)
+          ∙ ap (λ r. more r no_roses) (built (bare (plans_of ex x.trees)))
+          ∙ ap (λ (f : Roses (Unit {0}) Op). more (rebuilt top asked (op_at ex p) f) no_roses) x.pruned
+          ∙ ap (λ (l : List Name). more (rebuilt top asked (op_at ex p) (pruned_all top l kids)) no_roses) asks_is
+          ∙ ap (λ (f : Roses (Unit {0}) Op). more (rebuilt top asked (op_at ex p) (pruned_all top (asks asked (op_at ex p) (stored_all f)) kids)) no_roses) before;
+    })
+
+-- what stands at the input of a node, once the node is taken, and once the input is pruned
+pub stands_below : (a b : List IR) (ex : List AExpr) (n i : Node) (p d : IR) → IsPlan a ex n → slice_get a n.0 ≡ Some p → b ≡ slice_set a n.0 d → inputs_of p ≡ i ∷ [] → (t : Trees IR) × StandsOnce plan_shape b (i ∷ []) t
+stands_below a b ex n i p d h e taken one =
+    let o = opened plan_shape a n p h.nodes h.stands.nodes e in
+    let under : StandsOnce plan_shape b (inputs_of p) o.kids = rw taken (StandsOnce-set plan_shape a (inputs_of p) o.kids n.0 d o.inputs o.above) in
+    (o.kids, subst (λ (ns : List Node). StandsOnce plan_shape b ns o.kids) one under)
+
+pub stands_after : (top : Bool) (names : List Name) (b c : List IR) (ex : List AExpr) (i : Node) → ((t : Trees IR) × StandsOnce plan_shape b (i ∷ []) t) → PrunesAt top names b c ex i → (t : Trees IR) × StandsOnce plan_shape c (i ∷ []) t
+stands_after top names b c ex i s below = let x = below s.0 s.1 in (x.trees, x.rewrites.stands)
+
+-- a number over which trees stand has an entry
+pub is_entry : (lp : List IR) (i : Node) → ((t : Trees IR) × StandsOnce plan_shape lp (i ∷ []) t) → i.0 < length lp
+is_entry lp i s = go s.0 s.1
+  where
+    go : (t : Trees IR) → StandsOnce plan_shape lp (i ∷ []) t → i.0 < length lp
+    go no_roses h = absurd h.stands
+    go (more (rose m p kids) rest) h = slice_get_within lp i.0 p h.stands.1
 
 -- nothing stands over no numbers
 no_trees : (lp : List IR) (f : Trees IR) → Stands plan_shape lp [] f → f ≡ no_roses
@@ -133,7 +188,7 @@ module _ (a b : List IR) (ex : List AExpr) (n : Node) (p d : IR) (t : Trees IR) 
       rw alone (record {
         trees = more (rose n q no_roses) no_roses;
         rewrites = Rewrites-back plan_shape a b b n p q d no_roses no_roses (rw alone at h) taken (subst (λ (ns : List Node). Rewrites plan_shape b b ns no_roses no_roses) (sym leaf) (Rewrites-refl plan_shape b [] no_roses under)) (none ∙ sym leaf) valid;
-        exprs = ap (λ (l : List Node). l ++ []) roots;
+        exprs = place_equal ex (roots_of q ++ []) (roots_of p ++ []) (ap (λ (l : List Node). l ++ []) roots);
         pruned = ap (λ r. more r no_roses) is;
       })
 
@@ -159,7 +214,7 @@ module _ (a b : List IR) (ex : List AExpr) (n : Node) (p d : IR) (t : Trees IR) 
       rw alone (record {
         trees = more (rose n above below) no_roses;
         rewrites = Rewrites-above plan_shape a c n p above no_roses below (rw alone at h) keeps stands new refl;
-        exprs = append-nil (roots_of q ++ []) ∙ ap (λ (l : List Node). l ++ []) roots;
+        exprs = place_equal ex ((roots_of q ++ []) ++ []) (roots_of p ++ []) (append-nil (roots_of q ++ []) ∙ ap (λ (l : List Node). l ++ []) roots);
         pruned = ap (λ r. more r no_roses) is;
       })
 
@@ -185,8 +240,11 @@ module _ (top : Bool) (asked : List Name) (a c : List IR) (ex : List AExpr) (n :
       ∙ ap (λ (t : Trees IR). pruned_all top asked (bare (plans_of ex t))) (sym (trees_at-is plan_shape a (n ∷ []) h.nodes h.stands.nodes))
 
   pub pruned_stands : IsPlan c ex n
-  pruned_stands = record {
-    nodes = x.trees;
-    exprs = h.exprs;
-    stands = record { nodes = x.rewrites.stands; exprs = rw x.exprs h.stands.exprs };
-  }
+  pruned_stands =
+      let alone : StandExprs ex (roots_in h.nodes ++ []) = (h.exprs, rw append-nil h.stands.exprs) in
+      let e : StandExprs ex (roots_in x.trees) = subst (λ (ns : List Node). StandExprs ex ns) (append-nil (roots_in x.trees)) (x.exprs [] [] alone) in
+      record {
+        nodes = x.trees;
+        exprs = e.0;
+        stands = record { nodes = x.rewrites.stands; exprs = e.1 };
+      }

@@ -14,11 +14,16 @@ ghost use Rattle.plan_prune.specs.Pruned.{pruned_all};
 ghost use Rattle.plan_prune.specs.Prunes.{PrunesAt};
 ghost use Rattle.plan_prune.specs.Reads.{ReadWithin, tops};
 
+mod exprs;
 mod filter;
 mod frame_scan;
+mod hstack;
 mod projection;
 mod scan;
+mod select;
+mod stored;
 
+use crate::push_down::stored::stored;
 use plan_core::{Arena, Names, Node};
 use plan_ir::{AExpr, IR};
 use std::alloc::{AllocError, Global};
@@ -125,7 +130,10 @@ impl ProjectionPushDown {
                 schema,
                 options,
             } => {
-                self.push_down(alloc, input, Names::new(alloc), lp, ex)?;
+                let expr = select::keep(alloc, expr, &asked, ex)?;
+                let schema = select::columns(alloc, schema, expr.as_slice(), &asked)?;
+                let asked = select::asks(alloc, expr.as_slice(), ex)?;
+                self.push_down(alloc, input, asked, lp, ex)?;
                 lp.put(
                     node,
                     IR::Select {
@@ -143,16 +151,11 @@ impl ProjectionPushDown {
                 schema,
                 options,
             } => {
-                self.push_down(alloc, input, Names::new(alloc), lp, ex)?;
-                lp.put(
-                    node,
-                    IR::HStack {
-                        input,
-                        exprs,
-                        schema,
-                        options,
-                    },
-                );
+                let is_asked = asked.len() > 0;
+                let exprs = hstack::keep(alloc, exprs, &asked)?;
+                let asked = hstack::asks(alloc, asked, exprs.as_slice(), stored(input, lp), ex)?;
+                self.push_down(alloc, input, asked, lp, ex)?;
+                hstack::put(alloc, node, input, is_asked, exprs, schema, options, lp)?;
                 Ok(())
             }
             IR::Invalid => Ok(()),

@@ -1,39 +1,16 @@
 //! A filter stays as it is.
 //! Asked something, it asks its input that, and the columns of its predicate, each last unless it is asked already.
 //! Asked nothing, it asks nothing.
-ghost use Rattle.std.specs.Prelude.{◌≡◌, IfOk, OnOk};
-ghost use Rattle.plan_core.specs.Names.{with_names};
+ghost use Rattle.std.specs.Prelude.{◌≡◌, IfOk};
 ghost use Rattle.plan_ir.specs.Parts.{IsExpr};
 ghost use Rattle.plan_ir.specs.Plans.{expr_at};
 ghost use Rattle.plan_meaning.specs.Exprs.{leaves};
 ghost use Rattle.plan_prune.specs.Pruned.{asked_with};
 
-use plan_core::{Arena, Names, Node};
+use crate::push_down::exprs::add_names;
+use plan_core::{Arena, Names};
 use plan_ir::{AExpr, ExprIR};
 use std::alloc::AllocError;
-
-/// Adds the names of the columns of an expression, in walk order.
-fn add_names(names: &mut Names, node: Node, ex: &Arena<AExpr>) -> Result<(), AllocError>
-    requires { IsExpr ex.now node }
-    ensures { OnOk result (names.new ≡ with_names names.old (leaves (expr_at ex.now node))) }
-{
-    match ex.get(node) {
-        AExpr::Column(name) => {
-            let _ = names.add(name.as_str())?;
-            Ok(())
-        }
-        AExpr::Literal(_) => Ok(()),
-        AExpr::Alias(input, _) => {
-            add_names(names, *input, ex)?;
-            Ok(())
-        }
-        AExpr::BinaryExpr { left, right, .. } => {
-            add_names(names, *left, ex)?;
-            add_names(names, *right, ex)?;
-            Ok(())
-        }
-    }
-}
 
 /// What a filter asks its input: the asked names, and then the other names that the predicate reads; no names stand for
 /// every column, and then it asks none.

@@ -1,14 +1,16 @@
-use Rattle.std.proofs.Common.{◌∙◌, ap, refl, arith, rules, not, Some, Option, [], SFits, w64}
+use Rattle.std.proofs.Common.{◌∙◌, ap, refl, arith, rules, not, Some, Option, [], ◌∷◌, SFits, w64}
 use Rattle.std.proofs.Math.Facts.{to_z-of_z}
 use Rattle.plan_ir.specs.declared.ir.IR.{IR}
 use Rattle.plan_ir.specs.declared.ir.IR.TheVariants.{Slice, Filter, DataFrameScan, SimpleProjection, Select, HStack}
-use Rattle.plan_ir.proofs.PlanLemmas.{plan_expr}
+use Rattle.plan_ir.specs.Plans.{bare, plans_at}
+use Rattle.plan_ir.proofs.PlanLemmas.{plan_expr, plan_exprs}
 use Rattle.plan_core.specs.Columns.{Columns, names_of}
 use Rattle.plan_core.specs.Names.{with_names}
 use Rattle.plan_tree.specs.Rose.{rose, no_roses}
 use Rattle.plan_ir.specs.Plans.{simple_projection, frame_scan}
 use Rattle.plan_prune.specs.Scans.{with_pruned_scan}
 use Rattle.plan_prune.proofs.PruneLemmas.{input_asks, entry_stays, finish, scan_pruned, stays}
+use Rattle.plan_prune.proofs.KeptLemmas.{each_stands}
 use Rattle.plan_prune.proofs.push_down.ProjectionPushDown.+push_down.Goals as goal
 
 -- Slice
@@ -28,7 +30,7 @@ returns-in_ok-push_down-in-Slice-clause-prunes t c = λ t' h.
     let q : IR = Slice c.in-Slice.input c.in-Slice.offset c.in-Slice.len in
     let fits : SFits w64 c.in-Slice.offset = search rules in
     rw (c.put.ensures, to_z-of_z fits) (finish (not c.args.self.now.is_count_star) c.args.asked c.args.asked c.args.lp.now c.take.new.self c.push_down.new.lp c.args.ex.now c.args.node c.in-Slice.input p q c.take.ensures.after.0 t' h
-    (c.take.ensures.given ∙ ap Some c.in-Slice.is) c.take.ensures.after.2 refl refl refl refl refl (λ f. refl) c.in_ok-push_down-in-Slice.ensures.prunes)
+    (c.take.ensures.given ∙ ap Some c.in-Slice.is) c.take.ensures.after.2 refl refl refl (λ before after e. e) refl refl c.in_ok-push_down-in-Slice.ensures.prunes)
 
 -- Filter
 
@@ -49,7 +51,7 @@ returns-in_ok-push_down-in-Filter-clause-prunes t c = λ t' h.
     let p : IR = Filter c.in-Filter.input c.in-Filter.predicate in
     let q : IR = Filter c.in-Filter.input c.in-Filter.predicate in
     rw c.put-in-Filter.ensures (finish (not c.args.self.now.is_count_star) c.args.asked c.in_ok-asked-in-Filter.asked c.args.lp.now c.take.new.self c.push_down-in-Filter.new.lp c.args.ex.now c.args.node c.in-Filter.input p q c.take.ensures.after.0 t' h
-    (c.take.ensures.given ∙ ap Some c.in-Filter.is) c.take.ensures.after.2 refl refl refl refl c.in_ok-asked-in-Filter.ensures (λ f. refl) c.in_ok-push_down-in-Filter.ensures.prunes)
+    (c.take.ensures.given ∙ ap Some c.in-Filter.is) c.take.ensures.after.2 refl refl refl (λ before after e. e) c.in_ok-asked-in-Filter.ensures refl c.in_ok-push_down-in-Filter.ensures.prunes)
 
 -- SimpleProjection
 
@@ -67,9 +69,15 @@ returns-in_ok-push_down-in-SimpleProjection-clause-prunes t c = λ t' h.
     let p : IR = SimpleProjection c.in-SimpleProjection.input c.in-SimpleProjection.columns in
     let q : IR = SimpleProjection c.in-SimpleProjection.input c.in_ok-columns-in-SimpleProjection.columns in
     rw c.put-in-SimpleProjection.ensures (finish (not c.args.self.now.is_count_star) c.args.asked c.in_ok-asked-in-SimpleProjection.asked c.args.lp.now c.take.new.self c.push_down-in-SimpleProjection.new.lp c.args.ex.now c.args.node c.in-SimpleProjection.input p q c.take.ensures.after.0 t' h
-    (c.take.ensures.given ∙ ap Some c.in-SimpleProjection.is) c.take.ensures.after.2 refl refl refl refl (c.in_ok-asked-in-SimpleProjection.ensures ∙ ap (λ (cs : Columns). with_names [] (names_of cs)) c.in_ok-columns-in-SimpleProjection.ensures) (λ f. ap (λ (cs : Columns). rose tt (simple_projection cs) f) c.in_ok-columns-in-SimpleProjection.ensures) c.in_ok-push_down-in-SimpleProjection.ensures.prunes)
+    (c.take.ensures.given ∙ ap Some c.in-SimpleProjection.is) c.take.ensures.after.2 refl refl refl (λ before after e. e) (c.in_ok-asked-in-SimpleProjection.ensures ∙ ap (λ (cs : Columns). with_names [] (names_of cs)) c.in_ok-columns-in-SimpleProjection.ensures) (ap (λ (cs : Columns). rose tt (simple_projection cs) (bare (plans_at c.push_down-in-SimpleProjection.new.lp c.args.ex.now (c.in-SimpleProjection.input ∷ [])))) c.in_ok-columns-in-SimpleProjection.ensures) c.in_ok-push_down-in-SimpleProjection.ensures.prunes)
 
 -- Select
+
+pub keep-requires-in-Select : goal.keep-requires-in-Select
+keep-requires-in-Select t c = each_stands c.args.ex.now c.in-Select.expr (plan_exprs c.args.lp.now c.args.ex.now c.args.node (Select c.in-Select.input c.in-Select.expr c.in-Select.schema c.in-Select.options) c.requires (c.take.ensures.given ∙ ap Some c.in-Select.is))
+
+pub asks-requires-in-Select : goal.asks-requires-in-Select
+asks-requires-in-Select t c = ?
 
 pub push_down-requires-in-Select : goal.push_down-requires-in-Select
 push_down-requires-in-Select t c =
@@ -81,13 +89,15 @@ pub put-requires-in-Select : goal.put-requires-in-Select
 put-requires-in-Select t c = entry_stays c.args.lp.now c.take.new.self c.push_down-in-Select.new.lp c.args.node c.take.result c.take.ensures.after.0 c.take.ensures.given c.take.ensures.after.2 c.in_ok-push_down-in-Select.ensures.grows
 
 pub returns-in_ok-push_down-in-Select-clause-prunes : goal.returns-in_ok-push_down-in-Select-clause-prunes
-returns-in_ok-push_down-in-Select-clause-prunes t c = λ t' h.
-    let p : IR = Select c.in-Select.input c.in-Select.expr c.in-Select.schema c.in-Select.options in
-    let q : IR = Select c.in-Select.input c.in-Select.expr c.in-Select.schema c.in-Select.options in
-    rw c.put-in-Select.ensures (finish (not c.args.self.now.is_count_star) c.args.asked c.new.result c.args.lp.now c.take.new.self c.push_down-in-Select.new.lp c.args.ex.now c.args.node c.in-Select.input p q c.take.ensures.after.0 t' h
-    (c.take.ensures.given ∙ ap Some c.in-Select.is) c.take.ensures.after.2 refl refl refl refl c.new.ensures (λ f. refl) c.in_ok-push_down-in-Select.ensures.prunes)
+returns-in_ok-push_down-in-Select-clause-prunes t c = ?
 
 -- HStack
+
+pub stored-requires : goal.stored-requires
+stored-requires t c = ?
+
+pub asks-requires-in-HStack : goal.asks-requires-in-HStack
+asks-requires-in-HStack t c = ?
 
 pub push_down-requires-in-HStack : goal.push_down-requires-in-HStack
 push_down-requires-in-HStack t c =
@@ -95,15 +105,14 @@ push_down-requires-in-HStack t c =
     let k = input_asks c.args.lp.now c.take.new.self c.args.ex.now c.args.node c.in-HStack.input p c.take.ensures.after.0 0 c.requires (c.take.ensures.given ∙ ap Some c.in-HStack.is) c.take.ensures.after.2 refl in
     (omega (arith, k.falls, c.decreases), k.plan)
 
-pub put-requires-in-HStack : goal.put-requires-in-HStack
-put-requires-in-HStack t c = entry_stays c.args.lp.now c.take.new.self c.push_down-in-HStack.new.lp c.args.node c.take.result c.take.ensures.after.0 c.take.ensures.given c.take.ensures.after.2 c.in_ok-push_down-in-HStack.ensures.grows
+pub put-requires-in-HStack-clause-node : goal.put-requires-in-HStack-clause-node
+put-requires-in-HStack-clause-node t c = ?
 
-pub returns-in_ok-push_down-in-HStack-clause-prunes : goal.returns-in_ok-push_down-in-HStack-clause-prunes
-returns-in_ok-push_down-in-HStack-clause-prunes t c = λ t' h.
-    let p : IR = HStack c.in-HStack.input c.in-HStack.exprs c.in-HStack.schema c.in-HStack.options in
-    let q : IR = HStack c.in-HStack.input c.in-HStack.exprs c.in-HStack.schema c.in-HStack.options in
-    rw c.put-in-HStack.ensures (finish (not c.args.self.now.is_count_star) c.args.asked c.new-in-HStack.result c.args.lp.now c.take.new.self c.push_down-in-HStack.new.lp c.args.ex.now c.args.node c.in-HStack.input p q c.take.ensures.after.0 t' h
-    (c.take.ensures.given ∙ ap Some c.in-HStack.is) c.take.ensures.after.2 refl refl refl refl c.new-in-HStack.ensures (λ f. refl) c.in_ok-push_down-in-HStack.ensures.prunes)
+pub put-requires-in-HStack-clause-input : goal.put-requires-in-HStack-clause-input
+put-requires-in-HStack-clause-input t c = ?
+
+pub returns-in_ok-put-in-HStack-clause-prunes : goal.returns-in_ok-put-in-HStack-clause-prunes
+returns-in_ok-put-in-HStack-clause-prunes t c = ?
 
 -- Scan
 

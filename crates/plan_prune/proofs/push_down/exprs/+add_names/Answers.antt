@@ -5,7 +5,7 @@ use Rattle.plan_ir.specs.Plans.{expr_at}
 use Rattle.plan_ir.proofs.ExprLemmas.{expr_down}
 use Rattle.plan_meaning.specs.Exprs.{Name, leaves}
 use Rattle.plan_prune.proofs.PruneLemmas.{adds-column, adds-literal, adds-alias, adds-binary}
-use Rattle.plan_prune.proofs.push_down.filter.+add_names.Goals as goal
+use Rattle.plan_prune.proofs.push_down.exprs.+add_names.Goals as goal
 
 pub add_names-requires : goal.add_names-requires
 add_names-requires t c =

@@ -1,0 +1,171 @@
+-- What walks over expressions find, one after another: their names, whether they are scalar, and the columns that they make.
+use Rattle.std.proofs.Common.{◌≡◌, ◌<◌, All, get_or, length, subst, ℕ, zero, suc, ◌+◌, ◌&&◌, Bool, true, false, cond, List, [], ◌∷◌, ◌++◌, take, map, Option, Some, None, option_map, refl, sym, ap, ◌∙◌, add-one, append-nil}
+use Rattle.std.specs.List.{slice_get, filter, cons_option}
+use Rattle.std.proofs.lemmas.List.Elements.{All-get_or, filter-append}
+use Rattle.std.proofs.lemmas.Option.{slice_get-get_or}
+use Rattle.plan_core.specs.Columns.{Columns, type_of, with_type, with_types}
+use Rattle.plan_core.specs.Names.{AreDistinct, with_name, with_names}
+use Rattle.plan_core.specs.declared.arena.Node.{Node}
+use Rattle.plan_core.specs.declared.data_type.DataType.{DataType}
+use Rattle.plan_ir.specs.declared.expr.AExpr.{AExpr}
+use Rattle.plan_ir.specs.declared.expr.AExpr.TheVariants as exprs
+use Rattle.plan_ir.specs.declared.expr.ExprIR.{ExprIR}
+use Rattle.plan_ir.specs.declared.expr.LiteralValue.{LiteralValue}
+use Rattle.plan_ir.specs.declared.expr.Operator.{Operator}
+use Rattle.plan_ir.specs.Parts.{IsExpr}
+use Rattle.plan_ir.specs.Plans.{Expr, expr_at, all_named_at}
+use Rattle.plan_ir.proofs.ExprLemmas.{expr_open}
+use Rattle.plan_meaning.specs.Exprs.{Name, leaves, name_of, is_scalar}
+use Rattle.plan_meaning.specs.Steps.{all_scalar}
+use Rattle.plan_meaning.specs.Asked.{all_leaves}
+use Rattle.plan_prune.specs.Pruned.{typed_names}
+use Rattle.plan_prune.specs.Kept.{many_at, names_at, with_typed}
+use Rattle.plan_prune.proofs.ListSteps.{Differs, before_differ, with_name-last, with_names-append, take-next}
+
+and_true : (b : Bool) → (b && true) ≡ b
+and_true true = refl
+and_true false = refl
+
+-- the item in a place
+pub item_here : {A : Type 0} (xs : List A) (i : ℕ) (x : A) → i < length xs → x ≡ get_or xs i x → slice_get xs i ≡ Some x
+item_here xs i x lt is = slice_get-get_or xs i x lt ∙ ap (λ y. Some y) (sym is)
+
+-- each expression stands
+pub stands_here : (ex : List AExpr) (es : List ExprIR) (i : ℕ) (e : ExprIR) → All (λ (x : ExprIR). IsExpr ex x.node) es → i < length es → e ≡ get_or es i e → IsExpr ex e.node
+stands_here ex es i e h lt is = subst (λ (x : ExprIR). IsExpr ex x.node) (sym is) (All-get_or (λ (x : ExprIR). IsExpr ex x.node) es i e lt h)
+
+-- whether an expression is scalar, kind by kind
+module _ (ex : List AExpr) (n : Node) (h : IsExpr ex n) where
+  pub scalar-column : (a : Name) → slice_get ex n.0 ≡ Some (exprs.Column a) → false ≡ is_scalar (expr_at ex n)
+  scalar-column a e = ap is_scalar (sym (expr_open ex n (exprs.Column a) h e))
+
+  pub scalar-literal : (v : LiteralValue) → slice_get ex n.0 ≡ Some (exprs.Literal v) → true ≡ is_scalar (expr_at ex n)
+  scalar-literal v e = ap is_scalar (sym (expr_open ex n (exprs.Literal v) h e))
+
+  pub scalar-alias : (i : Node) (a : Name) → slice_get ex n.0 ≡ Some (exprs.Alias i a) → is_scalar (expr_at ex i) ≡ is_scalar (expr_at ex n)
+  scalar-alias i a e = sym (and_true (is_scalar (expr_at ex i))) ∙ ap is_scalar (sym (expr_open ex n (exprs.Alias i a) h e))
+
+  pub scalar-binary : (l r : Node) (o : Operator) → slice_get ex n.0 ≡ Some (exprs.BinaryExpr l o r) → (is_scalar (expr_at ex l) && is_scalar (expr_at ex r)) ≡ is_scalar (expr_at ex n)
+  scalar-binary l r o e =
+      ap (λ (b : Bool). is_scalar (expr_at ex l) && b) (sym (and_true (is_scalar (expr_at ex r)))) ∙ ap is_scalar (sym (expr_open ex n (exprs.BinaryExpr l o r) h e))
+
+-- expressions one after another
+module _ (ex : List AExpr) where
+  scalars_suc : (es : List ExprIR) (i : ℕ) (e : ExprIR) → slice_get es i ≡ Some e → all_scalar (all_named_at ex (take i es)) ≡ true → is_scalar (expr_at ex e.node) ≡ true → all_scalar (all_named_at ex (take (suc i) es)) ≡ true
+  scalars_suc [] i e k h good = cc
+  scalars_suc (x ∷ es) zero e k h good = let q : e ≡ x = cc in (let s : is_scalar (expr_at ex x.node) ≡ true = rw (← q) good in rw s refl)
+  scalars_suc (x ∷ es) (suc i) e k h good = go (is_scalar (expr_at ex x.node)) h (λ r. scalars_suc es i e k r good)
+    where
+      go : (b : Bool) → (b && all_scalar (all_named_at ex (take i es))) ≡ true → (all_scalar (all_named_at ex (take i es)) ≡ true → all_scalar (all_named_at ex (take (suc i) es)) ≡ true) → (b && all_scalar (all_named_at ex (take (suc i) es))) ≡ true
+      go true h f = f h
+      go false h f = cc
+
+  pub scalars-next : (es : List ExprIR) (i : ℕ) (e : ExprIR) → slice_get es i ≡ Some e → all_scalar (all_named_at ex (take i es)) ≡ true → is_scalar (expr_at ex e.node) ≡ true → all_scalar (all_named_at ex (take (i + 1) es)) ≡ true
+  scalars-next es i e k h good = rw (add-one i) (scalars_suc es i e k h good)
+
+  pub scalars-bad : (es : List ExprIR) (i : ℕ) (e : ExprIR) → slice_get es i ≡ Some e → is_scalar (expr_at ex e.node) ≡ false → false ≡ all_scalar (all_named_at ex es)
+  scalars-bad [] i e k bad = cc
+  scalars-bad (x ∷ es) zero e k bad = let q : e ≡ x = cc in (let s : is_scalar (expr_at ex x.node) ≡ false = rw (← q) bad in rw s refl)
+  scalars-bad (x ∷ es) (suc i) e k bad = go (is_scalar (expr_at ex x.node)) (scalars-bad es i e k bad)
+    where
+      go : (b : Bool) → false ≡ all_scalar (all_named_at ex es) → false ≡ (b && all_scalar (all_named_at ex es))
+      go true h = h
+      go false h = refl
+
+  many_suc : (es : List ExprIR) (i : ℕ) (e : ExprIR) → slice_get es i ≡ Some e → many_at ex (take i es) ≡ [] → is_scalar (expr_at ex e.node) ≡ true → many_at ex (take (suc i) es) ≡ []
+  many_suc [] i e k h good = cc
+  many_suc (x ∷ es) zero e k h good = let q : e ≡ x = cc in (let s : is_scalar (expr_at ex x.node) ≡ true = rw (← q) good in rw s refl)
+  many_suc (x ∷ es) (suc i) e k h good = go (is_scalar (expr_at ex x.node)) h (λ r. many_suc es i e k r good)
+    where
+      go : (b : Bool) → cond b (many_at ex (take i es)) (x ∷ []) ≡ [] → (many_at ex (take i es) ≡ [] → many_at ex (take (suc i) es) ≡ []) → cond b (many_at ex (take (suc i) es)) (x ∷ []) ≡ []
+      go true h f = f h
+      go false h f = cc
+
+  pub many-next : (es : List ExprIR) (i : ℕ) (e : ExprIR) → slice_get es i ≡ Some e → many_at ex (take i es) ≡ [] → is_scalar (expr_at ex e.node) ≡ true → many_at ex (take (i + 1) es) ≡ []
+  many-next es i e k h good = rw (add-one i) (many_suc es i e k h good)
+
+  pub many-found : (es : List ExprIR) (i : ℕ) (e : ExprIR) → slice_get es i ≡ Some e → many_at ex (take i es) ≡ [] → is_scalar (expr_at ex e.node) ≡ false → e ∷ [] ≡ many_at ex es
+  many-found [] i e k h bad = cc
+  many-found (x ∷ es) zero e k h bad = let q : e ≡ x = cc in (let s : is_scalar (expr_at ex x.node) ≡ false = rw (← q) bad in rw (q, s) refl)
+  many-found (x ∷ es) (suc i) e k h bad = go (is_scalar (expr_at ex x.node)) h (λ r. many-found es i e k r bad)
+    where
+      go : (b : Bool) → cond b (many_at ex (take i es)) (x ∷ []) ≡ [] → (many_at ex (take i es) ≡ [] → e ∷ [] ≡ many_at ex es) → e ∷ [] ≡ cond b (many_at ex es) (x ∷ [])
+      go true h f = f h
+      go false h f = cc
+
+  leaves_suc : (done : List Name) (es : List ExprIR) (i : ℕ) (e : ExprIR) → slice_get es i ≡ Some e → with_names (with_names done (all_leaves (all_named_at ex (take i es)))) (leaves (expr_at ex e.node)) ≡ with_names done (all_leaves (all_named_at ex (take (suc i) es)))
+  leaves_suc done [] i e k = cc
+  leaves_suc done (x ∷ es) zero e k =
+      let q : e ≡ x = cc in
+      ap (λ (y : ExprIR). with_names done (leaves (expr_at ex y.node))) q ∙ ap (with_names done) (sym (append-nil (leaves (expr_at ex x.node))))
+  leaves_suc done (x ∷ es) (suc i) e k =
+      let own = leaves (expr_at ex x.node) in
+      ap (λ (l : List Name). with_names l (leaves (expr_at ex e.node))) (with_names-append done own (all_leaves (all_named_at ex (take i es))))
+      ∙ leaves_suc (with_names done own) es i e k
+      ∙ sym (with_names-append done own (all_leaves (all_named_at ex (take (suc i) es))))
+
+  -- the names of one expression more
+  pub leaves-next : (done : List Name) (es : List ExprIR) (i : ℕ) (e : ExprIR) → slice_get es i ≡ Some e → with_names (with_names done (all_leaves (all_named_at ex (take i es)))) (leaves (expr_at ex e.node)) ≡ with_names done (all_leaves (all_named_at ex (take (i + 1) es)))
+  leaves-next done es i e k = leaves_suc done es i e k ∙ ap (λ (n : ℕ). with_names done (all_leaves (all_named_at ex (take n es)))) (sym (add-one i))
+
+-- the columns of expressions beside others
+typed_suc : (base : Columns) (es : List ExprIR) (s : Columns) (i : ℕ) (e : ExprIR) (d : DataType) → slice_get es i ≡ Some e → type_of s (name_of e.output_name) ≡ Some d → with_type (with_typed base (names_at (take i es)) s) (name_of e.output_name) d ≡ with_typed base (names_at (take (suc i) es)) s
+typed_suc base [] s i e d k is = cc
+typed_suc base (x ∷ es) s zero e d k is =
+    let q : e ≡ x = cc in
+    let here : type_of s (name_of x.output_name) ≡ Some d = rw (← q) is in
+    rw (q, here) refl
+typed_suc base (x ∷ es) s (suc i) e d k is = go (type_of s (name_of x.output_name)) (λ c. typed_suc c es s i e d k is)
+  where
+    a : Name
+    a = name_of x.output_name
+
+    go : (o : Option DataType) → ((c : Columns) → with_type (with_typed c (names_at (take i es)) s) (name_of e.output_name) d ≡ with_typed c (names_at (take (suc i) es)) s) → with_type (with_types base (cons_option (option_map (λ t. (a, t)) o) (typed_names s (names_at (take i es))))) (name_of e.output_name) d ≡ with_types base (cons_option (option_map (λ t. (a, t)) o) (typed_names s (names_at (take (suc i) es))))
+    go None f = f base
+    go (Some t) f = f (with_type base a t)
+
+pub made-next : (base : Columns) (es : List ExprIR) (s : Columns) (i : ℕ) (e : ExprIR) (d : DataType) → slice_get es i ≡ Some e → type_of s (name_of e.output_name) ≡ Some d → with_type (with_typed base (names_at (take i es)) s) (name_of e.output_name) d ≡ with_typed base (names_at (take (i + 1) es)) s
+made-next base es s i e d k is = typed_suc base es s i e d k is ∙ ap (λ (n : ℕ). with_typed base (names_at (take n es)) s) (sym (add-one i))
+
+lacks_suc : (base : Columns) (es : List ExprIR) (s : Columns) (i : ℕ) (e : ExprIR) → slice_get es i ≡ Some e → type_of s (name_of e.output_name) ≡ None → with_typed base (names_at (take i es)) s ≡ with_typed base (names_at (take (suc i) es)) s
+lacks_suc base [] s i e k is = cc
+lacks_suc base (x ∷ es) s zero e k is =
+    let q : e ≡ x = cc in
+    let here : type_of s (name_of x.output_name) ≡ None = rw (← q) is in
+    rw here refl
+lacks_suc base (x ∷ es) s (suc i) e k is = go (type_of s (name_of x.output_name)) (λ c. lacks_suc c es s i e k is)
+  where
+    a : Name
+    a = name_of x.output_name
+
+    go : (o : Option DataType) → ((c : Columns) → with_typed c (names_at (take i es)) s ≡ with_typed c (names_at (take (suc i) es)) s) → with_types base (cons_option (option_map (λ t. (a, t)) o) (typed_names s (names_at (take i es)))) ≡ with_types base (cons_option (option_map (λ t. (a, t)) o) (typed_names s (names_at (take (suc i) es))))
+    go None f = f base
+    go (Some t) f = f (with_type base a t)
+
+pub made-skip : (base : Columns) (es : List ExprIR) (s : Columns) (i : ℕ) (e : ExprIR) → slice_get es i ≡ Some e → type_of s (name_of e.output_name) ≡ None → with_typed base (names_at (take i es)) s ≡ with_typed base (names_at (take (i + 1) es)) s
+made-skip base es s i e k is = lacks_suc base es s i e k is ∙ ap (λ (n : ℕ). with_typed base (names_at (take n es)) s) (sym (add-one i))
+
+-- names that pass a test, one after another
+differs_where : (p : Name → Bool) (names : List Name) (a : Name) → Differs a names → Differs a (filter p names)
+differs_where p [] a h = tt
+differs_where p (b ∷ names) a h = go (p b) (differs_where p names a h.1)
+  where
+    go : (t : Bool) → Differs a (filter p names) → Differs a (cond t (b ∷ filter p names) (filter p names))
+    go true rest = (h.0, rest)
+    go false rest = rest
+
+pub where-next : (p : Name → Bool) (names : List Name) (i : ℕ) (a : Name) → AreDistinct names → slice_get names i ≡ Some a → p a ≡ true → with_name (filter p (take i names)) a ≡ filter p (take (i + 1) names)
+where-next p names i a h e good =
+    let one : filter p (a ∷ []) ≡ a ∷ [] = rw good refl in
+    with_name-last (filter p (take i names)) a (differs_where p (take i names) a (before_differ names i a h e))
+    ∙ ap (λ (l : List Name). filter p (take i names) ++ l) (sym one)
+    ∙ sym (filter-append p (take i names) (a ∷ []))
+    ∙ ap (filter p) (sym (take-next names i a e))
+
+pub where-skip : (p : Name → Bool) (names : List Name) (i : ℕ) (a : Name) → slice_get names i ≡ Some a → p a ≡ false → filter p (take i names) ≡ filter p (take (i + 1) names)
+where-skip p names i a e bad =
+    let one : filter p (a ∷ []) ≡ [] = rw bad refl in
+    sym (append-nil (filter p (take i names)))
+    ∙ ap (λ (l : List Name). filter p (take i names) ++ l) (sym one)
+    ∙ sym (filter-append p (take i names) (a ∷ []))
+    ∙ ap (filter p) (sym (take-next names i a e))

@@ -1,0 +1,70 @@
+-- Numbers of expressions in the place of others.
+use Rattle.std.proofs.Common.{◌≡◌, ℕ, List, [], ◌++◌, sym, ap, ◌∙◌, inl, inr, subst, append_assoc}
+use Rattle.plan_core.specs.declared.arena.Node.{Node}
+use Rattle.plan_tree.specs.Rose.{join}
+use Rattle.plan_tree.specs.Stands.{Trees, Reaches, Apart, StandsOnce}
+use Rattle.plan_tree.proofs.Frames.{join-left, join-right, Reaches-join}
+use Rattle.plan_tree.proofs.SplitLemmas.{StandsOnce-split, StandsOnce-join}
+use Rattle.plan_ir.specs.declared.expr.AExpr.{AExpr}
+use Rattle.plan_ir.specs.Parts.{expr_shape}
+use Rattle.plan_prune.specs.Prunes.{StandExprs, TakePlace}
+
+module _ (ex : List AExpr) where
+  -- equal lists of numbers
+  pub place_same : (ns : List Node) → TakePlace ex ns ns
+  place_same ns before after h = h
+
+  pub place_equal : (new old : List Node) → new ≡ old → TakePlace ex new old
+  place_equal new old e before after h = rw e h
+
+  -- one change after another
+  pub place_trans : (new mid old : List Node) → TakePlace ex new mid → TakePlace ex mid old → TakePlace ex new old
+  place_trans new mid old x y before after h = x before after (y before after h)
+
+  moved : (a b : List Node) → a ≡ b → StandExprs ex a → StandExprs ex b
+  moved a b e h = subst (λ (l : List Node). StandExprs ex l) e h
+
+  -- numbers behind others that stay
+  pub place_behind : (ns new old : List Node) → TakePlace ex new old → TakePlace ex (ns ++ new) (ns ++ old)
+  place_behind ns new old x before after h =
+      moved ((before ++ ns) ++ (new ++ after)) (before ++ ((ns ++ new) ++ after)) (append_assoc before ns (new ++ after) ∙ ap (λ (l : List Node). before ++ l) (sym (append_assoc ns new after)))
+      (x (before ++ ns) after
+      (moved (before ++ ((ns ++ old) ++ after)) ((before ++ ns) ++ (old ++ after)) (ap (λ (l : List Node). before ++ l) (append_assoc ns old after) ∙ sym (append_assoc before ns (old ++ after))) h))
+
+  -- numbers before others that stay
+  pub place_before : (ns new old : List Node) → TakePlace ex new old → TakePlace ex (new ++ ns) (old ++ ns)
+  place_before ns new old x before after h =
+      moved (before ++ (new ++ (ns ++ after))) (before ++ ((new ++ ns) ++ after)) (ap (λ (l : List Node). before ++ l) (sym (append_assoc new ns after)))
+      (x before (ns ++ after)
+      (moved (before ++ ((old ++ ns) ++ after)) (before ++ (old ++ (ns ++ after))) (ap (λ (l : List Node). before ++ l) (append_assoc old ns after)) h))
+
+  -- numbers one after the other
+  pub place_both : (new old new' old' : List Node) → TakePlace ex new old → TakePlace ex new' old' → TakePlace ex (new ++ new') (old ++ old')
+  place_both new old new' old' x y =
+      place_trans (new ++ new') (new ++ old') (old ++ old') (place_behind new new' old' y) (place_before old' new old x)
+
+  -- numbers left out of the front
+  stand_rest : (ns after : List Node) → StandExprs ex (ns ++ after) → StandExprs ex after
+  stand_rest ns after h = let s = StandsOnce-split expr_shape ex ns after h.0 h.1 in (s.right, s.second)
+
+  -- numbers left out
+  pub place_without : (ns : List Node) → TakePlace ex [] ns
+  place_without ns before after h =
+      let s = StandsOnce-split expr_shape ex before (ns ++ after) h.0 h.1 in
+      let r = StandsOnce-split expr_shape ex ns after s.right s.second in
+      let apart : Apart s.left r.right = λ k a b. s.apart k a (subst (λ (t : Trees AExpr). Reaches t k) (sym r.is) (join-right expr_shape r.left r.right k b)) in
+      (join s.left r.right, StandsOnce-join expr_shape ex before after s.left r.right s.first r.second apart)
+
+  -- numbers that change places
+  pub place_swapped : (ns ms : List Node) → TakePlace ex (ms ++ ns) (ns ++ ms)
+  place_swapped ns ms before after h =
+      let s = StandsOnce-split expr_shape ex before ((ns ++ ms) ++ after) h.0 h.1 in
+      let r = StandsOnce-split expr_shape ex (ns ++ ms) after s.right s.second in
+      let q = StandsOnce-split expr_shape ex ns ms r.left r.first in
+      let turned : Apart q.right q.left = λ k a b. q.apart k b a in
+      let inner = StandsOnce-join expr_shape ex ms ns q.right q.left q.second q.first turned in
+      let back : (k : ℕ) → Reaches (join q.right q.left) k → Reaches r.left k = λ k a. subst (λ (t : Trees AExpr). Reaches t k) (sym q.is) (elim (Reaches-join expr_shape q.right q.left k a) as (λ _. Reaches (join q.left q.right) k) [ inl u ↦ join-right expr_shape q.left q.right k u | inr v ↦ join-left expr_shape q.left q.right k v ]) in
+      let apart : Apart (join q.right q.left) r.right = λ k a b. r.apart k (back k a) b in
+      let outer = StandsOnce-join expr_shape ex (ms ++ ns) after (join q.right q.left) r.right inner r.second apart in
+      let beside : Apart s.left (join (join q.right q.left) r.right) = λ k a b. s.apart k a (subst (λ (t : Trees AExpr). Reaches t k) (sym r.is) (elim (Reaches-join expr_shape (join q.right q.left) r.right k b) as (λ _. Reaches (join r.left r.right) k) [ inl u ↦ join-left expr_shape r.left r.right k (back k u) | inr v ↦ join-right expr_shape r.left r.right k v ])) in
+      (join s.left (join (join q.right q.left) r.right), StandsOnce-join expr_shape ex before ((ms ++ ns) ++ after) s.left (join (join q.right q.left) r.right) s.first outer beside)

@@ -1,0 +1,115 @@
+//! What pruning reads of expressions: the names of their columns, whether they are scalar, and which of them are asked.
+ghost use Rattle.std.specs.Prelude.{◌≡◌, All, IfOk, OnOk};
+ghost use Rattle.plan_core.specs.Names.{with_names};
+ghost use Rattle.plan_ir.specs.Parts.{IsExpr};
+ghost use Rattle.plan_ir.specs.Plans.{all_named_at, expr_at};
+ghost use Rattle.plan_meaning.specs.Exprs.{leaves, is_scalar as scalar};
+ghost use Rattle.plan_meaning.specs.Steps.{all_scalar as are_scalar};
+ghost use Rattle.plan_meaning.specs.Asked.{all_leaves};
+ghost use Rattle.plan_prune.specs.Kept.{asked_exprs as exprs_asked, names_at, with_typed as columns_with};
+
+use plan_core::{Arena, Items, Names, Node, PlSmallStr, Schema, TryClone};
+use plan_ir::{AExpr, ExprIR};
+use plan_meaning::output_name;
+use std::alloc::{AllocError, Global};
+
+/// Adds the names of the columns of an expression, in walk order.
+pub fn add_names(names: &mut Names, node: Node, ex: &Arena<AExpr>) -> Result<(), AllocError>
+    requires { IsExpr ex.now node }
+    ensures { OnOk result (names.new ≡ with_names names.old (leaves (expr_at ex.now node))) }
+{
+    match ex.get(node) {
+        AExpr::Column(name) => {
+            let _ = names.add(name.as_str())?;
+            Ok(())
+        }
+        AExpr::Literal(_) => Ok(()),
+        AExpr::Alias(input, _) => {
+            add_names(names, *input, ex)?;
+            Ok(())
+        }
+        AExpr::BinaryExpr { left, right, .. } => {
+            add_names(names, *left, ex)?;
+            add_names(names, *right, ex)?;
+            Ok(())
+        }
+    }
+}
+
+/// Adds the names of the columns of the expressions, in walk order.
+pub fn add_all_names(
+    names: &mut Names,
+    exprs: &[ExprIR],
+    ex: &Arena<AExpr>,
+) -> Result<(), AllocError>
+    requires { All (λ e. IsExpr ex.now e.node) exprs.now }
+    ensures { OnOk result (names.new ≡ with_names names.old (all_leaves (all_named_at ex.now exprs.now))) }
+{
+    for expr in exprs {
+        add_names(names, expr.node, ex)?;
+    }
+    Ok(())
+}
+
+/// Whether the expression is scalar: no column is in it.
+pub fn is_scalar(node: Node, ex: &Arena<AExpr>) -> bool
+    requires { IsExpr ex.now node }
+    ensures { result ≡ scalar (expr_at ex.now node) }
+{
+    match ex.get(node) {
+        AExpr::Column(_) => false,
+        AExpr::Literal(_) => true,
+        AExpr::Alias(input, _) => is_scalar(*input, ex),
+        AExpr::BinaryExpr { left, right, .. } => is_scalar(*left, ex) && is_scalar(*right, ex),
+    }
+}
+
+/// Whether the expressions are scalar throughout.
+pub fn all_scalar(exprs: &[ExprIR], ex: &Arena<AExpr>) -> bool
+    requires { All (λ e. IsExpr ex.now e.node) exprs.now }
+    ensures { result ≡ are_scalar (all_named_at ex.now exprs.now) }
+{
+    for expr in exprs {
+        if !is_scalar(expr.node, ex) {
+            return false;
+        }
+    }
+    true
+}
+
+/// The expressions that are asked, in their order.
+pub fn asked_exprs(
+    alloc: Global,
+    exprs: &[ExprIR],
+    asked: &Names,
+) -> Result<Items<ExprIR>, AllocError>
+    ensures { IfOk result (λ kept. kept ≡ exprs_asked asked.now exprs.now) }
+{
+    let mut kept = Items::new(alloc);
+    for expr in exprs {
+        if asked.contains(output_name(&expr.output_name)) {
+            kept.push(expr.try_clone(alloc)?)?;
+        }
+    }
+    Ok(kept)
+}
+
+/// The columns, and those that the expressions make beside them: each in the place of the one of its name, or last, with its
+/// type in the schema; one that the schema lacks is left out.
+pub fn with_typed(
+    alloc: Global,
+    base: Schema,
+    exprs: &[ExprIR],
+    schema: &Schema,
+) -> Result<Schema, AllocError>
+    ensures { IfOk result (λ columns. columns ≡ columns_with base (names_at exprs.now) schema.now) }
+{
+    let mut columns = base;
+    for expr in exprs {
+        let name = output_name(&expr.output_name);
+        if let Some(dtype) = schema.get(name) {
+            let _ = columns.with_column(PlSmallStr::new(alloc, name)?, *dtype)?;
+        }
+    }
+    Ok(columns)
+}

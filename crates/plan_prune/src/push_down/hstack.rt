@@ -1,0 +1,105 @@
+//! An addition of columns keeps its asked expressions, in its own order; without any its input takes its place.
+//! It stores the columns of its pruned input, and those of the kept expressions beside them.
+//! It asks its input the asked names that this has, and then the names that the kept expressions read; keeping none it asks
+//! what it is asked. Asked nothing, it stays as it is and asks nothing.
+ghost use Rattle.std.specs.Prelude.{◌≡◌, ◌<◌, ◌≤◌, All, List, [], ◌∷◌, IfOk, OnOk, filter as filter_list, length};
+ghost use Rattle.plan_core.specs.Columns.{names_of};
+ghost use Rattle.plan_core.specs.Names.{has};
+ghost use Rattle.plan_tree.specs.Stands.{Trees, StandsOnce};
+ghost use Rattle.plan_ir.specs.declared.expr.AExpr.{AExpr};
+ghost use Rattle.plan_ir.specs.declared.ir.IR.{IR};
+ghost use Rattle.plan_ir.specs.Parts.{plan_shape, IsExpr};
+ghost use Rattle.plan_ir.specs.Plans.{all_named_at, bare, plans_at};
+ghost use Rattle.plan_meaning.specs.Typing.{first_schema};
+ghost use Rattle.plan_prune.specs.Kept.{asks_after, stacked_at, with_stacked};
+ghost use Rattle.plan_prune.specs.Stored.{stored_all};
+
+use crate::push_down::exprs::{add_all_names, asked_exprs, with_typed};
+use crate::push_down::stored::stored;
+use plan_core::{Arena, Items, Names, Node, ProjectionOptions, Schema, TryClone};
+use plan_ir::{AExpr, ExprIR, IR};
+use std::alloc::{AllocError, Global};
+
+/// The expressions that an addition keeps.
+pub fn keep(
+    alloc: Global,
+    exprs: Items<ExprIR>,
+    asked: &Names,
+) -> Result<Items<ExprIR>, AllocError>
+    ensures { IfOk result (λ kept. kept ≡ stacked_at asked.now exprs) }
+{
+    if asked.len() == 0 {
+        return Ok(exprs);
+    }
+    Ok(asked_exprs(alloc, exprs.as_slice(), asked)?)
+}
+
+/// The names that are columns, in their order.
+fn known(alloc: Global, names: &Names, columns: &Schema) -> Result<Names, AllocError>
+    ensures { IfOk result (λ known. known ≡ filter_list (has (names_of columns.now)) names.now) }
+{
+    let mut known = Names::new(alloc);
+    for i in 0..names.len() {
+        if let Some(name) = names.get_at_index(i) {
+            if columns.get(name).is_some() {
+                let _ = known.add(name)?;
+            }
+        }
+    }
+    Ok(known)
+}
+
+/// What an addition asks that keeps these expressions, over an input of these columns.
+pub fn asks(
+    alloc: Global,
+    asked: Names,
+    exprs: &[ExprIR],
+    columns: &Schema,
+    ex: &Arena<AExpr>,
+) -> Result<Names, AllocError>
+    requires { All (λ e. IsExpr ex.now e.node) exprs.now }
+    ensures { IfOk result (λ names. names ≡ asks_after asked (all_named_at ex.now exprs.now) columns.now) }
+{
+    if asked.len() == 0 {
+        return Ok(asked);
+    }
+    if exprs.len() == 0 {
+        return Ok(asked);
+    }
+    let mut names = known(alloc, &asked, columns)?;
+    add_all_names(&mut names, exprs, ex)?;
+    Ok(names)
+}
+
+/// Puts an addition of these expressions at `node`, over the pruned input; where names are asked, over its columns, and
+/// without expressions what stands at its number. Refuses for want of memory alone, and then nothing is known of what
+/// stands at `node`.
+pub fn put(
+    alloc: Global,
+    node: Node,
+    input: Node,
+    is_asked: bool,
+    exprs: Items<ExprIR>,
+    schema: Schema,
+    options: ProjectionOptions,
+    lp: &mut Arena<IR>,
+) -> Result<(), AllocError>
+    requires node { node.0 < length lp.old }
+    requires input { (t : Trees IR) × StandsOnce plan_shape lp.old (input ∷ []) t }
+    ensures placed { OnOk result ((ex : List AExpr) → lp.new ≡ with_stacked is_asked lp.old node input exprs schema options (first_schema (stored_all (bare (plans_at lp.old ex (input ∷ []))))))}
+    ensures grows { length lp.old ≤ length lp.new }
+{
+    if !is_asked {
+        lp.put(node, IR::HStack { input, exprs, schema, options });
+        return Ok(());
+    }
+    if exprs.len() == 0 {
+        let entry = lp.take(input);
+        lp.put(node, entry);
+        return Ok(());
+    }
+    let base = stored(input, lp).try_clone(alloc)?;
+    let schema = with_typed(alloc, base, exprs.as_slice(), &schema)?;
+    lp.put(node, IR::HStack { input, exprs, schema, options });
+    Ok(())
+}

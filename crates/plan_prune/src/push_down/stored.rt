@@ -1,0 +1,47 @@
+//! The columns that the plan at a number says it has: those that its node stores, else those of its input.
+ghost use Rattle.std.specs.Prelude.{◌≡◌, List, [], ◌∷◌};
+ghost use Rattle.plan_tree.specs.Stands.{Trees, StandsOnce};
+ghost use Rattle.plan_ir.specs.declared.expr.AExpr.{AExpr};
+ghost use Rattle.plan_ir.specs.declared.ir.IR.{IR};
+ghost use Rattle.plan_ir.specs.Parts.{plan_shape};
+ghost use Rattle.plan_ir.specs.Plans.{bare, plans_at};
+ghost use Rattle.plan_meaning.specs.Typing.{columns_or, first_schema};
+ghost use Rattle.plan_prune.specs.Stored.{stored_all};
+
+use plan_core::{Arena, Node, Schema};
+use plan_ir::IR;
+
+/// The columns that are told, else the others.
+fn told<'a>(output: &'a Option<Schema>, columns: &'a Schema) -> &'a Schema
+    ensures { result.now ≡ columns_or output.now columns.now }
+{
+    match output {
+        Some(told) => told,
+        None => columns,
+    }
+}
+
+/// The columns that the plan at a number says it has.
+pub fn stored(node: Node, lp: &Arena<IR>) -> &Schema
+    requires { (t : Trees IR) × StandsOnce plan_shape lp.now (node ∷ []) t }
+    ensures { (ex : List AExpr) → result.now ≡ first_schema (stored_all (bare (plans_at lp.now ex (node ∷ [])))) }
+{
+    match lp.get(node) {
+        IR::Slice { input, .. } => stored(*input, lp),
+        IR::Filter { input, .. } => stored(*input, lp),
+        IR::Scan {
+            output_schema,
+            file_info,
+            ..
+        } => told(output_schema, &file_info.schema),
+        IR::DataFrameScan {
+            output_schema,
+            schema,
+            ..
+        } => told(output_schema, schema),
+        IR::SimpleProjection { columns, .. } => columns,
+        IR::Select { schema, .. } => schema,
+        IR::HStack { schema, .. } => schema,
+        IR::Invalid => unreachable!(),
+    }
+}
