@@ -7,6 +7,7 @@ pub mod PlaceLemmas
 pub mod KeptLemmas
 mod ExprWalks
 mod StoredLemmas
+mod HStackPruned
 pub mod AskedNames
 pub mod ProjectionNarrows
 pub mod ScanNarrows
