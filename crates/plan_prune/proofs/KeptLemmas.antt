@@ -196,6 +196,6 @@ module _ (ex : List AExpr) where
 
 -- an addition is put with its columns
 pub stacked_put : (b : Bool) (lp : List IR) (n i : Node) (es : List ExprIR) (schema cs s : Columns) (options : ProjectionOptions) → b ≡ true → (length es ≡ 0 → ⊥) → cs ≡ with_typed s (names_at es) schema → slice_set lp n.0 (HStack i es cs options) ≡ with_stacked b lp n i es schema options s
-stacked_put false lp n i es schema cs s options yes some is = cc
-stacked_put true lp n i [] schema cs s options yes some is = absurd (some refl)
-stacked_put true lp n i (e ∷ es) schema cs s options yes some is = ap (λ (t : Columns). slice_set lp n.0 (HStack i (e ∷ es) t options)) is
+stacked_put false lp n i es schema cs s options on some is = cc
+stacked_put true lp n i [] schema cs s options on some is = absurd (some refl)
+stacked_put true lp n i (e ∷ es) schema cs s options on some is = ap (λ (t : Columns). slice_set lp n.0 (HStack i (e ∷ es) t options)) is

@@ -7,6 +7,7 @@ pub mod PlaceLemmas
 pub mod KeptLemmas
 mod ExprWalks
 mod StoredNodes
+mod HStackPruned
 pub mod StoredLemmas
 pub mod AskedNames
 pub mod ProjectionNarrows

@@ -136,9 +136,9 @@ moves_up top asked names a b c ex n i p q d m t h e taken one entry asks_is buil
     })
 
 -- what stands at the input of a node, once the node is taken, and once the input is pruned
-pub stands_below : (a b : List IR) (ex : List AExpr) (n i : Node) (p d : IR) → IsPlan a ex n → slice_get a n.0 ≡ Some p → b ≡ slice_set a n.0 d → inputs_of p ≡ i ∷ [] → (t : Trees IR) × StandsOnce plan_shape b (i ∷ []) t
-stands_below a b ex n i p d h e taken one =
-    let o = opened plan_shape a n p h.nodes h.stands.nodes e in
+pub stands_taken : (a b : List IR) (n i : Node) (p d : IR) (t : Trees IR) → StandsOnce plan_shape a (n ∷ []) t → slice_get a n.0 ≡ Some p → b ≡ slice_set a n.0 d → inputs_of p ≡ i ∷ [] → (u : Trees IR) × StandsOnce plan_shape b (i ∷ []) u
+stands_taken a b n i p d t h e taken one =
+    let o = opened plan_shape a n p t h e in
     let under : StandsOnce plan_shape b (inputs_of p) o.kids = rw taken (StandsOnce-set plan_shape a (inputs_of p) o.kids n.0 d o.inputs o.above) in
     (o.kids, subst (λ (ns : List Node). StandsOnce plan_shape b ns o.kids) one under)
 

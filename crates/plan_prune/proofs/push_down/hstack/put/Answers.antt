@@ -1,14 +1,18 @@
-use Rattle.std.proofs.Common.{◌∙◌, ap, arith, List, []}
+use Rattle.std.proofs.Common.{◌∙◌, ap, arith, List, [], ◌∷◌}
 use Rattle.plan_core.specs.Columns.{Columns}
 use Rattle.plan_ir.specs.declared.expr.ExprIR.{ExprIR}
+use Rattle.plan_ir.specs.Plans.{bare, plans_at}
+use Rattle.plan_meaning.specs.Typing.{first_schema}
+use Rattle.plan_prune.specs.Stored.{stored_all}
 use Rattle.plan_prune.specs.Kept.{names_at, with_typed}
 use Rattle.plan_prune.proofs.KeptLemmas.{stacked_put}
 use Rattle.plan_prune.proofs.push_down.hstack.put.Goals as goal
 
 pub returns-clause-placed : goal.returns-clause-placed
 returns-clause-placed c = λ ex.
+    let s : Columns = first_schema (stored_all (bare (plans_at c.args.lp.now ex (c.args.input ∷ [])))) in
     c.put-2.ensures
-    ∙ stacked_put c.args.is_asked c.args.lp.now c.args.node c.args.input c.args.exprs c.args.schema c.in_ok-schema.schema _ c.args.options c.if-not-is_asked.false (λ z. omega (arith, z, c.len.ensures, c.if-len-eq0.false))
+    ∙ stacked_put c.args.is_asked c.args.lp.now c.args.node c.args.input c.args.exprs c.args.schema c.in_ok-schema.schema s c.args.options c.if-not-is_asked.false (λ z. omega (arith, z, c.len.ensures, c.if-len-eq0.false))
       (c.in_ok-schema.ensures
-      ∙ ap (λ (s : Columns). with_typed s (names_at c.as_slice.result.now) c.args.schema) (c.in_ok-base.ensures ∙ c.stored.ensures ex)
-      ∙ ap (λ (l : List ExprIR). with_typed _ (names_at l) c.args.schema) c.as_slice.ensures)
+      ∙ ap (λ (t : Columns). with_typed t (names_at c.as_slice.result.now) c.args.schema) (c.in_ok-base.ensures ∙ c.stored.ensures ex)
+      ∙ ap (λ (l : List ExprIR). with_typed s (names_at l) c.args.schema) c.as_slice.ensures)
