@@ -3,7 +3,7 @@ use Rattle.plan_ir.specs.Plans.{bare, plans_at}
 use Rattle.plan_meaning.specs.Exprs.{Name}
 use Rattle.plan_prune.specs.Prunes.{Prunes}
 use Rattle.plan_prune.proofs.PruneLemmas.{pruned_is, pruned_stands}
-use Rattle.plan_prune.proofs.PlanPruned.{refines_at, reads_at, nodes_at}
+use Rattle.plan_prune.proofs.PlanPruned.{refines_at, reads_at, nodes_at, work_at}
 use Rattle.plan_prune.proofs.push_down.ProjectionPushDown.optimize.Goals as goal
 
 pub returns-clause-pruned : goal.returns-clause-pruned
@@ -26,3 +26,6 @@ returns-clause-reads c = λ v. reads_at (not c.args.self.now.is_count_star) (bar
 
 pub returns-clause-nodes : goal.returns-clause-nodes
 returns-clause-nodes c = λ v. nodes_at (not c.args.self.now.is_count_star) (bare (plans_at c.args.lp.now c.args.ex.now (c.args.root ∷ []))) (bare (plans_at c.push_down.new.lp c.args.ex.now (c.args.root ∷ []))) (returns-clause-pruned c) v
+
+pub returns-clause-work : goal.returns-clause-work
+returns-clause-work c = λ v. work_at (not c.args.self.now.is_count_star) (bare (plans_at c.args.lp.now c.args.ex.now (c.args.root ∷ []))) (bare (plans_at c.push_down.new.lp c.args.ex.now (c.args.root ∷ []))) (returns-clause-pruned c) v
