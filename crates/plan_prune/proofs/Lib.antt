@@ -6,7 +6,7 @@ mod AddedNames
 pub mod PlaceLemmas
 pub mod KeptLemmas
 mod ExprWalks
-mod StoredLemmas
+mod StoredNodes
 mod HStackPruned
 pub mod AskedNames
 pub mod ProjectionNarrows

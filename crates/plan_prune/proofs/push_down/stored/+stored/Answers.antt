@@ -2,7 +2,7 @@ use Rattle.std.proofs.Common.{◌∙◌, ap, refl, arith, Some}
 use Rattle.plan_ir.specs.declared.ir.IR.TheVariants.{Slice, Filter, Scan, DataFrameScan, SimpleProjection, Select, HStack}
 use Rattle.plan_ir.specs.Parts.{plan_shape}
 use Rattle.plan_tree.proofs.TreeLemmas.{height-falls, StandsOnce-input}
-use Rattle.plan_prune.proofs.StoredLemmas.{stored_open}
+use Rattle.plan_prune.proofs.StoredNodes.{stored_open}
 use Rattle.plan_prune.proofs.push_down.stored.+stored.Goals as goal
 
 pub stored-requires : goal.stored-requires
