@@ -1,5 +1,5 @@
 -- What walks over expressions find, one after another: their names, whether they are scalar, and the columns that they make.
-use Rattle.std.proofs.Common.{◌≡◌, ◌<◌, All, get_or, length, subst, ℕ, zero, suc, ◌+◌, ◌&&◌, Bool, true, false, cond, List, [], ◌∷◌, ◌++◌, take, map, Option, Some, None, option_map, refl, sym, ap, ◌∙◌, add-one, append-nil}
+use Rattle.std.proofs.Common.{◌≡◌, ◌<◌, All, get_or, length, subst, ℕ, zero, suc, ◌+◌, ◌&&◌, Bool, true, false, cond, List, [], ◌∷◌, ◌++◌, take, Option, Some, None, option_map, refl, sym, ap, ◌∙◌, add-one, append-nil}
 use Rattle.std.specs.List.{slice_get, filter, cons_option}
 use Rattle.std.proofs.lemmas.List.Elements.{All-get_or, filter-append}
 use Rattle.std.proofs.lemmas.Option.{slice_get-get_or}
@@ -13,7 +13,7 @@ use Rattle.plan_ir.specs.declared.expr.ExprIR.{ExprIR}
 use Rattle.plan_ir.specs.declared.expr.LiteralValue.{LiteralValue}
 use Rattle.plan_ir.specs.declared.expr.Operator.{Operator}
 use Rattle.plan_ir.specs.Parts.{IsExpr}
-use Rattle.plan_ir.specs.Plans.{Expr, expr_at, all_named_at}
+use Rattle.plan_ir.specs.Plans.{expr_at, all_named_at}
 use Rattle.plan_ir.proofs.ExprLemmas.{expr_open}
 use Rattle.plan_meaning.specs.Exprs.{Name, leaves, name_of, is_scalar}
 use Rattle.plan_meaning.specs.Steps.{all_scalar}

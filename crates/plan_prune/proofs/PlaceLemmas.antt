@@ -2,7 +2,7 @@
 use Rattle.std.proofs.Common.{◌≡◌, ℕ, List, [], ◌++◌, sym, ap, ◌∙◌, inl, inr, subst, append_assoc}
 use Rattle.plan_core.specs.declared.arena.Node.{Node}
 use Rattle.plan_tree.specs.Rose.{join}
-use Rattle.plan_tree.specs.Stands.{Trees, Reaches, Apart, StandsOnce}
+use Rattle.plan_tree.specs.Stands.{Trees, Reaches, Apart}
 use Rattle.plan_tree.proofs.Frames.{join-left, join-right, Reaches-join}
 use Rattle.plan_tree.proofs.SplitLemmas.{StandsOnce-split, StandsOnce-join}
 use Rattle.plan_ir.specs.declared.expr.AExpr.{AExpr}

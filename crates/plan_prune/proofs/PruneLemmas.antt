@@ -118,7 +118,7 @@ moves_up top asked names a b c ex n i p q d m t h e taken one entry asks_is buil
     let whole : Trees IR = more (rose n p o.kids) no_roses in
     let long : length b ≡ length a = rw taken (length-set a n.0 d) in
     let reached : (k : ℕ) → Reaches (more (rose i q y.kids) no_roses) k → Reaches o.kids k ⊎ (length a ≤ k) = λ k r.
-      elim (x.rewrites.within k (subst (λ (u : Trees IR). Reaches u k) (sym y.is) r)) as (λ _. Reaches o.kids k ⊎ (length a ≤ k)) [ inl u ↦ inl u | inr v ↦ inr (omega (arith, long)) ] in
+    elim (x.rewrites.within k (subst (λ (u : Trees IR). Reaches u k) (sym y.is) r)) as (λ _. Reaches o.kids k ⊎ (length a ≤ k)) [ inl u ↦ inl u | inr v ↦ inr (omega (arith, long)) ] in
     let up : Keeps a c whole = Keeps-trans plan_shape a b c whole o.kids (rw taken (Keeps-set plan_shape a n.0 d whole (inl refl))) x.rewrites.keeps (λ k r. inl (inr (inl r))) in
     let keeps : Keeps a (slice_set c i.0 m) whole = Keeps-trans plan_shape a c (slice_set c i.0 m) whole (more (rose i q y.kids) no_roses) up (Keeps-set plan_shape c i.0 m (more (rose i q y.kids) no_roses) (inl refl)) (λ k r. elim (reached k r) as (λ _. Reaches whole k ⊎ (length a ≤ k)) [ inl u ↦ inl (inr (inl u)) | inr v ↦ inr v ]) in
     let there : TakePlace ex (roots_of q ++ (roots_in y.kids ++ [])) (roots_in o.kids) = subst (λ (u : Trees IR). TakePlace ex (roots_in u) (roots_in o.kids)) y.is x.exprs in

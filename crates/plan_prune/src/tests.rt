@@ -82,10 +82,7 @@ fn aliases(
             column => ex.add(AExpr::Column(PlSmallStr::new(alloc, column)?))?,
         };
         let root = ex.add(AExpr::Alias(input, PlSmallStr::new(alloc, *name)?))?;
-        exprs.push(ExprIR::new(
-            root,
-            OutputName::Alias(PlSmallStr::new(alloc, *name)?),
-        ))?;
+        exprs.push(ExprIR::new(root, OutputName::Alias(PlSmallStr::new(alloc, *name)?)))?;
     }
     Ok(exprs)
 }
@@ -299,7 +296,10 @@ fn a_plan_asked_for_everything_stays(rt: HostRuntime) -> Result<(), Fail> {
     let mut ex = Arena::new(alloc);
     let node = scan(alloc, &mut lp)?;
     let root = filter(alloc, node, "b", &mut lp, &mut ex)?;
-    assert_eq!(rt; pruned(alloc, root, false, &mut lp, &ex)?.as_str(), "Filter; Scan");
+    assert_eq!(rt;
+        pruned(alloc, root, false, &mut lp, &ex)?.as_str(),
+        "Filter; Scan"
+    );
     assert_eq!(rt; lp.len(), 2);
     Ok(())
 }
@@ -328,7 +328,10 @@ fn a_selection_of_a_literal_reads_all(rt: HostRuntime) -> Result<(), Fail> {
     let mut ex = Arena::new(alloc);
     let node = scan(alloc, &mut lp)?;
     let root = select(alloc, node, &[("x", "1")], &["x"], &mut lp, &mut ex)?;
-    assert_eq!(rt; pruned(alloc, root, false, &mut lp, &ex)?.as_str(), "Select x of x; Scan");
+    assert_eq!(rt;
+        pruned(alloc, root, false, &mut lp, &ex)?.as_str(),
+        "Select x of x; Scan"
+    );
     Ok(())
 }
 

@@ -21,11 +21,7 @@ use plan_ir::{AExpr, ExprIR, IR};
 use std::alloc::{AllocError, Global};
 
 /// The expressions that an addition keeps.
-pub fn keep(
-    alloc: Global,
-    exprs: Items<ExprIR>,
-    asked: &Names,
-) -> Result<Items<ExprIR>, AllocError>
+pub fn keep(alloc: Global, exprs: Items<ExprIR>, asked: &Names) -> Result<Items<ExprIR>, AllocError>
     ensures { IfOk result (λ kept. kept ≡ stacked_at asked.now exprs) }
 {
     if asked.len() == 0 {
@@ -86,11 +82,19 @@ pub fn put(
 ) -> Result<(), AllocError>
     requires node { node.0 < length lp.old }
     requires input { (t : Trees IR) × StandsOnce plan_shape lp.old (input ∷ []) t }
-    ensures placed { OnOk result ((ex : List AExpr) → lp.new ≡ with_stacked is_asked lp.old node input exprs schema options (first_schema (stored_all (bare (plans_at lp.old ex (input ∷ []))))))}
+    ensures placed { OnOk result ((ex : List AExpr) → lp.new ≡ with_stacked is_asked lp.old node input exprs schema options (first_schema (stored_all (bare (plans_at lp.old ex (input ∷ [])))))) }
     ensures grows { length lp.old ≤ length lp.new }
 {
     if !is_asked {
-        lp.put(node, IR::HStack { input, exprs, schema, options });
+        lp.put(
+            node,
+            IR::HStack {
+                input,
+                exprs,
+                schema,
+                options,
+            },
+        );
         return Ok(());
     }
     if exprs.len() == 0 {
@@ -100,6 +104,14 @@ pub fn put(
     }
     let base = stored(input, lp).try_clone(alloc)?;
     let schema = with_typed(alloc, base, exprs.as_slice(), &schema)?;
-    lp.put(node, IR::HStack { input, exprs, schema, options });
+    lp.put(
+        node,
+        IR::HStack {
+            input,
+            exprs,
+            schema,
+            options,
+        },
+    );
     Ok(())
 }

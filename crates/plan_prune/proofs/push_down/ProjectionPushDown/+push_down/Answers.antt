@@ -110,7 +110,7 @@ returns-in_ok-push_down-in-Select-clause-prunes t c = λ t' h.
     ∙ ap (λ (l : List ExprIR). with_names [] (all_leaves (all_named_at c.args.ex.now l))) (c.as_slice-in-Select.ensures ∙ kept)
     ∙ ap (λ (l : List Named). with_names [] (all_leaves l)) (selected_named c.args.ex.now c.args.asked c.in-Select.expr))
     (select_built c.args.ex.now c.args.asked c.in-Select.expr c.in_ok-expr-in-Select.expr c.in-Select.schema c.in_ok-schema-in-Select.schema c.in-Select.options (bare (plans_at c.push_down-in-Select.new.lp c.args.ex.now (c.in-Select.input ∷ []))) kept
-      (c.in_ok-schema-in-Select.ensures ∙ ap (λ (l : List ExprIR). stored_after (is_some_name c.args.asked) [] (names_at l) c.in-Select.schema) c.as_slice.ensures))
+    (c.in_ok-schema-in-Select.ensures ∙ ap (λ (l : List ExprIR). stored_after (is_some_name c.args.asked) [] (names_at l) c.in-Select.schema) c.as_slice.ensures))
     c.in_ok-push_down-in-Select.ensures.prunes)
 
 -- HStack

@@ -1,4 +1,4 @@
-use Rattle.std.proofs.Common.{◌≡◌, ◌∙◌, sym}
+use Rattle.std.proofs.Common.{◌∙◌, sym}
 use Rattle.plan_prune.proofs.ExprWalks.{stands_here, item_here, scalars-next, scalars-bad}
 use Rattle.plan_prune.proofs.push_down.exprs.all_scalar.Goals as goal
 
