@@ -53,34 +53,34 @@ same_word words w text b is eq = go b refl
     )
 
 -- the text of a fault was written, or a front of it
-pub told : (limit : ℕ) (c : Call) (bytes text : List ℕ) (fault : PolarsError) (result : Status) → IsCommand c.words → IsReadWhole c → IfSome c.given (λ all. bytes ≡ all) → length bytes ≤ limit → Refuses bytes fault → text ≡ error_text fault → Finishes text c.held c.holds c.clean c.write_faults c.write_faults_now answers.Refused result → Comes limit c result
+pub told : (limit : ℕ) (c : Call) (bytes text : List ℕ) (fault : PolarsError) (result : Status) → IsCommand c.words → IsReadWhole c → IfSome c.given (λ read. bytes ≡ read) → length bytes ≤ limit → Refuses bytes fault → text ≡ error_text fault → Finishes text c.held c.holds c.clean c.write_faults c.write_faults_now answers.Refused result → Comes limit c result
 told limit c bytes text fault result command end whole small refuses is (inl f) =
     subst (Comes limit c) (sym f.is) (command, (f.flushed, f.unfailed), end, some c.given whole)
   where
-    some : (o : Option (List ℕ)) → IfSome o (λ all. bytes ≡ all) → IfSome o (Told limit c)
+    some : (o : Option (List ℕ)) → IfSome o (λ read. bytes ≡ read) → IfSome o (Told limit c)
     some None h = tt
-    some (Some all) h = subst (Told limit c) h (record { small = small; fault = fault; refuses = refuses; written = subst (Appends c.held c.holds) is f.written })
+    some (Some read) h = subst (Told limit c) h (record { small = small; fault = fault; refuses = refuses; written = subst (Appends c.held c.holds) is f.written })
 told limit c bytes text fault result command end whole small refuses is (inr b) =
     subst (Comes limit c) (sym b.is) (command, b.cause, end, some c.given whole)
   where
-    some : (o : Option (List ℕ)) → IfSome o (λ all. bytes ≡ all) → IfSome o (Cut limit c)
+    some : (o : Option (List ℕ)) → IfSome o (λ read. bytes ≡ read) → IfSome o (Cut limit c)
     some None h = tt
-    some (Some all) h = subst (Cut limit c) h (record { small = small; text = text; says = inr (fault, refuses, is); written = b.written })
+    some (Some read) h = subst (Cut limit c) h (record { small = small; text = text; says = inr (fault, refuses, is); written = b.written })
 
 -- a listing was written, or a front of it
-pub listed : (limit : ℕ) (c : Call) (bytes text : List ℕ) (result : Status) → IsCommand c.words → IsReadWhole c → IfSome c.given (λ all. bytes ≡ all) → length bytes ≤ limit → Lists bytes text → Finishes text c.held c.holds c.clean c.write_faults c.write_faults_now answers.Done result → Comes limit c result
+pub listed : (limit : ℕ) (c : Call) (bytes text : List ℕ) (result : Status) → IsCommand c.words → IsReadWhole c → IfSome c.given (λ read. bytes ≡ read) → length bytes ≤ limit → Lists bytes text → Finishes text c.held c.holds c.clean c.write_faults c.write_faults_now answers.Done result → Comes limit c result
 listed limit c bytes text result command end whole small lists (inl f) =
     subst (Comes limit c) (sym f.is) (command, (f.flushed, f.unfailed), end, some c.given whole)
   where
-    some : (o : Option (List ℕ)) → IfSome o (λ all. bytes ≡ all) → IfSome o (Listed limit c)
+    some : (o : Option (List ℕ)) → IfSome o (λ read. bytes ≡ read) → IfSome o (Listed limit c)
     some None h = tt
-    some (Some all) h = subst (Listed limit c) h (record { small = small; text = text; lists = lists; written = f.written })
+    some (Some read) h = subst (Listed limit c) h (record { small = small; text = text; lists = lists; written = f.written })
 listed limit c bytes text result command end whole small lists (inr b) =
     subst (Comes limit c) (sym b.is) (command, b.cause, end, some c.given whole)
   where
-    some : (o : Option (List ℕ)) → IfSome o (λ all. bytes ≡ all) → IfSome o (Cut limit c)
+    some : (o : Option (List ℕ)) → IfSome o (λ read. bytes ≡ read) → IfSome o (Cut limit c)
     some None h = tt
-    some (Some all) h = subst (Cut limit c) h (record { small = small; text = text; says = inl lists; written = b.written })
+    some (Some read) h = subst (Cut limit c) h (record { small = small; text = text; says = inl lists; written = b.written })
 
 -- a valid plan is an answer to itself where pushdown isn't asked
 pub given_answer : (flags : OptFlags) (p : Plan) → IsValid p → has_bits (bits_of flags) pushdown_bit ≡ false → IsAnswer flags p p
