@@ -1,5 +1,5 @@
 -- Plans worked out: what is left of a selection and of additions of columns.
-use Rattle.std.proofs.Common.{◌≡◌, true, List, [], ◌∷◌, Option, Some, None, refl, pos}
+use Rattle.std.proofs.Common.{◌≡◌, true, [], ◌∷◌, Some, None, refl, pos}
 use Rattle.std.specs.Prelude.{codes}
 use Rattle.plan_core.specs.declared.data_type.DataType.TheVariants as types
 use Rattle.plan_core.specs.declared.options.FileScanOptions.{FileScanOptions}
@@ -9,11 +9,10 @@ use Rattle.plan_tree.specs.Rose.{rose, no_roses, more}
 use Rattle.plan_ir.specs.declared.expr.LiteralValue.TheVariants as literals
 use Rattle.plan_ir.specs.declared.expr.Operator.TheVariants.{Plus}
 use Rattle.plan_ir.specs.declared.expr.OutputName.TheVariants.{Alias, ColumnLhs}
-use Rattle.plan_ir.specs.Plans.{column, literal, alias, binary, Op, simple_projection, select, hstack, Named, Plan}
+use Rattle.plan_ir.specs.Plans.{column, literal, alias, binary, simple_projection, select, hstack, Named, Plan}
 use Rattle.plan_meaning.specs.Exprs.{Name}
-use Rattle.plan_meaning.specs.Relating.{all, names}
+use Rattle.plan_meaning.specs.Relating.{names}
 use Rattle.plan_meaning.specs.Asked.{sites_of}
-use Rattle.plan_meaning.specs.Scans.{nodes}
 use Rattle.plan_meaning.specs.Work.{made, kept}
 use Rattle.plan_prune.specs.Pruned.{pruned, reading}
 use Rattle.plan_prune.proofs.Example.{columns_ab, columns_a, leaf, node, scanned}

@@ -1,24 +1,23 @@
 -- A selection that keeps what is asked narrows.
-use Rattle.std.proofs.Common.{◌≡◌, ℕ, Bool, true, false, cond, not, List, [], ◌∷◌, map, refl, sym, ap, ap₂, ◌∙◌, subst}
+use Rattle.std.proofs.Common.{◌≡◌, ℕ, Bool, true, false, cond, not, List, [], ◌∷◌, refl, sym, ap, ap₂, ◌∙◌, subst}
 use Rattle.std.specs.List.{AllByRecursion}
 use Rattle.plan_core.specs.declared.options.ProjectionOptions.{ProjectionOptions}
 use Rattle.plan_core.specs.Columns.{Columns, type_of, with_types}
 use Rattle.plan_core.specs.Names.{has, AreDistinct}
 use Rattle.plan_ir.specs.Plans.{select, Named}
 use Rattle.plan_meaning.specs.Exprs.{Name}
-use Rattle.plan_meaning.specs.Typing.{is_empty, each_new, out_names, made_column, made_schema, checks, AllHold}
+use Rattle.plan_meaning.specs.Typing.{is_empty, out_names, made_schema, checks, AllHold}
 use Rattle.plan_meaning.specs.Frames.{Frame, Column, found, with_columns, Agree}
 use Rattle.plan_meaning.specs.Steps.{all_scalar, made_columns, selected}
 use Rattle.plan_meaning.specs.Relating.{Asked, all, names, Holding, AgreeOn}
 use Rattle.plan_meaning.specs.Asked.{selected_exprs, all_leaves, Fair}
 use Rattle.plan_meaning.proofs.CheckParts.{MadeGood, made_good, good_made}
-use Rattle.plan_meaning.proofs.MadeColumns.{types_selected, columns_selected, some-made, types_new, names-made}
+use Rattle.plan_meaning.proofs.MadeColumns.{types_selected, columns_selected, some-made}
 use Rattle.plan_meaning.proofs.KeptExprs.{all_selected, distinct_selected, named_selected, selected_named, scalar-selected}
 use Rattle.plan_meaning.proofs.Fairness.{has_some}
 use Rattle.plan_prune.specs.Pruned.{typed_names}
 use Rattle.plan_prune.proofs.NarrowLemmas.{Local, one_step}
 use Rattle.plan_prune.proofs.ProjectionNarrows.{some_is}
-use Rattle.plan_prune.proofs.ScanNarrows.{new_from}
 use Rattle.plan_prune.proofs.StoredLemmas.{same_is}
 use Rattle.plan_prune.proofs.MadeNarrows.{SameLeaves, same_made, same_values, once_names, left_stored, left_made}
 
