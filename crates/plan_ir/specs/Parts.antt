@@ -62,6 +62,26 @@ is_invalid (SimpleProjection input columns) = false
 is_invalid (Select input expr schema options) = false
 is_invalid (HStack input exprs schema options) = false
 
+-- a scan of files
+abbrev pub is_file_scan : IR → Bool
+is_file_scan (Scan sources file_info predicate output_schema scan_type file_options) = true
+is_file_scan other = false
+
+-- a scan of a frame
+abbrev pub is_frame_scan : IR → Bool
+is_frame_scan (DataFrameScan df schema output_schema) = true
+is_frame_scan other = false
+
+-- a selection of columns
+abbrev pub is_select : IR → Bool
+is_select (Select input expr schema options) = true
+is_select other = false
+
+-- an addition of columns
+abbrev pub is_hstack : IR → Bool
+is_hstack (HStack input exprs schema options) = true
+is_hstack other = false
+
 -- how nodes make trees: their inputs in order; what was taken is bad
 abbrev pub plan_shape : Shape IR
 plan_shape = record { inputs = inputs_of; bad = is_invalid }

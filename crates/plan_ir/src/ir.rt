@@ -4,6 +4,7 @@ ghost use Rattle.std.specs.Prelude.{◌≡◌, IfOk};
 use crate::expr::ExprIR;
 use crate::scan::{FileInfo, FileScan, ScanSources};
 use plan_core::{FileScanOptions, Items, Node, ProjectionOptions, Schema, TryClone};
+use plan_tree::Entry;
 use std::alloc::{AllocError, Global};
 
 /// A node of a plan; it names its inputs and its expressions by their numbers.
@@ -98,67 +99,9 @@ impl TryClone for IR {
     fn try_clone(&self, alloc: Global) -> Result<Self, AllocError>
         ensures { IfOk result (λ r. r ≡ self.now) }
     {
-        match self {
-            IR::Slice { input, offset, len } => Ok(IR::Slice {
-                input: *input,
-                offset: *offset,
-                len: *len,
-            }),
-            IR::Filter { input, predicate } => Ok(IR::Filter {
-                input: *input,
-                predicate: predicate.try_clone(alloc)?,
-            }),
-            IR::Scan {
-                sources,
-                file_info,
-                predicate,
-                output_schema,
-                scan_type,
-                file_options,
-            } => Ok(IR::Scan {
-                sources: sources.try_clone(alloc)?,
-                file_info: file_info.try_clone(alloc)?,
-                predicate: predicate.try_clone(alloc)?,
-                output_schema: output_schema.try_clone(alloc)?,
-                scan_type: *scan_type,
-                file_options: file_options.try_clone(alloc)?,
-            }),
-            IR::DataFrameScan {
-                df,
-                schema,
-                output_schema,
-            } => Ok(IR::DataFrameScan {
-                df: *df,
-                schema: schema.try_clone(alloc)?,
-                output_schema: output_schema.try_clone(alloc)?,
-            }),
-            IR::SimpleProjection { input, columns } => Ok(IR::SimpleProjection {
-                input: *input,
-                columns: columns.try_clone(alloc)?,
-            }),
-            IR::Select {
-                input,
-                expr,
-                schema,
-                options,
-            } => Ok(IR::Select {
-                input: *input,
-                expr: expr.try_clone(alloc)?,
-                schema: schema.try_clone(alloc)?,
-                options: *options,
-            }),
-            IR::HStack {
-                input,
-                exprs,
-                schema,
-                options,
-            } => Ok(IR::HStack {
-                input: *input,
-                exprs: exprs.try_clone(alloc)?,
-                schema: schema.try_clone(alloc)?,
-                options: *options,
-            }),
-            IR::Invalid => Ok(IR::Invalid),
-        }
+        let exprs = self.get_exprs(alloc)?;
+        let mut inputs = Items::new(alloc);
+        self.copy_inputs(&mut inputs)?;
+        self.with_exprs_and_input(alloc, exprs, inputs)
     }
 }

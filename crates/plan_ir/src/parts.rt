@@ -1,6 +1,7 @@
 //! The parts of nodes and expressions: inputs, operands, and the expressions of a node.
-ghost use Rattle.std.specs.Prelude.{◌≡◌, ◌≤◌, ◌++◌, ◌∷◌, [], length, map, IfOk, OnOk};
+ghost use Rattle.std.specs.Prelude.{◌≡◌, ◌≤◌, ◌++◌, ◌∷◌, [], length, map, IfOk, IsTrue, OnOk};
 ghost use Rattle.plan_ir.specs.Parts.{exprs_of, inputs_of, list_of, operands_of, over_operands, over_parts};
+ghost use Rattle.plan_ir.specs.Parts.{is_file_scan, is_frame_scan, is_hstack, is_select};
 
 use crate::expr::{AExpr, ExprIR};
 use crate::ir::IR;
@@ -126,6 +127,24 @@ impl IR {
                 input: only(inputs),
                 predicate: only(exprs),
             }),
+            IR::Scan { .. } => self.scan_over(alloc, at_most_one(exprs)),
+            IR::DataFrameScan { .. } => self.frame_scan_copy(alloc),
+            IR::SimpleProjection { columns, .. } => Ok(IR::SimpleProjection {
+                input: only(inputs),
+                columns: columns.try_clone(alloc)?,
+            }),
+            IR::Select { .. } => self.select_over(alloc, exprs, only(inputs)),
+            IR::HStack { .. } => self.hstack_over(alloc, exprs, only(inputs)),
+            IR::Invalid => Ok(IR::Invalid),
+        }
+    }
+
+    /// A copy of a scan of files, with a predicate or without one.
+    fn scan_over(&self, alloc: Global, predicate: Option<ExprIR>) -> Result<IR, AllocError>
+        requires { IsTrue (is_file_scan self.now) }
+        ensures { IfOk result (λ node. node ≡ over_parts self.now (list_of predicate) []) }
+    {
+        match self {
             IR::Scan {
                 sources,
                 file_info,
@@ -136,11 +155,21 @@ impl IR {
             } => Ok(IR::Scan {
                 sources: sources.try_clone(alloc)?,
                 file_info: file_info.try_clone(alloc)?,
-                predicate: at_most_one(exprs),
+                predicate,
                 output_schema: output_schema.try_clone(alloc)?,
                 scan_type: *scan_type,
                 file_options: file_options.try_clone(alloc)?,
             }),
+            _ => unreachable!(),
+        }
+    }
+
+    /// A copy of a scan of a frame.
+    fn frame_scan_copy(&self, alloc: Global) -> Result<IR, AllocError>
+        requires { IsTrue (is_frame_scan self.now) }
+        ensures { IfOk result (λ node. node ≡ self.now) }
+    {
+        match self {
             IR::DataFrameScan {
                 df,
                 schema,
@@ -150,31 +179,52 @@ impl IR {
                 schema: schema.try_clone(alloc)?,
                 output_schema: output_schema.try_clone(alloc)?,
             }),
-            IR::SimpleProjection { columns, .. } => Ok(IR::SimpleProjection {
-                input: only(inputs),
-                columns: columns.try_clone(alloc)?,
-            }),
+            _ => unreachable!(),
+        }
+    }
+
+    /// A copy of a selection with other expressions, over another input.
+    fn select_over(&self, alloc: Global, expr: Items<ExprIR>, input: Node) -> Result<IR, AllocError>
+        requires { IsTrue (is_select self.now) }
+        ensures { IfOk result (λ node. node ≡ over_parts self.now expr (input ∷ [])) }
+    {
+        match self {
             IR::Select {
                 schema,
                 options,
                 ..
             } => Ok(IR::Select {
-                input: only(inputs),
-                expr: exprs,
+                input,
+                expr,
                 schema: schema.try_clone(alloc)?,
                 options: *options,
             }),
+            _ => unreachable!(),
+        }
+    }
+
+    /// A copy of an addition of columns with other expressions, over another input.
+    fn hstack_over(
+        &self,
+        alloc: Global,
+        exprs: Items<ExprIR>,
+        input: Node,
+    ) -> Result<IR, AllocError>
+        requires { IsTrue (is_hstack self.now) }
+        ensures { IfOk result (λ node. node ≡ over_parts self.now exprs (input ∷ [])) }
+    {
+        match self {
             IR::HStack {
                 schema,
                 options,
                 ..
             } => Ok(IR::HStack {
-                input: only(inputs),
+                input,
                 exprs,
                 schema: schema.try_clone(alloc)?,
                 options: *options,
             }),
-            IR::Invalid => Ok(IR::Invalid),
+            _ => unreachable!(),
         }
     }
 }

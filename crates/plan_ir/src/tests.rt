@@ -23,11 +23,12 @@ fn columns(alloc: Global, names: &[&str]) -> Result<Schema, AllocError> {
 
 /// Names.
 fn texts(alloc: Global, names: &[&str]) -> Result<Items<PlSmallStr>, AllocError> {
-    let mut texts = Items::new(alloc);
+    let mut list = Items::new(alloc);
     for name in names {
-        texts.push(PlSmallStr::new(alloc, name)?)?;
+        let text = PlSmallStr::new(alloc, name)?;
+        list.push(text)?;
     }
-    Ok(texts)
+    Ok(list)
 }
 
 /// A scan of a, b and c, of which some are asked for.
@@ -101,8 +102,8 @@ fn copied(
     Ok(Some(renumbered(alloc, root, lp, ex)?))
 }
 
-/// Nodes and expressions among others: the plan stands at 5.
-fn plan_at_five(alloc: Global) -> Result<(Arena<IR>, Arena<AExpr>), AllocError> {
+/// Nodes among others: the plan stands at 5.
+fn nodes_at_five(alloc: Global) -> Result<Arena<IR>, AllocError> {
     let mut lp = Arena::new(alloc);
     lp.add(IR::Invalid)?;
     lp.add(scan(alloc, None)?)?;
@@ -110,34 +111,72 @@ fn plan_at_five(alloc: Global) -> Result<(Arena<IR>, Arena<AExpr>), AllocError> 
     lp.add(filter(alloc, 1, 4)?)?;
     lp.add(IR::Invalid)?;
     lp.add(projection(alloc, 3)?)?;
+    Ok(lp)
+}
+
+/// Expressions among others: that of the plan's filter stands at 4.
+fn exprs_at_four(alloc: Global) -> Result<Arena<AExpr>, AllocError> {
     let mut ex = Arena::new(alloc);
     ex.add(AExpr::Literal(LiteralValue::Int64(7)))?;
     ex.add(AExpr::Column(PlSmallStr::new(alloc, "b")?))?;
     ex.add(AExpr::Column(PlSmallStr::new(alloc, "c")?))?;
     ex.add(AExpr::Literal(LiteralValue::Int64(1)))?;
     ex.add(greater(1, 3))?;
-    Ok((lp, ex))
+    Ok(ex)
+}
+
+/// The nodes of the plan alone, in walk order.
+fn nodes_in_order(alloc: Global) -> Result<Arena<IR>, AllocError> {
+    let mut lp = Arena::new(alloc);
+    lp.add(projection(alloc, 1)?)?;
+    lp.add(filter(alloc, 2, 0)?)?;
+    lp.add(scan(alloc, None)?)?;
+    Ok(lp)
+}
+
+/// The expressions of the plan alone, in walk order.
+fn exprs_in_order(alloc: Global) -> Result<Arena<AExpr>, AllocError> {
+    let mut ex = Arena::new(alloc);
+    ex.add(greater(1, 2))?;
+    ex.add(AExpr::Column(PlSmallStr::new(alloc, "b")?))?;
+    ex.add(AExpr::Literal(LiteralValue::Int64(1)))?;
+    Ok(ex)
+}
+
+/// Whether two values are equal.
+fn is_same<T: PartialEq>(a: &T, b: &T) -> bool {
+    *a == *b
+}
+
+/// Whether two arenas have equal entries at equal numbers, and as many.
+fn have_same<T: PartialEq>(a: &Arena<T>, b: &Arena<T>) -> bool {
+    if a.len() != b.len() {
+        return false;
+    }
+    for i in 0..a.len() {
+        if !is_same(a.get(Node(i)), b.get(Node(i))) {
+            return false;
+        }
+    }
+    true
 }
 
 #[test]
 fn renumbers_in_walk_order(rt: HostRuntime) -> Result<(), Fail> {
     let alloc = rt.alloc();
-    let (lp, ex) = plan_at_five(alloc)?;
+    let lp = nodes_at_five(alloc)?;
+    let ex = exprs_at_four(alloc)?;
     let copy = copied(alloc, Node(5), &lp, &ex)?.ok_or("a plan")?;
     assert_eq!(rt; copy.root, Node(0));
     assert_eq!(rt; copy.lp.len(), 3);
-    assert!(rt; *copy.lp.get(Node(0)) == projection(alloc, 1)?);
-    assert!(rt; *copy.lp.get(Node(1)) == filter(alloc, 2, 0)?);
-    assert!(rt; *copy.lp.get(Node(2)) == scan(alloc, None)?);
+    assert!(rt; have_same(&copy.lp, &nodes_in_order(alloc)?));
     assert_eq!(rt; copy.ex.len(), 3);
-    assert!(rt; *copy.ex.get(Node(0)) == greater(1, 2));
-    assert!(rt; *copy.ex.get(Node(1)) == AExpr::Column(PlSmallStr::new(alloc, "b")?));
-    assert!(rt; *copy.ex.get(Node(2)) == AExpr::Literal(LiteralValue::Int64(1)));
+    assert!(rt; have_same(&copy.ex, &exprs_in_order(alloc)?));
     Ok(())
 }
 
 #[test]
-fn takes_parts_apart_and_puts_them_back(rt: HostRuntime) -> Result<(), Fail> {
+fn takes_nodes_apart_and_puts_them_back(rt: HostRuntime) -> Result<(), Fail> {
     let alloc = rt.alloc();
     let node = filter(alloc, 2, 4)?;
     let exprs = node.get_exprs(alloc)?;
@@ -145,8 +184,15 @@ fn takes_parts_apart_and_puts_them_back(rt: HostRuntime) -> Result<(), Fail> {
     assert_eq!(rt; exprs.as_slice()[0].node, Node(4));
     let mut inputs = Items::new(alloc);
     inputs.push(Node(2))?;
-    assert!(rt; node.with_exprs_and_input(alloc, exprs, inputs)? == node.try_clone(alloc)?);
-    assert!(rt; greater(1, 2).with_operands(alloc, &[Node(8), Node(9)])? == greater(8, 9));
+    let copy = node.with_exprs_and_input(alloc, exprs, inputs)?;
+    assert!(rt; is_same(&copy, &node.try_clone(alloc)?));
+    Ok(())
+}
+
+#[test]
+fn puts_expressions_over_other_operands(rt: HostRuntime) -> Result<(), Fail> {
+    let expr = greater(1, 2).with_operands(rt.alloc(), &[Node(8), Node(9)])?;
+    assert!(rt; is_same(&expr, &greater(8, 9)));
     Ok(())
 }
 
