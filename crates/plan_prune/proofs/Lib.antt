@@ -8,6 +8,7 @@ pub mod KeptLemmas
 mod ExprWalks
 mod StoredNodes
 mod HStackPruned
+mod StepLemmas
 pub mod StoredLemmas
 pub mod AskedNames
 pub mod ProjectionNarrows

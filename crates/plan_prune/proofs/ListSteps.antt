@@ -11,7 +11,7 @@ use Rattle.plan_core.specs.Names.{AreDistinct, has, with_name, with_names}
 use Rattle.plan_core.specs.declared.data_type.DataType.{DataType}
 use Rattle.plan_core.proofs.ColumnLemmas.{flip_false, with_type-last}
 use Rattle.plan_meaning.specs.Exprs.{Name}
-use Rattle.plan_prune.specs.Pruned.{kept, typed_name, typed_names, asked_with}
+use Rattle.plan_prune.specs.Pruned.{typed_name, typed_names}
 
 -- the items before the next place, with the item at this one
 pub take-next : {A : Type 0} (xs : List A) (i : ℕ) (x : A) → slice_get xs i ≡ Some x → take (i + 1) xs ≡ take i xs ++ x ∷ []
@@ -49,10 +49,6 @@ has-differs (b ∷ names) a h = rw h.0 (has-differs names a h.1)
 
 pub with_name-last : (names : List Name) (a : Name) → Differs a names → with_name names a ≡ names ++ a ∷ []
 with_name-last names a h = rw (has-differs names a h) refl
-
--- the names before the next place
-pub names-next : (names : List Name) (i : ℕ) (a : Name) → AreDistinct names → slice_get names i ≡ Some a → with_name (take i names) a ≡ take (i + 1) names
-names-next names i a h e = with_name-last (take i names) a (before_differ names i a h e) ∙ sym (take-next names i a e)
 
 pub name_at : (cs : Columns) (i : ℕ) (a : Name) (d : DataType) → slice_get cs i ≡ Some (a, d) → slice_get (names_of cs) i ≡ Some a
 name_at cs i a d e = slice_get-map (λ (c : Name × DataType). c.0) cs i ∙ ap (option_map (λ (c : Name × DataType). c.0)) e
@@ -111,20 +107,3 @@ typed-skip s names i a e is =
 -- one list of names after another
 pub with_names-append : (names xs ys : List Name) → with_names names (xs ++ ys) ≡ with_names (with_names names xs) ys
 with_names-append names xs ys = fold-append with_name names xs ys
-
--- whether something is asked
-pub kept-asked : (asked : List Name) (cs : Columns) → (length asked ≡ 0 → ⊥) → kept asked cs ≡ filter (λ (c : Name × DataType). has asked c.0) cs
-kept-asked [] cs some = absurd (some refl)
-kept-asked (a ∷ asked) cs some = refl
-
-pub kept-all : (asked : List Name) (cs : Columns) → length asked ≡ 0 → kept asked cs ≡ cs
-kept-all [] cs none = refl
-kept-all (a ∷ asked) cs none = absurd (omega arith)
-
-pub asked_with-asked : (asked names : List Name) → (length asked ≡ 0 → ⊥) → asked_with asked names ≡ with_names asked names
-asked_with-asked [] names some = absurd (some refl)
-asked_with-asked (a ∷ asked) names some = refl
-
-pub asked_with-none : (asked names : List Name) → length asked ≡ 0 → asked_with asked names ≡ asked
-asked_with-none [] names none = refl
-asked_with-none (a ∷ asked) names none = absurd (omega arith)

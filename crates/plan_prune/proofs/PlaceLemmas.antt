@@ -43,10 +43,6 @@ module _ (ex : List AExpr) where
   place_both new old new' old' x y =
       place_trans (new ++ new') (new ++ old') (old ++ old') (place_behind new new' old' y) (place_before old' new old x)
 
-  -- numbers left out of the front
-  stand_rest : (ns after : List Node) → StandExprs ex (ns ++ after) → StandExprs ex after
-  stand_rest ns after h = let s = StandsOnce-split expr_shape ex ns after h.0 h.1 in (s.right, s.second)
-
   -- numbers left out
   pub place_without : (ns : List Node) → TakePlace ex [] ns
   place_without ns before after h =

@@ -1,5 +1,5 @@
 -- What pruning does at each kind of node.
-use Rattle.std.proofs.Common.{◌≡◌, ℕ, ◌<◌, ◌≤◌, Bool, true, false, List, [], ◌∷◌, ◌++◌, length, Option, Some, refl, sym, ap, ap₂, ◌∙◌, inl, inr, ◌⊎◌, arith, length-set, subst, append-nil}
+use Rattle.std.proofs.Common.{◌≡◌, ℕ, ◌<◌, ◌≤◌, ◌&&◌, Bool, true, false, List, [], ◌∷◌, ◌++◌, length, Option, Some, refl, sym, ap, ◌∙◌, inl, inr, ◌⊎◌, arith, length-set, subst, append-nil}
 use Rattle.std.specs.List.{slice_get, slice_set}
 use Rattle.std.proofs.lemmas.Option.{slice_get_within}
 use Rattle.plan_core.specs.declared.arena.Node.{Node}
@@ -30,7 +30,8 @@ use Rattle.plan_prune.specs.Pruned.{asks, rebuilt, pruned_all, typed_names}
 use Rattle.plan_meaning.specs.PlanAt.{one_plan}
 use Rattle.plan_prune.specs.Stored.{stored_all}
 use Rattle.plan_prune.specs.Prunes.{StandExprs, TakePlace, Prunes, PrunesAt}
-use Rattle.plan_prune.specs.Scans.{narrowed, output_of, with_node, with_pruned_scan}
+use Rattle.plan_prune.specs.Scans.{narrowed, kept_scan, with_node}
+use Rattle.plan_prune.specs.Kept.{is_some_name}
 use Rattle.plan_prune.proofs.ListSteps.{with_names-append}
 use Rattle.plan_prune.proofs.PlaceLemmas.{place_equal, place_both, place_before, place_trans, place_without}
 
@@ -135,12 +136,16 @@ moves_up top asked names a b c ex n i p q d m t h e taken one entry asks_is buil
           ∙ ap (λ (f : Roses (Unit {0}) Op). more (rebuilt top asked (op_at ex p) (pruned_all top (asks asked (op_at ex p) (stored_all f)) kids)) no_roses) before;
     })
 
--- what stands at the input of a node, once the node is taken, and once the input is pruned
+-- what stands at the inputs of a node, once the node is taken, and at its input once that is pruned
+pub inputs_taken : (a b : List IR) (n : Node) (p d : IR) (t : Trees IR) → StandsOnce plan_shape a (n ∷ []) t → slice_get a n.0 ≡ Some p → b ≡ slice_set a n.0 d → (u : Trees IR) × StandsOnce plan_shape b (inputs_of p) u
+inputs_taken a b n p d t h e taken =
+    let o = opened plan_shape a n p t h e in
+    (o.kids, rw taken (StandsOnce-set plan_shape a (inputs_of p) o.kids n.0 d o.inputs o.above))
+
 pub stands_taken : (a b : List IR) (n i : Node) (p d : IR) (t : Trees IR) → StandsOnce plan_shape a (n ∷ []) t → slice_get a n.0 ≡ Some p → b ≡ slice_set a n.0 d → inputs_of p ≡ i ∷ [] → (u : Trees IR) × StandsOnce plan_shape b (i ∷ []) u
 stands_taken a b n i p d t h e taken one =
-    let o = opened plan_shape a n p t h e in
-    let under : StandsOnce plan_shape b (inputs_of p) o.kids = rw taken (StandsOnce-set plan_shape a (inputs_of p) o.kids n.0 d o.inputs o.above) in
-    (o.kids, subst (λ (ns : List Node). StandsOnce plan_shape b ns o.kids) one under)
+    let s = inputs_taken a b n p d t h e taken in
+    (s.0, subst (λ (ns : List Node). StandsOnce plan_shape b ns s.0) one s.1)
 
 pub stands_after : (top : Bool) (names : List Name) (b c : List IR) (ex : List AExpr) (i : Node) → ((t : Trees IR) × StandsOnce plan_shape b (i ∷ []) t) → PrunesAt top names b c ex i → (t : Trees IR) × StandsOnce plan_shape c (i ∷ []) t
 stands_after top names b c ex i s below = let x = below s.0 s.1 in (x.trees, x.rewrites.stands)
@@ -157,21 +162,6 @@ is_entry lp i s = go s.0 s.1
 no_trees : (lp : List IR) (f : Trees IR) → Stands plan_shape lp [] f → f ≡ no_roses
 no_trees lp no_roses h = refl
 no_trees lp (more (rose n p kids) rest) h = absurd h
-
--- the arena with a pruned scan, where something is asked
-pub placed-asked : (top : Bool) (asked : List Name) (lp : List IR) (n : Node) (p : IR) → (length asked ≡ 0 → ⊥) → with_pruned_scan top asked lp n p ≡ with_node top lp n (narrowed asked p)
-placed-asked top [] lp n p some = absurd (some refl)
-placed-asked top (a ∷ asked) lp n p some = refl
-
-pub placed-none : (top : Bool) (asked : List Name) (lp : List IR) (n : Node) (p : IR) → length asked ≡ 0 → with_pruned_scan top asked lp n p ≡ slice_set lp n.0 p
-placed-none top [] lp n p none = refl
-placed-none top (a ∷ asked) lp n p none = absurd (omega arith)
-
--- a projection on top of a node that was just added
-pub placed-top : (lp c : List IR) (n m : Node) (p : IR) (cs : Columns) → c ≡ lp ++ p ∷ [] → m.0 ≡ length lp → cs ≡ output_of p → slice_set c n.0 (nodes.SimpleProjection m cs) ≡ with_node true lp n p
-placed-top lp c n m p cs added at is =
-    ap₂ (λ (l : List IR) (ds : Columns). slice_set l n.0 (nodes.SimpleProjection m ds)) added is
-    ∙ ap (λ (k : ℕ). slice_set (lp ++ p ∷ []) n.0 (nodes.SimpleProjection (record { 0 = k }) (output_of p))) at
 
 -- a node without inputs at a number
 module _ (a b : List IR) (ex : List AExpr) (n : Node) (p d : IR) (t : Trees IR) (h : StandsOnce plan_shape a (n ∷ []) t) (leaf : inputs_of p ≡ []) (e : slice_get a n.0 ≡ Some p) (taken : b ≡ slice_set a n.0 d) where
@@ -223,12 +213,12 @@ module _ (a b : List IR) (ex : List AExpr) (n : Node) (d : IR) (t : Trees IR) (h
   abbrev p : IR
   p = nodes.Scan sources info predicate output kind options
 
-  placed : (top : Bool) (asked : List Name) → Prunes top asked a (with_pruned_scan top asked b n p) ex n t
+  placed : (top : Bool) (asked : List Name) → Prunes top asked a (with_node (is_some_name asked && top) b n (kept_scan asked p)) ex n t
   placed top [] = stays a b ex n p d t h refl e taken top [] p refl refl refl refl
   placed true (x ∷ asked) = goes_below a b ex n p d t h refl e taken (x ∷ asked) (narrowed (x ∷ asked) p) (typed_names info.schema (x ∷ asked)) refl refl refl refl
   placed false (x ∷ asked) = stays a b ex n p d t h refl e taken false (x ∷ asked) (narrowed (x ∷ asked) p) refl refl refl refl
 
-  pub scan_pruned : (top : Bool) (asked : List Name) (c : List IR) → c ≡ with_pruned_scan top asked b n p → Prunes top asked a c ex n t
+  pub scan_pruned : (top : Bool) (asked : List Name) (c : List IR) → c ≡ with_node (is_some_name asked && top) b n (kept_scan asked p) → Prunes top asked a c ex n t
   scan_pruned top asked c is = rw is (placed top asked)
 
 -- what a pruned plan is

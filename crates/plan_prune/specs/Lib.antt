@@ -4,4 +4,5 @@ pub mod Pruned
 pub mod Kept
 pub mod Prunes
 pub mod Scans
+pub mod Steps
 pub mod Reads

@@ -19,6 +19,11 @@ narrowed names (HStack input exprs schema options) = HStack input exprs schema o
 narrowed names (SimpleProjection input columns) = SimpleProjection input columns
 narrowed names Invalid = Invalid
 
+-- the scan that goes back where names are asked; asked nothing, it stays
+abbrev pub kept_scan : List Name → IR → IR
+kept_scan [] p = p
+kept_scan (a ∷ asked) p = narrowed (a ∷ asked) p
+
 -- the columns that are told, else no columns
 abbrev pub columns_or_none : Option Columns → Columns
 columns_or_none None = []
@@ -39,8 +44,3 @@ output_of Invalid = []
 abbrev pub with_node : Bool → List IR → Node → IR → List IR
 with_node true lp n p = slice_set (lp ++ p ∷ []) n.0 (SimpleProjection (record { 0 = length lp }) (output_of p))
 with_node false lp n p = slice_set lp n.0 p
-
--- the arena with the pruned scan at the number
-abbrev pub with_pruned_scan : Bool → List Name → List IR → Node → IR → List IR
-with_pruned_scan top [] lp n p = slice_set lp n.0 p
-with_pruned_scan top (a ∷ asked) lp n p = with_node top lp n (narrowed (a ∷ asked) p)

@@ -1,6 +1,6 @@
 //! The pass that prunes a plan to the columns that it needs.
 //! Each node is told the names that are asked of it, and asks its inputs the names that it needs;
-//! no names stand for every column. The rule of a node kind is in a file of its own.
+//! no names stand for every column. The rule of a node kind is in a file of its own, and `step` finds it.
 ghost use Rattle.std.specs.Prelude.{◌≡◌, ◌≤◌, ◌+◌, [], ◌∷◌, OnOk, false, length, not};
 ghost use Rattle.plan_ir.specs.Parts.{IsPlan};
 ghost use Rattle.plan_ir.specs.Plans.{bare, plans_at};
@@ -21,9 +21,11 @@ mod hstack;
 mod projection;
 mod scan;
 mod select;
+mod slice;
+mod step;
 mod stored;
 
-use crate::push_down::stored::stored;
+use crate::push_down::step::Step;
 use plan_core::{Arena, Names, Node};
 use plan_ir::{AExpr, IR};
 use std::alloc::{AllocError, Global};
@@ -85,80 +87,19 @@ impl ProjectionPushDown {
         ensures prunes { OnOk result (PrunesAt (not self.now.is_count_star) asked lp.old lp.new ex.now node) }
         ensures grows { length lp.old ≤ length lp.new }
     {
-        match lp.take(node) {
-            IR::Slice { input, offset, len } => {
-                self.push_down(alloc, input, asked, lp, ex)?;
-                lp.put(node, IR::Slice { input, offset, len });
-                Ok(())
-            }
-            IR::Filter { input, predicate } => {
-                let asked = filter::asks(asked, &predicate, ex)?;
-                self.push_down(alloc, input, asked, lp, ex)?;
-                lp.put(node, IR::Filter { input, predicate });
-                Ok(())
-            }
-            IR::SimpleProjection { input, columns } => {
-                let columns = projection::keep(alloc, columns, &asked)?;
-                let asked = projection::asks(alloc, &columns)?;
-                self.push_down(alloc, input, asked, lp, ex)?;
-                lp.put(node, IR::SimpleProjection { input, columns });
-                Ok(())
-            }
-            scan @ IR::Scan { .. } => {
-                scan::prune(alloc, node, scan, &asked, !self.is_count_star, lp)?;
-                Ok(())
-            }
-            IR::DataFrameScan {
-                df,
-                schema,
-                output_schema,
-            } => {
-                let output_schema = frame_scan::keep(alloc, output_schema, &schema, &asked)?;
-                lp.put(
-                    node,
-                    IR::DataFrameScan {
-                        df,
-                        schema,
-                        output_schema,
-                    },
-                );
-                Ok(())
-            }
-            IR::Select {
+        let is_asked = asked.len() > 0;
+        let on_top = !self.is_count_star;
+        let entry = lp.take(node);
+        match step::prepare(alloc, entry, asked, lp, ex)? {
+            Step::Leaf { entry } => step::put(alloc, node, entry, is_asked, on_top, lp),
+            Step::Over {
                 input,
-                expr,
-                schema,
-                options,
+                asked,
+                entry,
             } => {
-                let expr = select::keep(alloc, expr, &asked, ex)?;
-                let schema = select::columns(alloc, schema, expr.as_slice(), &asked)?;
-                let asked = select::asks(alloc, expr.as_slice(), ex)?;
                 self.push_down(alloc, input, asked, lp, ex)?;
-                lp.put(
-                    node,
-                    IR::Select {
-                        input,
-                        expr,
-                        schema,
-                        options,
-                    },
-                );
-                Ok(())
+                step::put(alloc, node, entry, is_asked, on_top, lp)
             }
-            IR::HStack {
-                input,
-                exprs,
-                schema,
-                options,
-            } => {
-                let is_asked = asked.len() > 0;
-                let exprs = hstack::keep(alloc, exprs, &asked)?;
-                let asked = hstack::asks(alloc, asked, exprs.as_slice(), stored(input, lp), ex)?;
-                self.push_down(alloc, input, asked, lp, ex)?;
-                hstack::put(alloc, node, input, is_asked, exprs, schema, options, lp)?;
-                Ok(())
-            }
-            IR::Invalid => Ok(()),
         }
     }
 }

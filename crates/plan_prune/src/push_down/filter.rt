@@ -2,19 +2,22 @@
 //! Asked something, it asks its input that, and the columns of its predicate, each last unless it is asked already.
 //! Asked nothing, it asks nothing.
 ghost use Rattle.std.specs.Prelude.{◌≡◌, IfOk};
+ghost use Rattle.plan_ir.specs.declared.ir.IR.TheVariants.{Filter};
 ghost use Rattle.plan_ir.specs.Parts.{IsExpr};
 ghost use Rattle.plan_ir.specs.Plans.{expr_at};
 ghost use Rattle.plan_meaning.specs.Exprs.{leaves};
+ghost use Rattle.plan_prune.specs.declared.push_down.step.Step.TheVariants.{Over};
 ghost use Rattle.plan_prune.specs.Pruned.{asked_with};
 
 use crate::push_down::exprs::add_names;
-use plan_core::{Arena, Names};
-use plan_ir::{AExpr, ExprIR};
+use crate::push_down::step::Step;
+use plan_core::{Arena, Names, Node};
+use plan_ir::{AExpr, ExprIR, IR};
 use std::alloc::AllocError;
 
 /// What a filter asks its input: the asked names, and then the other names that the predicate reads; no names stand for
 /// every column, and then it asks none.
-pub fn asks(asked: Names, predicate: &ExprIR, ex: &Arena<AExpr>) -> Result<Names, AllocError>
+fn asks(asked: Names, predicate: &ExprIR, ex: &Arena<AExpr>) -> Result<Names, AllocError>
     requires { IsExpr ex.now predicate.now.node }
     ensures { IfOk result (λ names. names ≡ asked_with asked (leaves (expr_at ex.now predicate.now.node))) }
 {
@@ -23,4 +26,22 @@ pub fn asks(asked: Names, predicate: &ExprIR, ex: &Arena<AExpr>) -> Result<Names
         add_names(&mut names, predicate.node, ex)?;
     }
     Ok(names)
+}
+
+/// The step of a filter.
+pub fn prepare(
+    input: Node,
+    predicate: ExprIR,
+    asked: Names,
+    ex: &Arena<AExpr>,
+) -> Result<Step, AllocError>
+    requires { IsExpr ex.now predicate.node }
+    ensures { IfOk result (λ step. step ≡ Over input (asked_with asked (leaves (expr_at ex.now predicate.node))) (Filter input predicate)) }
+{
+    let asked = asks(asked, &predicate, ex)?;
+    Ok(Step::Over {
+        input,
+        asked,
+        entry: IR::Filter { input, predicate },
+    })
 }

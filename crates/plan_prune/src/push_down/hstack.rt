@@ -2,7 +2,7 @@
 //! It stores the columns of its pruned input, and those of the kept expressions beside them.
 //! It asks its input the asked names that this has, and then the names that the kept expressions read; keeping none it asks
 //! what it is asked. Asked nothing, it stays as it is and asks nothing.
-ghost use Rattle.std.specs.Prelude.{◌≡◌, ◌<◌, ◌≤◌, All, List, [], ◌∷◌, IfOk, OnOk, filter as filter_list, length};
+ghost use Rattle.std.specs.Prelude.{◌≡◌, ◌<◌, ◌≤◌, All, List, [], ◌∷◌, IfOk, OnOk, filter as filter_list, length, map};
 ghost use Rattle.plan_core.specs.Columns.{names_of};
 ghost use Rattle.plan_core.specs.Names.{has};
 ghost use Rattle.plan_tree.specs.Stands.{Trees, StandsOnce};
@@ -12,16 +12,19 @@ ghost use Rattle.plan_ir.specs.Parts.{plan_shape, IsExpr};
 ghost use Rattle.plan_ir.specs.Plans.{all_named_at, bare, plans_at};
 ghost use Rattle.plan_meaning.specs.Typing.{first_schema};
 ghost use Rattle.plan_prune.specs.Kept.{asks_after, stacked_at, with_stacked};
+ghost use Rattle.plan_prune.specs.Prunes.{StandExprs};
+ghost use Rattle.plan_prune.specs.Steps.{stacked_step};
 ghost use Rattle.plan_prune.specs.Stored.{stored_all};
 
 use crate::push_down::exprs::{add_all_names, asked_exprs, with_typed};
+use crate::push_down::step::Step;
 use crate::push_down::stored::stored;
 use plan_core::{Arena, Items, Names, Node, ProjectionOptions, Schema, TryClone};
 use plan_ir::{AExpr, ExprIR, IR};
 use std::alloc::{AllocError, Global};
 
 /// The expressions that an addition keeps.
-pub fn keep(alloc: Global, exprs: Items<ExprIR>, asked: &Names) -> Result<Items<ExprIR>, AllocError>
+fn keep(alloc: Global, exprs: Items<ExprIR>, asked: &Names) -> Result<Items<ExprIR>, AllocError>
     ensures { IfOk result (λ kept. kept ≡ stacked_at asked.now exprs) }
 {
     if asked.len() == 0 {
@@ -46,7 +49,7 @@ fn known(alloc: Global, names: &Names, columns: &Schema) -> Result<Names, AllocE
 }
 
 /// What an addition asks that keeps these expressions, over an input of these columns.
-pub fn asks(
+fn asks(
     alloc: Global,
     asked: Names,
     exprs: &[ExprIR],
@@ -65,6 +68,35 @@ pub fn asks(
     let mut names = known(alloc, &asked, columns)?;
     add_all_names(&mut names, exprs, ex)?;
     Ok(names)
+}
+
+/// The step of an addition.
+pub fn prepare(
+    alloc: Global,
+    input: Node,
+    exprs: Items<ExprIR>,
+    schema: Schema,
+    options: ProjectionOptions,
+    asked: Names,
+    lp: &Arena<IR>,
+    ex: &Arena<AExpr>,
+) -> Result<Step, AllocError>
+    requires exprs { StandExprs ex.now (map (λ e. e.node) exprs) }
+    requires input { (t : Trees IR) × StandsOnce plan_shape lp.now (input ∷ []) t }
+    ensures { IfOk result (λ step. step ≡ stacked_step ex.now asked input exprs schema options (first_schema (stored_all (bare (plans_at lp.now ex.now (input ∷ [])))))) }
+{
+    let exprs = keep(alloc, exprs, &asked)?;
+    let asked = asks(alloc, asked, exprs.as_slice(), stored(input, lp), ex)?;
+    Ok(Step::Over {
+        input,
+        asked,
+        entry: IR::HStack {
+            input,
+            exprs,
+            schema,
+            options,
+        },
+    })
 }
 
 /// Puts an addition of these expressions at `node`, over the pruned input; where names are asked, over its columns, and

@@ -2,10 +2,11 @@
 //! It moves to a new number, and a projection to the asked names stands on top at the old one;
 //! without the projection it stays at its number. Asked nothing, a scan is unchanged.
 ghost use Rattle.std.specs.Prelude.{◌≡◌, ◌<◌, ◌≤◌, IfOk, OnOk, length};
-ghost use Rattle.plan_ir.specs.declared.ir.IR.{IR};
+ghost use Rattle.plan_prune.specs.declared.push_down.step.Step.TheVariants.{Leaf};
 ghost use Rattle.plan_prune.specs.Pruned.{typed_names};
-ghost use Rattle.plan_prune.specs.Scans.{narrowed as narrowed_to, output_of, with_pruned_scan};
+ghost use Rattle.plan_prune.specs.Scans.{kept_scan, narrowed as narrowed_to, output_of, with_node};
 
+use crate::push_down::step::Step;
 use plan_core::{Arena, Items, Names, Node, PlSmallStr, Schema, TryClone};
 use plan_ir::IR;
 use std::alloc::{AllocError, Global};
@@ -79,25 +80,31 @@ fn output(alloc: Global, scan: &IR) -> Result<Schema, AllocError>
     }
 }
 
-/// Puts the pruned scan at `node`, with the projection on top or without it. Refuses for want of memory alone, and then
-/// nothing is known of what stands at `node`.
-pub fn prune(
+/// The step of a scan.
+pub fn prepare(alloc: Global, scan: IR, asked: &Names) -> Result<Step, AllocError>
+    ensures { IfOk result (λ step. step ≡ Leaf (kept_scan asked.now scan)) }
+{
+    if asked.len() == 0 {
+        return Ok(Step::Leaf { entry: scan });
+    }
+    Ok(Step::Leaf {
+        entry: narrowed(alloc, scan, asked)?,
+    })
+}
+
+/// Puts the scan at `node`, with the projection on top or without it. Refuses for want of memory alone, and then nothing is
+/// known of what stands at `node`.
+pub fn put(
     alloc: Global,
     node: Node,
     scan: IR,
-    asked: &Names,
     on_top: bool,
     lp: &mut Arena<IR>,
 ) -> Result<(), AllocError>
     requires { node.0 < length lp.old }
-    ensures placed { OnOk result (lp.new ≡ with_pruned_scan on_top asked.now lp.old node scan) }
+    ensures placed { OnOk result (lp.new ≡ with_node on_top lp.old node scan) }
     ensures grows { length lp.old ≤ length lp.new }
 {
-    if asked.len() == 0 {
-        lp.put(node, scan);
-        return Ok(());
-    }
-    let scan = narrowed(alloc, scan, asked)?;
     if !on_top {
         lp.put(node, scan);
         return Ok(());

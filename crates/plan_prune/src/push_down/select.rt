@@ -1,16 +1,19 @@
 //! A selection keeps its asked expressions, in its own order; where these are scalar throughout and another isn't, the first
 //! such one too, last, since the height is its. It stores the columns of those that it keeps.
 //! Asked nothing, it stays as it is. It asks its input the names that its kept expressions read, each once.
-ghost use Rattle.std.specs.Prelude.{◌≡◌, ◌++◌, [], ◌∷◌, All, IfOk, OnOk};
+ghost use Rattle.std.specs.Prelude.{◌≡◌, ◌++◌, [], ◌∷◌, All, IfOk, OnOk, map};
 ghost use Rattle.plan_core.specs.Names.{with_names};
 ghost use Rattle.plan_ir.specs.Parts.{IsExpr};
 ghost use Rattle.plan_ir.specs.Plans.{all_named_at};
 ghost use Rattle.plan_meaning.specs.Asked.{all_leaves};
+ghost use Rattle.plan_prune.specs.Prunes.{StandExprs};
+ghost use Rattle.plan_prune.specs.Steps.{selected_step};
 ghost use Rattle.plan_prune.specs.Kept.{many_at, selected_at, names_at, is_some_name, stored_after};
 
 use crate::push_down::exprs::{add_all_names, all_scalar, asked_exprs, is_scalar, with_typed};
-use plan_core::{Arena, Items, Names, Schema, TryClone};
-use plan_ir::{AExpr, ExprIR};
+use crate::push_down::step::Step;
+use plan_core::{Arena, Items, Names, Node, ProjectionOptions, Schema, TryClone};
+use plan_ir::{AExpr, ExprIR, IR};
 use std::alloc::{AllocError, Global};
 
 /// Adds the first expression that isn't scalar, if there is one.
@@ -33,7 +36,7 @@ fn add_many(
 }
 
 /// The expressions that a selection keeps.
-pub fn keep(
+fn keep(
     alloc: Global,
     exprs: Items<ExprIR>,
     asked: &Names,
@@ -53,7 +56,7 @@ pub fn keep(
 }
 
 /// The columns that a selection stores that keeps these expressions.
-pub fn columns(
+fn columns(
     alloc: Global,
     schema: Schema,
     exprs: &[ExprIR],
@@ -68,11 +71,39 @@ pub fn columns(
 }
 
 /// What a selection asks that keeps these expressions.
-pub fn asks(alloc: Global, exprs: &[ExprIR], ex: &Arena<AExpr>) -> Result<Names, AllocError>
+fn asks(alloc: Global, exprs: &[ExprIR], ex: &Arena<AExpr>) -> Result<Names, AllocError>
     requires { All (λ e. IsExpr ex.now e.node) exprs.now }
     ensures { IfOk result (λ names. names ≡ with_names [] (all_leaves (all_named_at ex.now exprs.now))) }
 {
     let mut names = Names::new(alloc);
     add_all_names(&mut names, exprs, ex)?;
     Ok(names)
+}
+
+/// The step of a selection.
+pub fn prepare(
+    alloc: Global,
+    input: Node,
+    expr: Items<ExprIR>,
+    schema: Schema,
+    options: ProjectionOptions,
+    asked: &Names,
+    ex: &Arena<AExpr>,
+) -> Result<Step, AllocError>
+    requires { StandExprs ex.now (map (λ e. e.node) expr) }
+    ensures { IfOk result (λ step. step ≡ selected_step ex.now asked.now input expr schema options) }
+{
+    let expr = keep(alloc, expr, asked, ex)?;
+    let schema = columns(alloc, schema, expr.as_slice(), asked)?;
+    let asked = asks(alloc, expr.as_slice(), ex)?;
+    Ok(Step::Over {
+        input,
+        asked,
+        entry: IR::Select {
+            input,
+            expr,
+            schema,
+            options,
+        },
+    })
 }

@@ -1,0 +1,142 @@
+-- A node that was taken is pruned by its step.
+use Rattle.std.proofs.Common.{◌≡◌, Bool, true, false, List, [], ◌∷◌, ◌&&◌, Some, refl, sym, ap, ◌∙◌, subst}
+use Rattle.std.specs.List.{slice_get, slice_set}
+use Rattle.plan_core.specs.declared.arena.Node.{Node}
+use Rattle.plan_core.specs.Names.{with_names}
+use Rattle.plan_tree.specs.Rose.{no_roses}
+use Rattle.plan_tree.specs.Stands.{Trees, StandsOnce}
+use Rattle.plan_tree.proofs.TreeLemmas.{opened}
+use Rattle.plan_ir.specs.declared.expr.AExpr.{AExpr}
+use Rattle.plan_ir.specs.declared.ir.IR.{IR}
+use Rattle.plan_ir.specs.declared.ir.IR.TheVariants.{Slice, Filter, Scan, DataFrameScan, SimpleProjection, Select, HStack, Invalid}
+use Rattle.plan_ir.specs.Parts.{plan_shape, inputs_of}
+use Rattle.plan_ir.specs.Plans.{bare, plans_at, Named}
+use Rattle.plan_meaning.specs.Exprs.{Name}
+use Rattle.plan_meaning.specs.Asked.{all_leaves}
+use Rattle.plan_prune.specs.declared.push_down.step.Step.TheVariants.{Leaf, Over}
+use Rattle.plan_prune.specs.Kept.{is_some_name, names_at, selected_at, stacked_at, stored_after}
+use Rattle.plan_prune.specs.Pruned.{kept, pruned_output}
+use Rattle.plan_prune.specs.Prunes.{Prunes, PrunesAt}
+use Rattle.plan_prune.specs.Scans.{kept_scan, with_node}
+use Rattle.plan_prune.specs.Steps.{columns_at, step_of, put_back}
+use Rattle.plan_prune.proofs.PruneLemmas.{finish, stays, scan_pruned, stands_taken, stands_after}
+use Rattle.plan_prune.proofs.KeptLemmas.{selected_named, selected_place, select_built, hstack_asks}
+use Rattle.plan_prune.proofs.HStackPruned.{hstack_pruned}
+
+-- equal steps have equal parts
+over_parts : (i j : Node) (names others : List Name) (p q : IR) → Over i names p ≡ Over j others q → (i ≡ j) × (names ≡ others) × (p ≡ q)
+over_parts i j names others p q e = (cc, cc, cc)
+
+leaf_part : (p q : IR) → Leaf p ≡ Leaf q → p ≡ q
+leaf_part p q e = cc
+
+-- a step over an input is that of a node with this input, and the node goes back over it
+pub record IsOver (p q : IR) (i : Node) : Type 0 where
+  pub one : inputs_of p ≡ i ∷ []
+  pub same : inputs_of q ≡ i ∷ []
+  pub first : slice_get (inputs_of p) 0 ≡ Some i
+
+made_over : (i j : Node) (names others : List Name) (p q r : IR) → inputs_of p ≡ j ∷ [] → inputs_of r ≡ j ∷ [] → Over i names q ≡ Over j others r → IsOver p q i
+made_over i j names others p q r one same e =
+    let x = over_parts i j names others q r e in
+    let there : j ∷ [] ≡ i ∷ [] = ap (λ (k : Node). k ∷ []) (sym x.0) in
+    record { one = one ∙ there; same = ap inputs_of x.2 ∙ same ∙ there; first = ap (λ (l : List Node). slice_get l 0) (one ∙ there) }
+
+pub is_over : (lp : List IR) (ex : List AExpr) (asked names : List Name) (p q : IR) (i : Node) → Over i names q ≡ step_of lp ex asked p → IsOver p q i
+is_over lp ex asked names (Slice j offset len) q i e = made_over i j names _ (Slice j offset len) q _ refl refl e
+is_over lp ex asked names (Filter j predicate) q i e = made_over i j names _ (Filter j predicate) q _ refl refl e
+is_over lp ex asked names (Scan sources info predicate output kind options) q i e = cc
+is_over lp ex asked names (DataFrameScan df schema output) q i e = cc
+is_over lp ex asked names (SimpleProjection j columns) q i e = made_over i j names _ (SimpleProjection j columns) q _ refl refl e
+is_over lp ex asked names (Select j es schema options) q i e = made_over i j names _ (Select j es schema options) q _ refl refl e
+is_over lp ex asked names (HStack j es schema options) q i e = made_over i j names _ (HStack j es schema options) q _ refl refl e
+is_over lp ex asked names Invalid q i e = cc
+
+-- a step without an input puts back a node without inputs
+kept_alone : (asked : List Name) (p : IR) → inputs_of p ≡ [] → inputs_of (kept_scan asked p) ≡ []
+kept_alone [] p e = e
+kept_alone (a ∷ asked) (Scan sources info predicate output kind options) e = refl
+kept_alone (a ∷ asked) (DataFrameScan df schema output) e = refl
+kept_alone (a ∷ asked) (Slice j offset len) e = e
+kept_alone (a ∷ asked) (Filter j predicate) e = e
+kept_alone (a ∷ asked) (SimpleProjection j columns) e = e
+kept_alone (a ∷ asked) (Select j es schema options) e = e
+kept_alone (a ∷ asked) (HStack j es schema options) e = e
+kept_alone (a ∷ asked) Invalid e = refl
+
+is_leaf : (lp : List IR) (ex : List AExpr) (asked : List Name) (p q : IR) → Leaf q ≡ step_of lp ex asked p → inputs_of q ≡ []
+is_leaf lp ex asked (Slice j offset len) q e = cc
+is_leaf lp ex asked (Filter j predicate) q e = cc
+is_leaf lp ex asked (Scan sources info predicate output kind options) q e = ap inputs_of (leaf_part q _ e) ∙ kept_alone asked (Scan sources info predicate output kind options) refl
+is_leaf lp ex asked (DataFrameScan df schema output) q e = ap inputs_of (leaf_part q _ e)
+is_leaf lp ex asked (SimpleProjection j columns) q e = cc
+is_leaf lp ex asked (Select j es schema options) q e = cc
+is_leaf lp ex asked (HStack j es schema options) q e = cc
+is_leaf lp ex asked Invalid q e = ap inputs_of (leaf_part q _ e)
+
+pub leaf_stands : (lp : List IR) (ex : List AExpr) (asked : List Name) (p q : IR) → Leaf q ≡ step_of lp ex asked p → (t : Trees IR) × StandsOnce plan_shape lp (inputs_of q) t
+leaf_stands lp ex asked p q e = rw (is_leaf lp ex asked p q e) (no_roses, record { stands = tt; once = tt })
+
+-- what stands at the input of the node that goes back, once the input is pruned
+pub over_stands : (top : Bool) (asked names : List Name) (a b c : List IR) (ex : List AExpr) (n i : Node) (p q d : IR) (t : Trees IR) → StandsOnce plan_shape a (n ∷ []) t → slice_get a n.0 ≡ Some p → b ≡ slice_set a n.0 d → Over i names q ≡ step_of b ex asked p → PrunesAt top names b c ex i → (u : Trees IR) × StandsOnce plan_shape c (inputs_of q) u
+over_stands top asked names a b c ex n i p q d t h e taken is below =
+    let o = is_over b ex asked names p q i is in
+    let s = stands_after top names b c ex i (stands_taken a b n i p d t h e taken o.one) below in
+    (s.0, subst (λ (ns : List Node). StandsOnce plan_shape c ns s.0) (sym o.same) s.1)
+
+-- a node without inputs is pruned by its step
+module _ (top : Bool) (asked : List Name) (a b z : List IR) (ex : List AExpr) (n : Node) (q d : IR) (t : Trees IR) (h : StandsOnce plan_shape a (n ∷ []) t) (taken : b ≡ slice_set a n.0 d) (back : z ≡ put_back top (is_some_name asked) b ex n q) where
+  put_leaf : (r : IR) → Leaf q ≡ Leaf r → z ≡ put_back top (is_some_name asked) b ex n r
+  put_leaf r e = back ∙ ap (put_back top (is_some_name asked) b ex n) (leaf_part q r e)
+
+  pub leaf_pruned : (p : IR) → slice_get a n.0 ≡ Some p → Leaf q ≡ step_of b ex asked p → Prunes top asked a z ex n t
+  leaf_pruned (Scan sources info predicate output kind options) e is =
+      scan_pruned a b ex n d t h sources info predicate output kind options e taken top asked z (put_leaf _ is ∙ scan_put asked)
+    where
+      scan_put : (l : List Name) → put_back top (is_some_name asked) b ex n (kept_scan l (Scan sources info predicate output kind options)) ≡ with_node (is_some_name asked && top) b n (kept_scan l (Scan sources info predicate output kind options))
+      scan_put [] = refl
+      scan_put (x ∷ l) = refl
+  leaf_pruned (DataFrameScan df schema output) e is =
+      rw (put_leaf _ is) (stays a b ex n (DataFrameScan df schema output) d t h refl e taken top asked (DataFrameScan df schema (pruned_output asked schema output)) refl refl refl refl)
+  leaf_pruned (Slice j offset len) e is = cc
+  leaf_pruned (Filter j predicate) e is = cc
+  leaf_pruned (SimpleProjection j columns) e is = cc
+  leaf_pruned (Select j es schema options) e is = cc
+  leaf_pruned (HStack j es schema options) e is = cc
+  leaf_pruned Invalid e is = let o = opened plan_shape a n Invalid t h e in let v : true ≡ false = o.valid in cc
+
+-- a node over an input is pruned by its step, once the input is pruned
+module _ (top : Bool) (asked names : List Name) (a b c z : List IR) (ex : List AExpr) (n i : Node) (q d : IR) (t : Trees IR) (h : StandsOnce plan_shape a (n ∷ []) t) (taken : b ≡ slice_set a n.0 d) (below : PrunesAt top names b c ex i) (back : z ≡ put_back top (is_some_name asked) c ex n q) where
+  put_over : (j : Node) (others : List Name) (r : IR) → Over i names q ≡ Over j others r → z ≡ put_back top (is_some_name asked) c ex n r
+  put_over j others r e = let x = over_parts i j names others q r e in back ∙ ap (put_back top (is_some_name asked) c ex n) x.2
+
+  named : (j : Node) (others : List Name) (r : IR) → Over i names q ≡ Over j others r → names ≡ others
+  named j others r e = let x = over_parts i j names others q r e in x.1
+
+  one : (j : Node) (others : List Name) (r : IR) → Over i names q ≡ Over j others r → j ∷ [] ≡ i ∷ []
+  one j others r e = let x = over_parts i j names others q r e in ap (λ (k : Node). k ∷ []) (sym x.0)
+
+  pub over_pruned : (p : IR) → slice_get a n.0 ≡ Some p → Over i names q ≡ step_of b ex asked p → Prunes top asked a z ex n t
+  over_pruned (Slice j offset len) e is =
+      rw (put_over _ _ _ is) (finish top asked names a b c ex n i (Slice j offset len) (Slice j offset len) d t h e taken (one _ _ _ is) refl refl (λ before after x. x) (named _ _ _ is) refl below)
+  over_pruned (Filter j predicate) e is =
+      rw (put_over _ _ _ is) (finish top asked names a b c ex n i (Filter j predicate) (Filter j predicate) d t h e taken (one _ _ _ is) refl refl (λ before after x. x) (named _ _ _ is) refl below)
+  over_pruned (SimpleProjection j columns) e is =
+      rw (put_over _ _ _ is) (finish top asked names a b c ex n i (SimpleProjection j columns) (SimpleProjection j (kept asked columns)) d t h e taken (one _ _ _ is) refl refl (λ before after x. x) (named _ _ _ is) refl below)
+  over_pruned (Select j es schema options) e is =
+      let ks = selected_at ex asked es in
+      let cs = stored_after (is_some_name asked) [] (names_at ks) schema in
+      rw (put_over _ _ _ is) (finish top asked names a b c ex n i (Select j es schema options) (Select j ks cs options) d t h e taken (one _ _ _ is) refl refl
+      (selected_place ex asked es)
+      (named _ _ _ is ∙ ap (λ (l : List Named). with_names [] (all_leaves l)) (selected_named ex asked es))
+      (select_built ex asked es ks schema cs options (bare (plans_at c ex (i ∷ []))) refl refl)
+      below)
+  over_pruned (HStack j es schema options) e is =
+      let x = over_parts i j names _ q _ is in
+      hstack_pruned top asked names a b c ex n j es schema options d t h e taken
+      (named _ _ _ is ∙ hstack_asks ex asked es (stacked_at asked es) (columns_at b ex j) refl)
+      (subst (λ (k : Node). PrunesAt top names b c ex k) x.0 below)
+      (is_some_name asked) (stacked_at asked es) z refl refl (put_over _ _ _ is)
+  over_pruned (Scan sources info predicate output kind options) e is = cc
+  over_pruned (DataFrameScan df schema output) e is = cc
+  over_pruned Invalid e is = cc

@@ -1,0 +1,23 @@
+use Rattle.std.proofs.Common.{◌∙◌, ap, ap₂, sym, subst, All, List}
+use Rattle.plan_ir.specs.declared.expr.ExprIR.{ExprIR}
+use Rattle.plan_ir.specs.declared.ir.IR.TheVariants.{HStack}
+use Rattle.plan_ir.specs.Parts.{IsExpr}
+use Rattle.plan_ir.specs.Plans.{all_named_at}
+use Rattle.plan_meaning.specs.Exprs.{Name}
+use Rattle.plan_prune.specs.declared.push_down.step.Step.TheVariants.{Over}
+use Rattle.plan_prune.specs.Kept.{asks_after, stacked_at}
+use Rattle.plan_prune.proofs.KeptLemmas.{stacked_stand}
+use Rattle.plan_prune.proofs.push_down.hstack.prepare.Goals as goal
+
+pub asks-requires : goal.asks-requires
+asks-requires c =
+    subst (λ (l : List ExprIR). All (λ (x : ExprIR). IsExpr c.args.ex.now x.node) l) (sym c.as_slice.ensures)
+    (stacked_stand c.args.ex.now c.args.asked c.args.exprs c.in_ok-exprs.exprs c.in_ok-exprs.ensures c.requires.exprs)
+
+pub returns : goal.returns
+returns c =
+    ap₂ (λ (l : List Name) (ks : List ExprIR). Over c.args.input l (HStack c.args.input ks c.args.schema c.args.options))
+    (c.in_ok-asked.ensures
+    ∙ ap (λ (l : List ExprIR). asks_after c.args.asked (all_named_at c.args.ex.now l) c.stored.result.now) (c.as_slice.ensures ∙ c.in_ok-exprs.ensures)
+    ∙ ap (asks_after c.args.asked (all_named_at c.args.ex.now (stacked_at c.args.asked c.args.exprs))) (c.stored.ensures c.args.ex.now))
+    c.in_ok-exprs.ensures

@@ -1,0 +1,9 @@
+use Rattle.std.proofs.Common.{◌≡◌, sym, subst, List, OnOk}
+use Rattle.plan_ir.specs.declared.expr.AExpr.{AExpr}
+use Rattle.plan_ir.specs.declared.ir.IR.{IR}
+use Rattle.plan_prune.specs.Steps.{put_back}
+use Rattle.plan_prune.proofs.push_down.step.put.Goals as goal
+
+pub returns-in-HStack-clause-placed : goal.returns-in-HStack-clause-placed
+returns-in-HStack-clause-placed c =
+    subst (λ (p : IR). OnOk c.put.result ((ex : List AExpr) → c.put.new.lp ≡ put_back c.args.on_top c.args.is_asked c.args.lp.now ex c.args.node p)) (sym c.in-HStack.is) c.put.ensures.placed

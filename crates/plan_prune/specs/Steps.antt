@@ -1,0 +1,58 @@
+-- What is done at a node that was taken: before its input is pruned, and after.
+use Rattle.std.specs.Prelude.{Bool, ◌&&◌, List, [], ◌∷◌, slice_set}
+use Rattle.plan_core.specs.declared.arena.Node.{Node}
+use Rattle.plan_core.specs.declared.options.ProjectionOptions.{ProjectionOptions}
+use Rattle.plan_core.specs.Columns.{Columns, names_of}
+use Rattle.plan_core.specs.Names.{with_names}
+use Rattle.plan_ir.specs.declared.expr.AExpr.{AExpr}
+use Rattle.plan_ir.specs.declared.expr.ExprIR.{ExprIR}
+use Rattle.plan_ir.specs.declared.ir.IR.{IR}
+use Rattle.plan_ir.specs.declared.ir.IR.TheVariants.{Slice, Filter, Scan, DataFrameScan, SimpleProjection, Select, HStack, Invalid}
+use Rattle.plan_ir.specs.Plans.{bare, plans_at, expr_at, all_named_at}
+use Rattle.plan_meaning.specs.Exprs.{Name, leaves}
+use Rattle.plan_meaning.specs.Typing.{first_schema}
+use Rattle.plan_meaning.specs.Asked.{all_leaves}
+use Rattle.plan_prune.specs.declared.push_down.step.Step.{Step}
+use Rattle.plan_prune.specs.declared.push_down.step.Step.TheVariants.{Leaf, Over}
+use Rattle.plan_prune.specs.Stored.{stored_all}
+use Rattle.plan_prune.specs.Pruned.{asked_with, kept, pruned_output}
+use Rattle.plan_prune.specs.Kept.{selected_at, stacked_at, is_some_name, names_at, stored_after, asks_after, with_stacked}
+use Rattle.plan_prune.specs.Scans.{kept_scan, with_node}
+
+-- the columns that the plan at a number says it has
+abbrev pub columns_at : List IR → List AExpr → Node → Columns
+columns_at lp ex n = first_schema (stored_all (bare (plans_at lp ex (n ∷ []))))
+
+-- the step of a selection that is asked names
+abbrev pub selected_step : List AExpr → List Name → Node → List ExprIR → Columns → ProjectionOptions → Step
+selected_step ex asked i es schema options =
+    let ks = selected_at ex asked es in
+    Over i (with_names [] (all_leaves (all_named_at ex ks))) (Select i ks (stored_after (is_some_name asked) [] (names_at ks) schema) options)
+
+-- the step of an addition that is asked names; the last columns are its input's
+abbrev pub stacked_step : List AExpr → List Name → Node → List ExprIR → Columns → ProjectionOptions → Columns → Step
+stacked_step ex asked i es schema options s =
+    let ks = stacked_at asked es in
+    Over i (asks_after asked (all_named_at ex ks) s) (HStack i ks schema options)
+
+-- the step of a node that is asked names
+abbrev pub step_of : List IR → List AExpr → List Name → IR → Step
+step_of lp ex asked (Slice i offset len) = Over i asked (Slice i offset len)
+step_of lp ex asked (Filter i predicate) = Over i (asked_with asked (leaves (expr_at ex predicate.node))) (Filter i predicate)
+step_of lp ex asked (Scan sources info predicate output kind options) = Leaf (kept_scan asked (Scan sources info predicate output kind options))
+step_of lp ex asked (DataFrameScan df schema output) = Leaf (DataFrameScan df schema (pruned_output asked schema output))
+step_of lp ex asked (SimpleProjection i columns) = Over i (with_names [] (names_of (kept asked columns))) (SimpleProjection i (kept asked columns))
+step_of lp ex asked (Select i es schema options) = selected_step ex asked i es schema options
+step_of lp ex asked (HStack i es schema options) = stacked_step ex asked i es schema options (columns_at lp ex i)
+step_of lp ex asked Invalid = Leaf Invalid
+
+-- the arena with a node back at its number, over its pruned input: with projections on top of narrowed scans or without, where names are asked of it or none
+abbrev pub put_back : Bool → Bool → List IR → List AExpr → Node → IR → List IR
+put_back top some lp ex n (Scan sources info predicate output kind options) = with_node (some && top) lp n (Scan sources info predicate output kind options)
+put_back top some lp ex n (HStack i es schema options) = with_stacked some lp n i es schema options (columns_at lp ex i)
+put_back top some lp ex n (Slice i offset len) = slice_set lp n.0 (Slice i offset len)
+put_back top some lp ex n (Filter i predicate) = slice_set lp n.0 (Filter i predicate)
+put_back top some lp ex n (DataFrameScan df schema output) = slice_set lp n.0 (DataFrameScan df schema output)
+put_back top some lp ex n (SimpleProjection i columns) = slice_set lp n.0 (SimpleProjection i columns)
+put_back top some lp ex n (Select i es schema options) = slice_set lp n.0 (Select i es schema options)
+put_back top some lp ex n Invalid = slice_set lp n.0 Invalid

@@ -1,0 +1,103 @@
+//! What pruning does at a node before its input is pruned, and after: each node kind has its own rule, and these two find it.
+ghost use Rattle.std.specs.Prelude.{◌≡◌, ◌<◌, ◌≤◌, List, IfOk, OnOk, length};
+ghost use Rattle.plan_tree.specs.Stands.{Trees, StandsOnce};
+ghost use Rattle.plan_ir.specs.declared.expr.AExpr.{AExpr};
+ghost use Rattle.plan_ir.specs.declared.ir.IR.{IR};
+ghost use Rattle.plan_ir.specs.Parts.{inputs_of, plan_shape, roots_of};
+ghost use Rattle.plan_prune.specs.Prunes.{StandExprs};
+ghost use Rattle.plan_prune.specs.Steps.{put_back, step_of};
+
+use crate::push_down::{filter, frame_scan, hstack, projection, scan, select, slice};
+use plan_core::{Arena, Names, Node};
+use plan_ir::{AExpr, IR};
+use std::alloc::{AllocError, Global};
+
+/// What is to be done at a node that was taken.
+#[derive(Drop)]
+pub enum Step {
+    /// The node has no input.
+    Leaf {
+        /// The node that goes back.
+        entry: IR,
+    },
+    /// The input is pruned before the node goes back.
+    Over {
+        /// The number of the input.
+        input: Node,
+        /// The names that are asked of the input; no names stand for every column.
+        asked: Names,
+        /// The node that goes back over the input.
+        entry: IR,
+    },
+}
+
+/// The step of a node that was taken and is asked these names; no names stand for every column.
+pub fn prepare(
+    alloc: Global,
+    entry: IR,
+    asked: Names,
+    lp: &Arena<IR>,
+    ex: &Arena<AExpr>,
+) -> Result<Step, AllocError>
+    requires exprs { StandExprs ex.now (roots_of entry) }
+    requires inputs { (t : Trees IR) × StandsOnce plan_shape lp.now (inputs_of entry) t }
+    ensures { IfOk result (λ step. step ≡ step_of lp.now ex.now asked entry) }
+{
+    match entry {
+        IR::Slice { input, offset, len } => Ok(slice::prepare(input, offset, len, asked)),
+        IR::Filter { input, predicate } => filter::prepare(input, predicate, asked, ex),
+        IR::SimpleProjection { input, columns } => {
+            projection::prepare(alloc, input, columns, &asked)
+        }
+        scan @ IR::Scan { .. } => scan::prepare(alloc, scan, &asked),
+        IR::DataFrameScan {
+            df,
+            schema,
+            output_schema,
+        } => frame_scan::prepare(alloc, df, schema, output_schema, &asked),
+        IR::Select {
+            input,
+            expr,
+            schema,
+            options,
+        } => select::prepare(alloc, input, expr, schema, options, &asked, ex),
+        IR::HStack {
+            input,
+            exprs,
+            schema,
+            options,
+        } => hstack::prepare(alloc, input, exprs, schema, options, asked, lp, ex),
+        IR::Invalid => Ok(Step::Leaf { entry: IR::Invalid }),
+    }
+}
+
+/// Puts a node back at its number, once its input is pruned. It is told whether names are asked of it, and whether a
+/// projection goes on top of a narrowed scan. Refuses for want of memory alone, and then nothing is known of what stands at
+/// the number.
+pub fn put(
+    alloc: Global,
+    node: Node,
+    entry: IR,
+    is_asked: bool,
+    on_top: bool,
+    lp: &mut Arena<IR>,
+) -> Result<(), AllocError>
+    requires node { node.0 < length lp.old }
+    requires inputs { (t : Trees IR) × StandsOnce plan_shape lp.old (inputs_of entry) t }
+    ensures placed { OnOk result ((ex : List AExpr) → lp.new ≡ put_back on_top is_asked lp.old ex node entry) }
+    ensures grows { length lp.old ≤ length lp.new }
+{
+    match entry {
+        IR::HStack {
+            input,
+            exprs,
+            schema,
+            options,
+        } => hstack::put(alloc, node, input, is_asked, exprs, schema, options, lp),
+        scan @ IR::Scan { .. } => scan::put(alloc, node, scan, is_asked && on_top, lp),
+        other => {
+            lp.put(node, other);
+            Ok(())
+        }
+    }
+}
