@@ -5,6 +5,7 @@ mod MadeLemmas
 mod ReadLemmas
 mod TreeFaultLemmas
 mod TypedLemmas
+mod InputLemmas
 pub mod NameSets
 pub mod FrameLemmas
 pub mod Depends

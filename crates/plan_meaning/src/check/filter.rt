@@ -1,10 +1,11 @@
 //! A filter: its predicate reads columns of the input, is Boolean, and is named as it may be.
-ghost use Rattle.std.specs.Prelude.{◌≡◌};
+ghost use Rattle.std.specs.Prelude.{◌≡◌, [], ◌∷◌};
 ghost use Rattle.plan_ir.specs.Parts.{IsExpr};
-ghost use Rattle.plan_ir.specs.Plans.{named_at};
+ghost use Rattle.plan_ir.specs.Plans.{filter, named_at};
 ghost use Rattle.plan_meaning.specs.Exprs.{is_type};
 ghost use Rattle.plan_core.specs.declared.data_type.DataType.TheVariants.{Boolean};
 ghost use Rattle.plan_meaning.specs.Typing.{filter_checks, first_fault, Says};
+ghost use Rattle.plan_meaning.specs.Typed.{IsNodeTyped};
 
 use crate::check::place::at;
 use crate::exprs::{expr_type, may_be_named, reads_only};
@@ -39,4 +40,18 @@ pub fn check_filter(
         return Err(PolarsError::SchemaMismatch(at(node, 1)));
     }
     Ok(())
+}
+
+/// The columns of a filter over those of its input, or its first fault.
+pub fn filter_schema(
+    node: Node,
+    predicate: &ExprIR,
+    ex: &Arena<AExpr>,
+    schema: Schema,
+) -> PolarsResult<Schema>
+    requires { IsExpr ex.now predicate.now.node }
+    ensures { IsNodeTyped result node (filter (named_at ex.now predicate.now)) (schema ∷ []) }
+{
+    check_filter(node, predicate, ex, &schema)?;
+    Ok(schema)
 }

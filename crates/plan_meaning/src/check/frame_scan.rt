@@ -1,11 +1,14 @@
 //! A scan of a frame that is handed in: what it puts out are columns of the frame, with their types; without a number
 //! there are none.
 ghost use Rattle.std.specs.Prelude.{◌≡◌, []};
+ghost use Rattle.plan_ir.specs.Plans.{frame_scan};
 ghost use Rattle.plan_meaning.specs.Typing.{columns_or, number_checks, frame_checks, first_fault, Says};
+ghost use Rattle.plan_meaning.specs.Typed.{IsNodeTyped};
 
 use crate::check::columns::{check_columns_known, check_columns_typed};
 use crate::check::place::at;
-use plan_core::{Node, PolarsError, PolarsResult, Schema};
+use plan_core::{Node, PolarsError, PolarsResult, Schema, TryClone};
+use std::alloc::Global;
 
 /// Without a number the frame has no columns.
 #[tactic(auto, unfolding(crate::specs::Typing::number_checks))]
@@ -42,5 +45,22 @@ pub fn check_frame_scan(
     match output {
         None => check_number(node, df, schema),
         Some(output) => check_put_out(node, df, schema, output),
+    }
+}
+
+/// The columns of a scan of a frame, or its first fault.
+pub fn frame_scan_schema(
+    alloc: Global,
+    node: Node,
+    df: Option<u32>,
+    schema: &Schema,
+    output: &Option<Schema>,
+) -> PolarsResult<Schema>
+    ensures { IsNodeTyped result node (frame_scan df schema.now output.now) [] }
+{
+    check_frame_scan(node, df, schema, output)?;
+    match output {
+        Some(output) => Ok(output.try_clone(alloc)?),
+        None => Ok(schema.try_clone(alloc)?),
     }
 }

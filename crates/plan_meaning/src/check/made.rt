@@ -1,15 +1,19 @@
 //! The columns that expressions make, in a selection or beside the columns of the input: the expressions read columns of
 //! the input and have types there, no two have one name, the stored columns are those that they make, and each is named
 //! as it may be.
-ghost use Rattle.std.specs.Prelude.{◌≡◌, All, IfOk};
+ghost use Rattle.std.specs.Prelude.{◌≡◌, [], ◌∷◌, All, IfOk};
+ghost use Rattle.plan_core.specs.declared.options.ProjectionOptions.{ProjectionOptions};
 ghost use Rattle.plan_ir.specs.Parts.{IsExpr};
-ghost use Rattle.plan_ir.specs.Plans.{all_named_at};
+ghost use Rattle.plan_ir.specs.Plans.{all_named_at, hstack, select};
 ghost use Rattle.plan_meaning.specs.Typing.{leaf_checks, type_checks, once_checks, naming_checks, made_schema as schema_made, first_fault, Says, IsMade};
+ghost use Rattle.plan_meaning.specs.Typed.{IsNodeTyped};
 
 use crate::check::columns::check_stored;
 use crate::check::place::at;
 use crate::exprs::{expr_type, may_be_named, output_name, reads_only};
-use plan_core::{Arena, DataType, Names, Node, PlSmallStr, PolarsError, PolarsResult, Schema};
+use plan_core::{
+    Arena, DataType, Names, Node, PlSmallStr, PolarsError, PolarsResult, Schema, TryClone,
+};
 use plan_ir::{AExpr, ExprIR};
 use std::alloc::{AllocError, Global};
 
@@ -111,4 +115,39 @@ pub fn check_made(
     check_stored(node, stored, &made)?;
     check_namings(node, exprs, ex)?;
     Ok(made)
+}
+
+/// The columns of a selection over those of its input, or its first fault.
+pub fn select_schema(
+    alloc: Global,
+    node: Node,
+    exprs: &[ExprIR],
+    stored: &Schema,
+    ex: &Arena<AExpr>,
+    schema: &Schema,
+) -> PolarsResult<Schema>
+    requires { All (λ e. IsExpr ex.now e.node) exprs.now }
+    ensures { (options : ProjectionOptions) → IsNodeTyped result node (select (all_named_at ex.now exprs.now) stored.now options) (schema.now ∷ []) }
+{
+    if exprs.is_empty() {
+        return Err(PolarsError::InvalidOperation(at(node, 0)));
+    }
+    let base = Schema::new(alloc);
+    check_made(alloc, node, base, exprs, stored, ex, schema)
+}
+
+/// The columns of an addition of columns over those of its input, or its first fault.
+pub fn hstack_schema(
+    alloc: Global,
+    node: Node,
+    exprs: &[ExprIR],
+    stored: &Schema,
+    ex: &Arena<AExpr>,
+    schema: &Schema,
+) -> PolarsResult<Schema>
+    requires { All (λ e. IsExpr ex.now e.node) exprs.now }
+    ensures { (options : ProjectionOptions) → IsNodeTyped result node (hstack (all_named_at ex.now exprs.now) stored.now options) (schema.now ∷ []) }
+{
+    let base = schema.try_clone(alloc)?;
+    check_made(alloc, node, base, exprs, stored, ex, schema)
 }

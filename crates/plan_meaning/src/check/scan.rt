@@ -2,8 +2,11 @@
 //! columns are those of the files.
 ghost use Rattle.std.specs.Prelude.{◌≡◌, ◌+◌, ◌&&◌, [], ◌∷◌, length, suc, option_map, IfOk, Some, None};
 ghost use Rattle.plan_core.specs.Names.{with_names};
-ghost use Rattle.plan_ir.specs.Plans.{named_at};
-ghost use Rattle.plan_meaning.specs.Typing.{columns_or, names_or, is_none, each_new, put_out_checks, scan_checks, scan_column_checks, scan_name_checks, first_fault, Says};
+ghost use Rattle.plan_ir.specs.Plans.{named_at, scan};
+ghost use Rattle.plan_ir.specs.declared.scan.FileScan.{FileScan};
+ghost use Rattle.plan_ir.specs.declared.scan.ScanSources.{ScanSources};
+ghost use Rattle.plan_meaning.specs.Typing.{columns_or, file_columns, names_or, is_none, each_new, put_out_checks, scan_checks, scan_column_checks, scan_name_checks, first_fault, Says};
+ghost use Rattle.plan_meaning.specs.Typed.{IsNodeTyped};
 
 use crate::check::columns::{
     all_read, check_columns_known, check_columns_read, check_names_known, check_names_new,
@@ -12,6 +15,7 @@ use crate::check::columns::{
 use crate::check::place::at;
 use plan_core::{
     Arena, FileScanOptions, Items, Names, Node, PlSmallStr, PolarsError, PolarsResult, Schema,
+    TryClone,
 };
 use plan_ir::{AExpr, ExprIR, FileInfo};
 use std::alloc::{AllocError, Global};
@@ -168,4 +172,37 @@ pub fn check_scan(
         }
         _ => Err(PolarsError::InvalidOperation(at(node, 0))),
     }
+}
+
+/// The columns of a scan: what it puts out, where it says so, else those of its files.
+fn output_columns(
+    alloc: Global,
+    output: &Option<Schema>,
+    info: &FileInfo,
+) -> Result<Schema, AllocError>
+    ensures { IfOk result (λ s. s ≡ columns_or output.now (file_columns info.now)) }
+{
+    if let Some(output) = output {
+        return output.try_clone(alloc);
+    }
+    match &info.reader_schema {
+        Some(reader) => reader.try_clone(alloc),
+        None => Ok(Schema::new(alloc)),
+    }
+}
+
+/// The columns of a scan, or its first fault.
+pub fn scan_schema(
+    alloc: Global,
+    node: Node,
+    predicate: &Option<ExprIR>,
+    output: &Option<Schema>,
+    info: &FileInfo,
+    options: &FileScanOptions,
+    ex: &Arena<AExpr>,
+) -> PolarsResult<Schema>
+    ensures { (sources : ScanSources) (kind : FileScan) → IsNodeTyped result node (scan sources info.now (option_map (named_at ex.now) predicate.now) output.now kind options.now) [] }
+{
+    check_scan(alloc, node, predicate, output, info, options, ex)?;
+    Ok(output_columns(alloc, output, info)?)
 }
