@@ -1,0 +1,56 @@
+//! Words in angle brackets, each with the text that it stands for.
+
+use std::alloc::{AllocError, Global};
+
+/// The words, in the order in which they are replaced: a text may have words that come later.
+#[derive(Drop)]
+pub struct Words<'a> {
+    words: Vec<(&'a str, &'a str)>,
+}
+
+/// The word and its text, of a line `<word> = text` or `<word> =`.
+fn defined(line: &str) -> Option<(&str, &str)> {
+    let (word, text) = line.split_once(" =")?;
+    Some((word, text.strip_prefix(' ').unwrap_or(text)))
+}
+
+impl<'a> Words<'a> {
+    /// The words that the lines of a file define, in their order.
+    pub fn new(alloc: Global, file: &'a str) -> Result<Self, AllocError> {
+        let mut words = Vec::new(alloc);
+        for line in file.lines() {
+            if line.starts_with('<') {
+                words.push(defined(line).unwrap_or((line, "")))?;
+            }
+        }
+        Ok(Words { words })
+    }
+
+    /// Gives a word that is there another text. Whether it is there.
+    pub fn set(&mut self, word: &str, text: &'a str) -> bool {
+        for known in self.words.iter_mut() {
+            if known.0 == word {
+                known.1 = text;
+                return true;
+            }
+        }
+        false
+    }
+
+    /// Gives the word of a line another text. Whether the line has such a form, and the word is there.
+    pub fn set_line(&mut self, line: &'a str) -> bool {
+        match defined(line) {
+            Some((word, text)) => self.set(word, text),
+            None => false,
+        }
+    }
+
+    /// The text with each word replaced wherever it stands.
+    pub fn full(&self, alloc: Global, text: &str) -> Result<String, AllocError> {
+        let mut made = String::from_str(alloc, text)?;
+        for (word, meaning) in &self.words {
+            made = made.replace(alloc, *word, *meaning)?;
+        }
+        Ok(made)
+    }
+}
