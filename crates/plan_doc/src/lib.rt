@@ -9,7 +9,5 @@ mod fault;
 mod nodes;
 mod optional;
 mod parts;
-#[cfg(test)]
-mod tests;
 
 pub use document::{Document, ReadError, read_document};
