@@ -8,8 +8,6 @@ mod objects;
 mod parts;
 mod pieces;
 mod plan;
-#[cfg(test)]
-mod tests;
 mod texts;
 
 pub use texts::{write_fault, write_listing, write_plan};

@@ -1,6 +1,7 @@
 //! The JSON values of expressions, nodes and plans.
 ghost use Rattle.std.specs.Prelude.{◌≡◌, IfOk};
 ghost use Rattle.serde_json.specs.View.{view};
+ghost use Rattle.plan_ir.specs.declared.ir.IR.TheVariants.{Filter, SimpleProjection};
 ghost use Rattle.plan_text.specs.Written.{expr_data, node_data, slice_node_data, scan_data, frame_scan_data, made_data, list_data, plan_data};
 
 use crate::kinds::{format_name, literal_type, operator_name};
@@ -129,57 +130,42 @@ fn made(
     })
 }
 
-/// The object of a node.
+/// The object of a filter.
+#[tactic(auto, unfolding(crate::specs::Written::node_data))]
+fn filter(alloc: Global, input: Node, predicate: &ExprIR) -> Result<Value, AllocError>
+    ensures { IfOk result (λ v. view v ≡ node_data (Filter input predicate.now)) }
+{
+    let predicate = output(alloc, predicate)?;
+    json!(in alloc; {"input": input.0, "op": "Filter", "predicate": predicate})
+}
+
+/// The object of a simple projection.
+#[tactic(auto, unfolding(crate::specs::Written::node_data))]
+fn simple_projection(alloc: Global, input: Node, schema: &Schema) -> Result<Value, AllocError>
+    ensures { IfOk result (λ v. view v ≡ node_data (SimpleProjection input schema.now)) }
+{
+    let columns = columns(alloc, schema)?;
+    json!(in alloc; {"columns": columns, "input": input.0, "op": "SimpleProjection"})
+}
+
+/// The object of a node: of each kind a row or two.
+#[rattlefmt::skip]
 #[tactic(auto, unfolding(crate::specs::Written::node_data))]
 pub fn node(alloc: Global, node: &IR) -> Result<Value, AllocError>
     ensures { IfOk result (λ v. view v ≡ node_data node.now) }
 {
     match node {
         IR::Slice { input, offset, len } => slice_node(alloc, *input, *offset, *len),
-        IR::Filter { input, predicate } => {
-            let predicate = output(alloc, predicate)?;
-            json!(in alloc; {"input": input.0, "op": "Filter", "predicate": predicate})
-        }
-        IR::Scan {
-            sources,
-            file_info,
-            predicate,
-            output_schema,
-            scan_type,
-            file_options,
-        } => scan(
-            alloc,
-            sources,
-            file_info,
-            predicate,
-            output_schema,
-            *scan_type,
-            file_options,
-        ),
-        IR::DataFrameScan {
-            df,
-            schema,
-            output_schema,
-        } => frame_scan(alloc, *df, schema, output_schema),
-        IR::SimpleProjection {
-            input,
-            columns: schema,
-        } => {
-            let columns = columns(alloc, schema)?;
-            json!(in alloc; {"columns": columns, "input": input.0, "op": "SimpleProjection"})
-        }
-        IR::Select {
-            input,
-            expr,
-            schema,
-            options,
-        } => made(alloc, "Select", *input, expr, schema, *options),
-        IR::HStack {
-            input,
-            exprs,
-            schema,
-            options,
-        } => made(alloc, "HStack", *input, exprs, schema, *options),
+        IR::Filter { input, predicate } => filter(alloc, *input, predicate),
+        IR::Scan { sources, file_info, predicate, output_schema, scan_type, file_options } =>
+            scan(alloc, sources, file_info, predicate, output_schema, *scan_type, file_options),
+        IR::DataFrameScan { df, schema, output_schema } =>
+            frame_scan(alloc, *df, schema, output_schema),
+        IR::SimpleProjection { input, columns } => simple_projection(alloc, *input, columns),
+        IR::Select { input, expr, schema, options } =>
+            made(alloc, "Select", *input, expr, schema, *options),
+        IR::HStack { input, exprs, schema, options } =>
+            made(alloc, "HStack", *input, exprs, schema, *options),
         IR::Invalid => json!(in alloc; {"op": "Invalid"}),
     }
 }

@@ -1,0 +1,262 @@
+//! Plans that are to be written.
+
+use plan_core::{
+    Arena, DataType, FileScanOptions, Items, Node, PlSmallStr, PlainType, ProjectionOptions,
+    RowIndex, Schema,
+};
+use plan_ir::{
+    AExpr, ExprIR, FileInfo, FileScan, IR, LiteralValue, Operator, OutputName, PlanCopy,
+    ScanSources,
+};
+use std::alloc::{AllocError, Global};
+
+fn name(alloc: Global, text: &str) -> Result<PlSmallStr, AllocError> {
+    PlSmallStr::new(alloc, text)
+}
+
+pub fn names(alloc: Global, texts: &[&str]) -> Result<Items<PlSmallStr>, AllocError> {
+    let mut list = Items::new(alloc);
+    for text in texts {
+        list.push(name(alloc, text)?)?;
+    }
+    Ok(list)
+}
+
+fn schema(alloc: Global, columns: &[(&str, DataType)]) -> Result<Schema, AllocError> {
+    let mut schema = Schema::new(alloc);
+    for (column, data_type) in columns {
+        let _ = schema.with_column(name(alloc, column)?, *data_type)?;
+    }
+    Ok(schema)
+}
+
+// Columns of whole numbers.
+fn numbers(alloc: Global, columns: &[&str]) -> Result<Schema, AllocError> {
+    let mut schema = Schema::new(alloc);
+    for column in columns {
+        let _ = schema.with_column(name(alloc, column)?, DataType::Int64)?;
+    }
+    Ok(schema)
+}
+
+fn file_columns(alloc: Global) -> Result<Schema, AllocError> {
+    let mut schema = numbers(alloc, &["a", "b"])?;
+    let _ = schema.with_column(name(alloc, "c")?, DataType::String)?;
+    Ok(schema)
+}
+
+fn file(alloc: Global) -> Result<FileInfo, AllocError> {
+    Ok(FileInfo {
+        schema: file_columns(alloc)?,
+        reader_schema: Some(file_columns(alloc)?),
+    })
+}
+
+fn scan_of_two(alloc: Global) -> Result<IR, AllocError> {
+    let columns = names(alloc, &["a", "b"])?;
+    Ok(IR::Scan {
+        sources: ScanSources::Paths(names(alloc, &["t"])?),
+        file_info: file(alloc)?,
+        predicate: None,
+        output_schema: Some(numbers(alloc, &["a", "b"])?),
+        scan_type: FileScan::Parquet,
+        file_options: FileScanOptions {
+            with_columns: Some(columns),
+            ..FileScanOptions::default()
+        },
+    })
+}
+
+fn projection(alloc: Global, input: usize, columns: &[&str]) -> Result<IR, AllocError> {
+    Ok(IR::SimpleProjection {
+        input: Node(input),
+        columns: numbers(alloc, columns)?,
+    })
+}
+
+fn filter(alloc: Global) -> Result<IR, AllocError> {
+    Ok(IR::Filter {
+        input: Node(2),
+        predicate: ExprIR::new(Node(0), OutputName::ColumnLhs(name(alloc, "b")?)),
+    })
+}
+
+fn comparison(alloc: Global) -> Result<Arena<AExpr>, AllocError> {
+    let mut ex = Arena::new(alloc);
+    let _ = ex.add(AExpr::BinaryExpr {
+        left: Node(1),
+        op: Operator::Gt,
+        right: Node(2),
+    })?;
+    let _ = ex.add(AExpr::Column(name(alloc, "b")?))?;
+    let _ = ex.add(AExpr::Literal(LiteralValue::Int64(1)))?;
+    Ok(ex)
+}
+
+pub fn simple_plan(alloc: Global) -> Result<PlanCopy, AllocError> {
+    let mut lp = Arena::new(alloc);
+    let _ = lp.add(projection(alloc, 1, &["a"])?)?;
+    let _ = lp.add(filter(alloc)?)?;
+    let _ = lp.add(projection(alloc, 3, &["a", "b"])?)?;
+    let _ = lp.add(scan_of_two(alloc)?)?;
+    Ok(PlanCopy {
+        root: Node(0),
+        lp,
+        ex: comparison(alloc)?,
+    })
+}
+
+fn some_rows(alloc: Global) -> Result<FileScanOptions, AllocError> {
+    let row_index = RowIndex {
+        name: name(alloc, "i")?,
+        offset: 9,
+    };
+    Ok(FileScanOptions {
+        slice: Some((-3, 4)),
+        row_index: Some(row_index),
+        rechunk: true,
+        include_file_paths: Some(name(alloc, "p")?),
+        ..FileScanOptions::default()
+    })
+}
+
+fn scan_of_some_rows(alloc: Global) -> Result<IR, AllocError> {
+    let file_info = FileInfo {
+        schema: schema(alloc, &[("\"é\n", DataType::Boolean)])?,
+        reader_schema: None,
+    };
+    Ok(IR::Scan {
+        sources: ScanSources::Paths(Items::new(alloc)),
+        file_info,
+        predicate: Some(ExprIR::new(Node(0), OutputName::Alias(name(alloc, "\\")?))),
+        output_schema: None,
+        scan_type: FileScan::Parquet,
+        file_options: some_rows(alloc)?,
+    })
+}
+
+pub fn full_plan(alloc: Global) -> Result<PlanCopy, AllocError> {
+    let mut ex = Arena::new(alloc);
+    let _ = ex.add(AExpr::Column(name(alloc, "\"é\n")?))?;
+    let _ = ex.add(AExpr::Literal(LiteralValue::Int64(-7)))?;
+    let mut lp = Arena::new(alloc);
+    let _ = lp.add(IR::Invalid)?;
+    let _ = lp.add(scan_of_some_rows(alloc)?)?;
+    Ok(PlanCopy {
+        root: Node(1),
+        lp,
+        ex,
+    })
+}
+
+fn more_exprs(alloc: Global) -> Result<Arena<AExpr>, AllocError> {
+    let mut ex = Arena::new(alloc);
+    let _ = ex.add(AExpr::Alias(Node(1), name(alloc, "x")?))?;
+    let _ = ex.add(AExpr::Literal(LiteralValue::String(name(alloc, "t")?)))?;
+    let _ = ex.add(AExpr::BinaryExpr {
+        left: Node(3),
+        op: Operator::Xor,
+        right: Node(4),
+    })?;
+    let _ = ex.add(AExpr::Literal(LiteralValue::Boolean(true)))?;
+    for missing in [PlainType::Boolean, PlainType::Int64, PlainType::String] {
+        let _ = ex.add(AExpr::Literal(LiteralValue::Null(missing)))?;
+    }
+    Ok(ex)
+}
+
+fn select_of_two(alloc: Global) -> Result<IR, AllocError> {
+    let mut expr = Items::new(alloc);
+    expr.push(ExprIR::new(Node(0), OutputName::Alias(name(alloc, "x")?)))?;
+    expr.push(ExprIR::new(Node(1), OutputName::LiteralLhs(name(alloc, "literal")?)))?;
+    let columns = [("x", DataType::String), ("literal", DataType::String)];
+    Ok(IR::Select {
+        input: Node(2),
+        expr,
+        schema: schema(alloc, &columns)?,
+        options: ProjectionOptions {
+            run_parallel: true,
+            duplicate_check: false,
+            should_broadcast: false,
+        },
+    })
+}
+
+fn hstack_of_one(alloc: Global) -> Result<IR, AllocError> {
+    let mut exprs = Items::new(alloc);
+    exprs.push(ExprIR::new(Node(2), OutputName::LiteralLhs(name(alloc, "b")?)))?;
+    let columns = [("a", DataType::Int64), ("b", DataType::Boolean)];
+    Ok(IR::HStack {
+        input: Node(3),
+        exprs,
+        schema: schema(alloc, &columns)?,
+        options: ProjectionOptions {
+            run_parallel: false,
+            duplicate_check: true,
+            should_broadcast: false,
+        },
+    })
+}
+
+fn frame_of_one(alloc: Global) -> Result<IR, AllocError> {
+    Ok(IR::DataFrameScan {
+        df: Some(7),
+        schema: numbers(alloc, &["a"])?,
+        output_schema: Some(numbers(alloc, &["a"])?),
+    })
+}
+
+pub fn more_plan(alloc: Global) -> Result<PlanCopy, AllocError> {
+    let slice = IR::Slice {
+        input: Node(1),
+        offset: -3,
+        len: 4294967295,
+    };
+    let no_frame = IR::DataFrameScan {
+        df: None,
+        schema: Schema::new(alloc),
+        output_schema: None,
+    };
+    let mut lp = Arena::new(alloc);
+    let _ = lp.add(slice)?;
+    let _ = lp.add(select_of_two(alloc)?)?;
+    let _ = lp.add(hstack_of_one(alloc)?)?;
+    let _ = lp.add(frame_of_one(alloc)?)?;
+    let _ = lp.add(no_frame)?;
+    Ok(PlanCopy {
+        root: Node(0),
+        lp,
+        ex: more_exprs(alloc)?,
+    })
+}
+
+pub fn all_operators(alloc: Global) -> Result<PlanCopy, AllocError> {
+    let mut ex = Arena::new(alloc);
+    for op in [
+        Operator::Eq,
+        Operator::NotEq,
+        Operator::Lt,
+        Operator::LtEq,
+        Operator::Gt,
+        Operator::GtEq,
+        Operator::EqValidity,
+        Operator::NotEqValidity,
+        Operator::And,
+        Operator::Or,
+        Operator::Xor,
+        Operator::Plus,
+        Operator::Minus,
+        Operator::Multiply,
+    ] {
+        let _ = ex.add(AExpr::BinaryExpr {
+            left: Node(0),
+            op,
+            right: Node(1),
+        })?;
+    }
+    Ok(PlanCopy {
+        root: Node(0),
+        lp: Arena::new(alloc),
+        ex,
+    })
+}

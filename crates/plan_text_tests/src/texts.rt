@@ -1,0 +1,82 @@
+//! Whole texts, as they must be written.
+
+use crate::plans::{all_operators, full_plan, more_plan, names, simple_plan};
+use plan_core::{At, Node, PolarsError};
+use plan_ir::PlanCopy;
+use plan_text::{write_fault, write_listing, write_plan};
+use std::alloc::{AllocError, Global};
+use std::process::Abort;
+
+const SIMPLE_PLAN: &str =
+    r#"{"exprs":[{"left":1,"op":"BinaryExpr","operator":"Gt","right":2},{"name":"b","op":"Column"},{"op":"Literal","type":"Int64","value":1}],"nodes":[{"columns":[["a","Int64"]],"input":1,"op":"SimpleProjection"},{"input":2,"op":"Filter","predicate":[0,"col","b"]},{"columns":[["a","Int64"],["b","Int64"]],"input":3,"op":"SimpleProjection"},{"columns":["a","b"],"hive":null,"kind":"Parquet","op":"Scan","output":[["a","Int64"],["b","Int64"]],"path_column":null,"predicate":null,"reader":[["a","Int64"],["b","Int64"],["c","String"]],"rechunk":false,"row_index":null,"schema":[["a","Int64"],["b","Int64"],["c","String"]],"slice":null,"sources":{"paths":["t"]}}],"root":0}"#;
+
+const FULL_PLAN: &str =
+    r#"{"exprs":[{"name":"\"é\n","op":"Column"},{"op":"Literal","type":"Int64","value":-7}],"nodes":[{"op":"Invalid"},{"columns":null,"hive":null,"kind":"Parquet","op":"Scan","output":null,"path_column":"p","predicate":[0,"alias","\\"],"reader":null,"rechunk":true,"row_index":["i",9],"schema":[["\"é\n","Boolean"]],"slice":[-3,4],"sources":{"paths":[]}}],"root":1}"#;
+
+const MORE_PLAN: &str =
+    r#"{"exprs":[{"input":1,"name":"x","op":"Alias"},{"op":"Literal","type":"String","value":"t"},{"left":3,"op":"BinaryExpr","operator":"Xor","right":4},{"op":"Literal","type":"Boolean","value":true},{"op":"Literal","type":"Boolean","value":null},{"op":"Literal","type":"Int64","value":null},{"op":"Literal","type":"String","value":null}],"nodes":[{"input":1,"len":4294967295,"offset":-3,"op":"Slice"},{"exprs":[[0,"alias","x"],[1,"lit","literal"]],"input":2,"op":"Select","options":[true,false,false],"schema":[["x","String"],["literal","String"]]},{"exprs":[[2,"lit","b"]],"input":3,"op":"HStack","options":[false,true,false],"schema":[["a","Int64"],["b","Boolean"]]},{"frame":7,"op":"DataFrameScan","output":[["a","Int64"]],"schema":[["a","Int64"]]},{"frame":null,"op":"DataFrameScan","output":null,"schema":[]}],"root":0}"#;
+
+const OPERATORS: &str =
+    r#"{"exprs":[{"left":0,"op":"BinaryExpr","operator":"Eq","right":1},{"left":0,"op":"BinaryExpr","operator":"NotEq","right":1},{"left":0,"op":"BinaryExpr","operator":"Lt","right":1},{"left":0,"op":"BinaryExpr","operator":"LtEq","right":1},{"left":0,"op":"BinaryExpr","operator":"Gt","right":1},{"left":0,"op":"BinaryExpr","operator":"GtEq","right":1},{"left":0,"op":"BinaryExpr","operator":"EqValidity","right":1},{"left":0,"op":"BinaryExpr","operator":"NotEqValidity","right":1},{"left":0,"op":"BinaryExpr","operator":"And","right":1},{"left":0,"op":"BinaryExpr","operator":"Or","right":1},{"left":0,"op":"BinaryExpr","operator":"Xor","right":1},{"left":0,"op":"BinaryExpr","operator":"Plus","right":1},{"left":0,"op":"BinaryExpr","operator":"Minus","right":1},{"left":0,"op":"BinaryExpr","operator":"Multiply","right":1}],"nodes":[],"root":0}"#;
+
+fn is_written(
+    rt: &impl Abort,
+    alloc: Global,
+    plan: &PlanCopy,
+    text: &str,
+) -> Result<(), AllocError> {
+    let written = write_plan(alloc, plan)?;
+    assert_eq!(rt; written.as_str(), text);
+    Ok(())
+}
+
+#[test]
+fn writes_a_simple_plan(rt: HostRuntime) -> Result<(), AllocError> {
+    let plan = simple_plan(rt.alloc())?;
+    is_written(&rt, rt.alloc(), &plan, SIMPLE_PLAN)
+}
+
+#[test]
+fn writes_what_a_scan_may_say(rt: HostRuntime) -> Result<(), AllocError> {
+    let plan = full_plan(rt.alloc())?;
+    is_written(&rt, rt.alloc(), &plan, FULL_PLAN)
+}
+
+#[test]
+fn writes_further_nodes(rt: HostRuntime) -> Result<(), AllocError> {
+    let plan = more_plan(rt.alloc())?;
+    is_written(&rt, rt.alloc(), &plan, MORE_PLAN)
+}
+
+#[test]
+fn writes_each_operator(rt: HostRuntime) -> Result<(), AllocError> {
+    let plan = all_operators(rt.alloc())?;
+    is_written(&rt, rt.alloc(), &plan, OPERATORS)
+}
+
+#[test]
+fn writes_listings(rt: HostRuntime) -> Result<(), AllocError> {
+    let alloc = rt.alloc();
+    let reads = vec![in alloc; names(alloc, &["a", "b"])?]?;
+    let text = write_listing(alloc, &simple_plan(alloc)?, reads.as_slice())?;
+    let wanted = format!(in alloc;
+        "{{\"plan\":{SIMPLE_PLAN},\"reads\":[[\"a\",\"b\"]],\"rows\":null}}\n"
+    )?;
+    assert_eq!(rt; text.as_str(), wanted.as_str());
+    Ok(())
+}
+
+#[test]
+fn writes_faults(rt: HostRuntime) -> Result<(), AllocError> {
+    let alloc = rt.alloc();
+    let at = At {
+        node: Some(Node(1)),
+        place: 0,
+    };
+    let text = write_fault(alloc, &PolarsError::ComputeError(at))?;
+    assert_eq!(rt;
+        text.as_str(),
+        "{\"error\":{\"kind\":\"ComputeError\",\"node\":1,\"place\":0}}\n"
+    );
+    Ok(())
+}
