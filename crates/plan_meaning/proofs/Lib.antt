@@ -1,7 +1,8 @@
 -- The lemmas of this crate.
 mod ExprSteps
+pub mod ScalarExprs
 mod CheckLemmas
-mod MadeLemmas
+pub mod MadeLemmas
 mod ReadLemmas
 mod TreeFaultLemmas
 mod TypedLemmas

@@ -77,7 +77,7 @@ one_tree lp root (more (rose m p kids) no_roses) h = (m, p, kids, refl)
 one_tree lp root (more (rose m p kids) (more (rose m' p' kids') rest)) h = absurd h.4
 
 -- a plan that stands at a number is one plan
-one_stands : (lp : List IR) (ex : List AExpr) (root : Node) → IsPlan lp ex root → (n : Node) × (op : Op) × (kids : Roses Node Op) × (plans_at lp ex (root ∷ []) ≡ more (rose n op kids) no_roses)
+pub one_stands : (lp : List IR) (ex : List AExpr) (root : Node) → IsPlan lp ex root → (n : Node) × (op : Op) × (kids : Roses Node Op) × (plans_at lp ex (root ∷ []) ≡ more (rose n op kids) no_roses)
 one_stands lp ex root h =
     let t = one_tree lp root h.nodes h.stands.nodes.stands in
     let is : trees_at plan_shape lp (root ∷ []) ≡ more (rose t.0 t.1 t.2) no_roses = trees_at-is plan_shape lp (root ∷ []) h.nodes h.stands.nodes ∙ t.3 in

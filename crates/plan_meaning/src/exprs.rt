@@ -1,12 +1,13 @@
 //! Expressions over some columns: whether they are found, the type, and the output name.
-ghost use Rattle.std.specs.Prelude.{◌≡◌};
+ghost use Rattle.std.specs.Prelude.{◌≡◌, All};
 ghost use Rattle.plan_ir.specs.Parts.{IsExpr};
-ghost use Rattle.plan_ir.specs.Plans.{expr_at};
-ghost use Rattle.plan_meaning.specs.Exprs.{all_known, leaves, expr_type as type_of_expr, literal_type as type_of_literal, takes as is_taken, gives as is_given, operator_type as type_of_operator, naming, may_be_named as may_be, name_of};
+ghost use Rattle.plan_ir.specs.Plans.{all_named_at, expr_at};
+ghost use Rattle.plan_meaning.specs.Exprs.{all_known, leaves, expr_type as type_of_expr, literal_type as type_of_literal, takes as is_taken, gives as is_given, operator_type as type_of_operator, naming, may_be_named as may_be, name_of, is_scalar as scalar_expr};
+ghost use Rattle.plan_meaning.specs.Steps.{all_scalar as are_scalar};
 ghost use Rattle.plan_meaning.specs.Seen.{naming_seen};
 
 use plan_core::{Arena, DataType, Node, Schema};
-use plan_ir::{AExpr, LiteralValue, Operator, OutputName};
+use plan_ir::{AExpr, ExprIR, LiteralValue, Operator, OutputName};
 
 /// Whether each column of the expression is one of the schema's.
 pub fn reads_only(node: Node, ex: &Arena<AExpr>, schema: &Schema) -> bool
@@ -103,6 +104,32 @@ pub fn expr_type(node: Node, ex: &Arena<AExpr>, schema: &Schema) -> Option<DataT
             operator_type(*op, left, right)
         }
     }
+}
+
+/// Whether the expression is scalar: no column is in it.
+pub fn is_scalar(node: Node, ex: &Arena<AExpr>) -> bool
+    requires { IsExpr ex.now node }
+    ensures { result ≡ scalar_expr (expr_at ex.now node) }
+{
+    match ex.get(node) {
+        AExpr::Column(_) => false,
+        AExpr::Literal(_) => true,
+        AExpr::Alias(input, _) => is_scalar(*input, ex),
+        AExpr::BinaryExpr { left, right, .. } => is_scalar(*left, ex) && is_scalar(*right, ex),
+    }
+}
+
+/// Whether the expressions are scalar throughout.
+pub fn all_scalar(exprs: &[ExprIR], ex: &Arena<AExpr>) -> bool
+    requires { All (λ e. IsExpr ex.now e.node) exprs.now }
+    ensures { result ≡ are_scalar (all_named_at ex.now exprs.now) }
+{
+    for expr in exprs {
+        if !is_scalar(expr.node, ex) {
+            return false;
+        }
+    }
+    true
 }
 
 /// What names an expression.

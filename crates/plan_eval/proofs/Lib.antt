@@ -1,0 +1,9 @@
+-- The lemmas of this crate.
+mod RowLemmas
+mod ShownLemmas
+mod StackLemmas
+mod FitLemmas
+mod FormedLemmas
+mod ColumnLemmas
+mod MadeLemmas
+mod PlanLemmas

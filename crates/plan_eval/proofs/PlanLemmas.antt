@@ -1,0 +1,75 @@
+-- From the table that a node gives over those of its inputs, to the table that the plan gives.
+use Rattle.std.proofs.Common.{◌≡◌, ◌∙◌, List, [], ◌∷◌, map, Some, ap, refl, sym, subst}
+use Rattle.std.specs.List.{slice_get}
+use Rattle.plan_core.specs.declared.arena.Node.{Node}
+use Rattle.plan_core.specs.Columns.{Columns}
+use Rattle.plan_tree.specs.Rose.{Roses, rose, no_roses, more}
+use Rattle.plan_ir.specs.declared.expr.AExpr.{AExpr}
+use Rattle.plan_ir.specs.declared.ir.IR.{IR}
+use Rattle.plan_ir.specs.Parts.{inputs_of, IsPlan}
+use Rattle.plan_ir.specs.Plans.{Op, bare, op_at, plans_at}
+use Rattle.plan_ir.proofs.PlanLemmas.{plan_open}
+use Rattle.plan_meaning.specs.Contents.{Contents, Fits}
+use Rattle.plan_meaning.specs.Frames.{Frame, HasSchema}
+use Rattle.plan_meaning.specs.PlanAt.{one_plan, plan_at}
+use Rattle.plan_meaning.specs.Steps.{IsValid, May, MayAll}
+use Rattle.plan_meaning.specs.Typing.{AllHold, AllValid, checks, schema, schema_by, schemas}
+use Rattle.plan_meaning.proofs.Runs.{may_has}
+use Rattle.plan_meaning.proofs.Validity.{bare-valid, one_stands, schemas-bare}
+use Rattle.plan_table.specs.declared.source_key.SourceKey.{SourceKey}
+use Rattle.plan_table.specs.declared.table.Table.{Table}
+use Rattle.plan_table.specs.Tables.{HasRows, types_of}
+use Rattle.plan_eval.specs.Given.{GiveAll, Gives, schema_of}
+use Rattle.plan_eval.specs.Shown.{contents_of, frame_of}
+use Rattle.plan_eval.proofs.FormedLemmas.{have-columns}
+
+module _ (lp : List IR) (ex : List AExpr) (n : Node) (p : IR) (h : IsPlan lp ex n) (entry : slice_get lp n.0 ≡ Some p) where
+  -- a plan gives what its node gives over what its inputs give
+  pub plan-gives : (ts : List (SourceKey × Table)) (tables : List Table) (t : Table) → GiveAll ts (plans_at lp ex (inputs_of p)) tables → Gives ts (op_at ex p) tables t → GiveAll ts (plans_at lp ex (n ∷ [])) (t ∷ [])
+  plan-gives ts tables t below here =
+      let whole = plan_open lp ex n p h entry in
+      record {
+        may = subst (λ (r : Roses Node Op). MayAll (contents_of ts) (bare r) (frame_of t ∷ [])) (sym whole) ((map frame_of tables, below.may, here.step), tt);
+        types =
+            ap (λ (s : Columns). s ∷ []) (here.types ∙ ap (schema_by (op_at ex p)) below.types)
+            ∙ sym (ap schemas whole);
+      }
+
+  -- a valid plan is valid at its node and its inputs
+  pub node-valid : AllValid (plans_at lp ex (n ∷ [])) → AllHold (checks (op_at ex p) (schemas (plans_at lp ex (inputs_of p))))
+  node-valid v = (subst (λ (r : Roses Node Op). AllValid r) (plan_open lp ex n p h entry) v).0
+
+  pub inputs-valid : AllValid (plans_at lp ex (n ∷ [])) → AllValid (plans_at lp ex (inputs_of p))
+  inputs-valid v = (subst (λ (r : Roses Node Op). AllValid r) (plan_open lp ex n p h entry) v).1
+
+module _ (lp : List IR) (ex : List AExpr) (root : Node) (h : IsPlan lp ex root) where
+  -- the plan at a number is valid where what stands there is
+  pub plans-valid : IsValid (plan_at lp ex root) → AllValid (plans_at lp ex (root ∷ []))
+  plans-valid v =
+      let t = one_stands lp ex root h in
+      let w : IsValid (rose tt t.1 (bare t.2)) = subst (λ (r : Roses Node Op). IsValid (one_plan (bare r))) t.3 v in
+      subst (λ (r : Roses Node Op). AllValid r) (sym t.3) (bare-valid (more (rose t.0 t.1 t.2) no_roses) (w.0, w.1, tt))
+
+  module _ (ts : List (SourceKey × Table)) (t : Table) (g : GiveAll ts (plans_at lp ex (root ∷ [])) (t ∷ [])) where
+    pub plan-may : May (contents_of ts) (plan_at lp ex root) (frame_of t)
+    plan-may =
+        let k = one_stands lp ex root h in
+        let m : MayAll (contents_of ts) (bare (more (rose k.0 k.1 k.2) no_roses)) (frame_of t ∷ []) = subst (λ (r : Roses Node Op). MayAll (contents_of ts) (bare r) (frame_of t ∷ [])) k.3 g.may in
+        subst (λ (r : Roses Node Op). May (contents_of ts) (one_plan (bare r)) (frame_of t)) (sym k.3) m.0
+
+    pub plan-types : schema_of t ≡ schema (plan_at lp ex root)
+    plan-types =
+        let k = one_stands lp ex root h in
+        let first : List Columns → Columns = λ (ss : List Columns). first_of ss in
+        ap first (g.types ∙ ap schemas k.3)
+        ∙ ap (schema_by k.1) (sym (schemas-bare k.2))
+        ∙ sym (ap (λ (r : Roses Node Op). schema (one_plan (bare r))) k.3)
+      where
+        first_of : List Columns → Columns
+        first_of [] = []
+        first_of (s ∷ ss) = s
+
+    -- each column has a value of its type for each row
+    pub plan-rows : IsValid (plan_at lp ex root) → Fits (contents_of ts) (plan_at lp ex root) → HasRows t
+    plan-rows v f =
+        have-columns t.height t.columns (subst (HasSchema (frame_of t)) (sym plan-types) (may_has (contents_of ts) (plan_at lp ex root) (frame_of t) v f plan-may))

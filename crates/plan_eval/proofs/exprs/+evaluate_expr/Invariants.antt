@@ -1,0 +1,6 @@
+use Rattle.plan_tree.proofs.TreeLemmas.{height_at}
+use Rattle.plan_ir.specs.Parts.{expr_shape}
+use Rattle.plan_eval.proofs.exprs.+evaluate_expr.Given as goal
+
+abbrev pub decreases-evaluate_expr : goal.decreases-evaluate_expr
+decreases-evaluate_expr l = height_at expr_shape l.ex.now l.node

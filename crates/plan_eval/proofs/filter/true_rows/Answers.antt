@@ -1,0 +1,19 @@
+use Rattle.std.proofs.Common.{◌≡◌, ◌∙◌, ◌++◌, ◌∷◌, [], List, ℕ, Bool, true, false, cond, ap, sym, append-nil}
+use Rattle.plan_meaning.specs.Meaning.{value_at, places_from}
+use Rattle.plan_meaning.specs.Values.{is_true}
+use Rattle.plan_eval.specs.Given.{cell_of}
+use Rattle.plan_eval.proofs.RowLemmas.{places-next}
+use Rattle.plan_eval.proofs.filter.true_rows.Goals.{then-is_true_at+in_ok-push, else-is_true_at}
+use Rattle.plan_eval.proofs.filter.true_rows.Goals as goal
+
+pub loop-row-preserved : goal.loop-row-preserved
+loop-row-preserved c =
+    let test : ℕ → Bool = λ (i : ℕ). is_true (value_at (cell_of c.args.values.now) i) in
+    elim c.if-is_true_at.branch [
+      | then-is_true_at+in_ok-push w ↦
+          w.rows-is ∙ w.in_ok-push.ensures.pushed ∙ ap (λ (l : List ℕ). l ++ c.loop-row.row ∷ []) c.loop-row.invariant
+          ∙ sym (places-next test c.loop-row.row true (sym c.is_true_at.ensures ∙ w.if-is_true_at.true))
+      | else-is_true_at w ↦
+          w.rows-is ∙ c.loop-row.invariant ∙ sym (append-nil (places_from test 0 c.loop-row.row))
+          ∙ sym (places-next test c.loop-row.row false (sym c.is_true_at.ensures ∙ w.if-is_true_at.false))
+    ]

@@ -1,0 +1,8 @@
+use Rattle.std.proofs.Common.{◌≡◌}
+use Rattle.plan_meaning.specs.Steps.{true_rows}
+use Rattle.plan_eval.specs.Given.{cell_of}
+use Rattle.plan_eval.proofs.filter.true_rows.Given as goal
+
+-- the true rows up to here
+abbrev pub invariant-loop-row : goal.invariant-loop-row
+invariant-loop-row l = l.rows ≡ true_rows (cell_of l.values) l.row

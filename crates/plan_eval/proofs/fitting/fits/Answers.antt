@@ -1,0 +1,8 @@
+use Rattle.plan_ir.specs.Plans.{bare, plans_at}
+use Rattle.std.proofs.Common.{[], ◌∷◌}
+use Rattle.plan_eval.specs.Shown.{contents_of}
+use Rattle.plan_eval.proofs.FitLemmas.{fits-one}
+use Rattle.plan_eval.proofs.fitting.fits.Goals as goal
+
+pub returns-clause-frames : goal.returns-clause-frames
+returns-clause-frames c ex h b = fits-one (contents_of c.args.tables.now) (bare (plans_at c.args.lp.now ex (c.args.root ∷ []))) (c.are_met.ensures.frames ex h b)

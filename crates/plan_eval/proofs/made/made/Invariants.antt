@@ -1,0 +1,15 @@
+use Rattle.std.proofs.Common.{◌≡◌, map, take}
+use Rattle.plan_core.specs.Columns.{with_types}
+use Rattle.plan_ir.specs.Plans.{all_named_at}
+use Rattle.plan_meaning.specs.Frames.{with_columns}
+use Rattle.plan_meaning.specs.Steps.{made_columns}
+use Rattle.plan_table.specs.Tables.{types_of}
+use Rattle.plan_eval.specs.Given.{stored_column}
+use Rattle.plan_eval.specs.Shown.{columns_shown, frame_of}
+use Rattle.plan_eval.proofs.made.made.Given as goal
+
+-- the columns with those that the expressions up to here make, and so their types
+abbrev pub invariant-loop-expr : goal.invariant-loop-expr
+invariant-loop-expr l =
+    (columns_shown l.columns ≡ with_columns (columns_shown l.fn.base) (made_columns l.height (frame_of l.table) (all_named_at l.ex (take l.expr-index l.exprs))))
+    × (types_of l.columns ≡ with_types (types_of l.fn.base) (map (stored_column l.schema) (take l.expr-index l.exprs)))

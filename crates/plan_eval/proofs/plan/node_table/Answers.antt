@@ -1,0 +1,25 @@
+use Rattle.std.proofs.Common.{◌≡◌, [], ◌∷◌, All, SFits, w64, sym, subst, rules}
+use Rattle.std.proofs.Math.Facts.{to_z-of_z}
+use Rattle.std.specs.Prelude.{ℤ, IfOk}
+use Rattle.plan_core.specs.declared.options.ProjectionOptions.{ProjectionOptions}
+use Rattle.plan_ir.specs.declared.expr.ExprIR.{ExprIR}
+use Rattle.plan_ir.specs.declared.ir.IR.{IR}
+use Rattle.plan_ir.specs.Parts.{IsExpr, exprs_of}
+use Rattle.plan_ir.specs.Plans.{op_at, slice}
+use Rattle.plan_eval.specs.Given.{Gives}
+use Rattle.plan_eval.proofs.plan.node_table.Goals as goal
+
+pub select-requires-clause-stand : goal.select-requires-clause-stand
+select-requires-clause-stand c = rw c.as_slice.ensures (subst (λ (p : IR). All (λ (e : ExprIR). IsExpr c.args.ex.now e.node) (exprs_of p)) c.in-Select.is c.requires.stand)
+
+pub hstack-requires-clause-stand : goal.hstack-requires-clause-stand
+hstack-requires-clause-stand c = rw c.as_slice-in-HStack.ensures (subst (λ (p : IR). All (λ (e : ExprIR). IsExpr c.args.ex.now e.node) (exprs_of p)) c.in-HStack.is c.requires.stand)
+
+pub returns-in-Slice : goal.returns-in-Slice
+returns-in-Slice c ts =
+    let fits : SFits w64 c.in-Slice.offset = search rules in
+    subst (λ (p : IR). IfOk c.slice.result (Gives ts (op_at c.args.ex.now p) (c.args.table.now ∷ []))) (sym c.in-Slice.is)
+    (subst (λ (z : ℤ). IfOk c.slice.result (Gives ts (slice z c.in-Slice.len) (c.args.table.now ∷ []))) (to_z-of_z fits) (c.slice.ensures ts))
+
+pub returns-in-Filter : goal.returns-in-Filter
+returns-in-Filter c ts = subst (λ (p : IR). IfOk c.filter.result (Gives ts (op_at c.args.ex.now p) (c.args.table.now ∷ []))) (sym c.in-Filter.is) (c.filter.ensures ts)

@@ -1,0 +1,24 @@
+use Rattle.std.proofs.Common.{◌≡◌, ◌∙◌, ◌∷◌, List, ap, ap₂, sym}
+use Rattle.plan_core.specs.Columns.{Columns, names_of}
+use Rattle.plan_core.specs.declared.data_type.DataType.{DataType}
+use Rattle.plan_meaning.specs.Contents.{stacked}
+use Rattle.plan_meaning.specs.Exprs.{Name}
+use Rattle.plan_meaning.specs.Frames.{Column, table_columns}
+use Rattle.plan_meaning.specs.Values.{Value}
+use Rattle.plan_eval.specs.Stacks.{shown_tables}
+use Rattle.plan_eval.proofs.ColumnLemmas.{put-types, put-shown}
+use Rattle.plan_eval.proofs.stack.stack.Goals as goal
+
+pub loop-name-preserved : goal.loop-name-preserved
+loop-name-preserved c =
+    let d = c.in_ok-stacked_column.field-0 in
+    let rest = c.next.new.self in
+    let values : Name → List Value = stacked (shown_tables c.args.tables.now) in
+    let typed : (c.in-Some.name.now, c.in-Some.dtype.now) ≡ (d.name, d.dtype) = ap₂ (λ (a : Name) (t : DataType). (a, t)) (sym c.in_ok-stacked_column.ensures.name) (sym c.in_ok-stacked_column.ensures.dtype) in
+    let steps = c.in-Some.ensures.steps ∙ ap (λ (x : Name × DataType). x ∷ rest) typed in
+    let left = ap (λ (cs : Columns). table_columns (names_of cs) values) c.in-Some.ensures.steps ∙ ap (λ (x : Column). x ∷ table_columns (names_of rest) values) (sym c.in_ok-stacked_column.ensures.shown) in
+    rw c.in_ok-with_column.ensures.after (
+      put-shown c.loop-name.columns d c.loop-name.name-iterator rest c.args.schema.now c.iter-name-items.ensures.distinct c.loop-name.invariant.1 steps
+          (table_columns (names_of c.loop-name.name-iterator) values) (table_columns (names_of rest) values) (table_columns (names_of c.args.schema.now) values) c.loop-name.invariant.0 left,
+      put-types c.loop-name.columns d c.loop-name.name-iterator rest c.args.schema.now c.iter-name-items.ensures.distinct c.loop-name.invariant.1 steps,
+    )

@@ -1,0 +1,56 @@
+-- Which tables fit a plan: each source that it reads has a table with the columns that it needs, of their types.
+use Rattle.std.specs.Prelude.{◌≡◌, ℕ, true, List, [], ◌∷◌, ◌++◌, map, Option, Some, None, IfSome}
+use Rattle.std.specs.List.{AllByRecursion}
+use Rattle.plan_core.specs.declared.data_type.DataType.{DataType}
+use Rattle.plan_core.specs.Columns.{Columns}
+use Rattle.plan_tree.specs.Rose.{Rose, Roses, rose, no_roses, more}
+use Rattle.plan_ir.specs.declared.scan.ScanSources.{ScanSources}
+use Rattle.plan_ir.specs.declared.scan.ScanSources.TheVariants.{Paths}
+use Rattle.plan_ir.specs.Plans.{Op, slice, filter, scan, frame_scan, simple_projection, select, hstack, invalid}
+use Rattle.plan_ir.specs.declared.scan.FileInfo.{FileInfo}
+use Rattle.plan_meaning.specs.Typing.{file_columns, is_column}
+use Rattle.plan_table.specs.declared.source_key.SourceKey.{SourceKey}
+use Rattle.plan_table.specs.declared.source_key.SourceKey.TheVariants as keys
+use Rattle.plan_table.specs.declared.table.Table.{Table}
+use Rattle.plan_table.specs.Tables.{IsTable, table_at, types_of}
+
+-- a source, with columns that its table needs
+abbrev pub Need : Type 0
+Need = SourceKey × Columns
+
+-- a table has each of these columns, of its type, among others
+abbrev pub HasColumns : Columns → Table → Type 0
+HasColumns s t = AllByRecursion (λ (c : List ℕ × DataType). is_column (types_of t.columns) c ≡ true) s
+
+-- a source has a table with the columns that it needs
+abbrev pub IsMet : List (SourceKey × Table) → Need → Type 0
+IsMet ts need = (t : Table) × (table_at ts need.0 ≡ Some t) × HasColumns need.1 t
+
+-- the tables that meet needs are well formed
+abbrev pub AreFormed : List (SourceKey × Table) → List Need → Type 0
+AreFormed ts ns = AllByRecursion (λ (n : Need). IfSome (table_at ts n.0) IsTable) ns
+
+-- what the sources of a scan need: the columns that its reader finds
+abbrev pub scan_needs : ScanSources → FileInfo → List Need
+scan_needs (Paths paths) info = map (λ (a : List ℕ). (keys.Path a, file_columns info)) paths
+
+-- what a node needs: the sources of a scan the columns that its reader finds, a frame that is handed in its columns
+abbrev pub needs_by : Op → List Need
+needs_by (slice offset len) = []
+needs_by (filter predicate) = []
+needs_by (scan sources info predicate output kind options) = scan_needs sources info
+needs_by (frame_scan None schema output) = []
+needs_by (frame_scan (Some i) schema output) = (keys.Frame i, schema) ∷ []
+needs_by (simple_projection columns) = []
+needs_by (select exprs schema options) = []
+needs_by (hstack exprs schema options) = []
+needs_by invalid = []
+
+-- what the nodes of plans need, in walk order
+abbrev pub needs : {N : Type 0} → Roses N Op → List Need
+needs no_roses = []
+needs (more (rose n op ts) rest) = needs_by op ++ (needs ts ++ needs rest)
+
+-- tables fit plans: each source that they read has a table with the columns that it needs
+abbrev pub TablesFit : {N : Type 0} → List (SourceKey × Table) → Roses N Op → Type 0
+TablesFit ts plans = AllByRecursion (IsMet ts) (needs plans)

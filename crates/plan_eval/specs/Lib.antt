@@ -1,0 +1,5 @@
+-- The definitions that contracts cite.
+pub mod Shown
+pub mod Fitting
+pub mod Given
+pub mod Stacks

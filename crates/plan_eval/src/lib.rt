@@ -1,0 +1,23 @@
+//! Which tables fit a plan, and the table that a plan gives over them.
+#![tactic(auto)]
+
+mod exprs;
+mod filter;
+mod fitting;
+mod frame_scan;
+mod hstack;
+mod inputs;
+mod made;
+mod operators;
+mod plan;
+mod projection;
+mod rows;
+mod scan;
+mod select;
+mod slice;
+mod stack;
+#[cfg(test)]
+mod tests;
+
+pub use fitting::fits;
+pub use plan::evaluate;

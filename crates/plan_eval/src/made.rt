@@ -1,0 +1,75 @@
+//! The columns that expressions make.
+ghost use Rattle.std.specs.Prelude.{◌≡◌, All, IfOk, is_some, map, true};
+ghost use Rattle.plan_core.specs.Columns.{type_of, with_types};
+ghost use Rattle.plan_ir.specs.Parts.{IsExpr};
+ghost use Rattle.plan_ir.specs.Plans.{all_named_at, expr_at};
+ghost use Rattle.plan_meaning.specs.Exprs.{name_of};
+ghost use Rattle.plan_meaning.specs.Meaning.{filled as filled_with, val};
+ghost use Rattle.plan_meaning.specs.Steps.{made as made_of};
+ghost use Rattle.plan_table.specs.Tables.{types_of};
+ghost use Rattle.plan_eval.specs.Given.{schema_of, stored_column};
+ghost use Rattle.plan_eval.specs.Shown.{column_shown, columns_shown, frame_of};
+
+use crate::exprs::{evaluate_expr, filled};
+use plan_core::{Arena, DataType, PlSmallStr, Schema};
+use plan_ir::{AExpr, ExprIR};
+use plan_meaning::output_name;
+use plan_table::{Column, Columns, Table};
+use std::alloc::{AllocError, Global};
+
+/// The type that a schema has for a column, which it holds.
+fn stored_type(schema: &Schema, name: &str) -> DataType
+    requires { is_some (type_of schema.now name.now) ≡ true }
+    ensures { type_of schema.now name.now ≡ Some result }
+{
+    match schema.get(name) {
+        Some(dtype) => *dtype,
+        None => unreachable!(),
+    }
+}
+
+/// The column that an expression makes over the rows of a table, of so many rows.
+fn made_column(
+    alloc: Global,
+    height: usize,
+    expr: &ExprIR,
+    schema: &Schema,
+    ex: &Arena<AExpr>,
+    table: &Table,
+) -> Result<Column, AllocError>
+    requires stands { IsExpr ex.now expr.now.node }
+    requires named { is_some (type_of schema.now (name_of expr.now.output_name)) ≡ true }
+    ensures shown { IfOk result (λ c. column_shown c ≡ record { name = name_of expr.now.output_name; values = filled_with height (val (expr_at ex.now expr.now.node) (frame_of table.now)) }) }
+    ensures typed { IfOk result (λ c. (c.name, c.dtype) ≡ stored_column schema.now expr.now) }
+{
+    let name = output_name(&expr.output_name);
+    let values = evaluate_expr(alloc, expr.node, ex, table)?;
+    Ok(Column {
+        name: PlSmallStr::new(alloc, name)?,
+        dtype: stored_type(schema, name),
+        values: filled(alloc, values, height)?,
+    })
+}
+
+/// The columns, of so many rows, and those that the expressions make over a table: each in the place of the one of its
+/// name, or last, with its type in the schema.
+pub fn made(
+    alloc: Global,
+    height: usize,
+    base: Columns,
+    exprs: &[ExprIR],
+    schema: &Schema,
+    ex: &Arena<AExpr>,
+    table: &Table,
+) -> Result<Table, AllocError>
+    requires stand { All (λ e. IsExpr ex.now e.node) exprs.now }
+    requires named { All (λ e. is_some (type_of schema.now (name_of e.output_name)) ≡ true) exprs.now }
+    ensures frame { IfOk result (λ t. frame_of t ≡ made_of height (columns_shown base) (all_named_at ex.now exprs.now) (frame_of table.now)) }
+    ensures types { IfOk result (λ t. schema_of t ≡ with_types (types_of base) (map (stored_column schema.now) exprs.now)) }
+{
+    let mut columns = base;
+    for expr in exprs {
+        columns.with_column(made_column(alloc, height, expr, schema, ex, table)?)?;
+    }
+    Ok(Table { height, columns })
+}

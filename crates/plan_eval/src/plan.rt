@@ -1,0 +1,112 @@
+//! The table that a plan gives over tables of its sources.
+ghost use Rattle.std.specs.Prelude.{◌≡◌, List, [], ◌∷◌, All, IfOk, length};
+ghost use Rattle.plan_ir.specs.declared.expr.AExpr.{AExpr as AExprType};
+ghost use Rattle.plan_ir.specs.Parts.{IsExpr, IsPlan, exprs_of, inputs_of};
+ghost use Rattle.plan_ir.specs.Plans.{op_at, plans_at};
+ghost use Rattle.plan_meaning.specs.Contents.{Fits};
+ghost use Rattle.plan_meaning.specs.PlanAt.{plan_at};
+ghost use Rattle.plan_meaning.specs.Steps.{IsValid, May};
+ghost use Rattle.plan_meaning.specs.Typing.{AllHold, AllValid, checks, schema};
+ghost use Rattle.plan_table.specs.declared.source_key.SourceKey.{SourceKey};
+ghost use Rattle.plan_table.specs.declared.table.Table.{Table as TableType};
+ghost use Rattle.plan_table.specs.Tables.{HasRows};
+ghost use Rattle.plan_eval.specs.Given.{GiveAll, Gives, schema_of};
+ghost use Rattle.plan_eval.specs.Shown.{contents_of, frame_of};
+
+use crate::filter::filter;
+use crate::frame_scan::frame_scan;
+use crate::hstack::hstack;
+use crate::inputs::input_of;
+use crate::projection::projection;
+use crate::scan::scan;
+use crate::select::select;
+use crate::slice::slice;
+use plan_core::{Arena, Node};
+use plan_ir::{AExpr, IR};
+use plan_table::{Table, Tables};
+use std::alloc::{AllocError, Global};
+
+/// The table of a node that reads its source.
+fn source_table(alloc: Global, node: &IR, tables: &Tables) -> Result<Table, AllocError>
+    requires source { inputs_of node.now ≡ [] }
+    requires valid { (ex : List AExprType) × AllHold (checks (op_at ex node.now) []) }
+    ensures { (ex : List AExprType) → IfOk result (Gives tables.now (op_at ex node.now) []) }
+{
+    match node {
+        IR::Scan {
+            sources,
+            file_info,
+            output_schema,
+            ..
+        } => scan(alloc, sources, file_info, output_schema, tables),
+        IR::DataFrameScan {
+            df,
+            schema,
+            output_schema,
+        } => frame_scan(alloc, *df, schema, output_schema, tables),
+        _ => unreachable!(),
+    }
+}
+
+/// The table of a node over the table of its input.
+fn node_table(
+    alloc: Global,
+    node: &IR,
+    table: &Table,
+    ex: &Arena<AExpr>,
+) -> Result<Table, AllocError>
+    requires one { length (inputs_of node.now) ≡ 1 }
+    requires stand { All (λ e. IsExpr ex.now e.node) (exprs_of node.now) }
+    requires valid { AllHold (checks (op_at ex.now node.now) (schema_of table.now ∷ [])) }
+    ensures { (ts : List (SourceKey × TableType)) → IfOk result (Gives ts (op_at ex.now node.now) (table.now ∷ [])) }
+{
+    match node {
+        IR::Slice { offset, len, .. } => slice(alloc, table, *offset, *len),
+        IR::Filter { predicate, .. } => filter(alloc, table, predicate, ex),
+        IR::SimpleProjection { columns, .. } => projection(alloc, table, columns),
+        IR::Select { expr, schema, .. } => select(alloc, table, expr.as_slice(), schema, ex),
+        IR::HStack { exprs, schema, .. } => hstack(alloc, table, exprs.as_slice(), schema, ex),
+        IR::Scan { .. } | IR::DataFrameScan { .. } | IR::Invalid => unreachable!(),
+    }
+}
+
+/// The table that the plan at a number gives.
+fn plan_table(
+    alloc: Global,
+    node: Node,
+    lp: &Arena<IR>,
+    ex: &Arena<AExpr>,
+    tables: &Tables,
+) -> Result<Table, AllocError>
+    requires stands { IsPlan lp.now ex.now node }
+    requires valid { AllValid (plans_at lp.now ex.now (node ∷ [])) }
+    ensures { IfOk result (λ table. GiveAll tables.now (plans_at lp.now ex.now (node ∷ [])) (table ∷ [])) }
+{
+    let entry = lp.get(node);
+    match input_of(entry) {
+        Some(input) => {
+            let table = plan_table(alloc, input, lp, ex, tables)?;
+            Ok(node_table(alloc, entry, &table, ex)?)
+        }
+        None => Ok(source_table(alloc, entry, tables)?),
+    }
+}
+
+/// The table that the plan at `root` gives over tables that fit it: a frame that it may give, its columns of the plan's
+/// types. Refuses for want of memory alone.
+pub fn evaluate(
+    alloc: Global,
+    root: Node,
+    lp: &Arena<IR>,
+    ex: &Arena<AExpr>,
+    tables: &Tables,
+) -> Result<Table, AllocError>
+    requires stands { IsPlan lp.now ex.now root }
+    requires valid { IsValid (plan_at lp.now ex.now root) }
+    requires fits { Fits (contents_of tables.now) (plan_at lp.now ex.now root) }
+    ensures may { IfOk result (λ table. May (contents_of tables.now) (plan_at lp.now ex.now root) (frame_of table)) }
+    ensures types { IfOk result (λ table. schema_of table ≡ schema (plan_at lp.now ex.now root)) }
+    ensures rows { IfOk result (λ table. HasRows table) }
+{
+    Ok(plan_table(alloc, root, lp, ex, tables)?)
+}

@@ -1,0 +1,450 @@
+//! Tables that small plans give, and what operators give for values.
+use crate::operators::operated;
+use crate::{evaluate, fits};
+use plan_core::{
+    Arena, DataType, FileScanOptions, Items, Node, PlSmallStr, ProjectionOptions, Schema, TryClone,
+};
+use plan_ir::{
+    AExpr, ExprIR, FileInfo, FileScan, IR, LiteralValue, Operator, OutputName, ScanSources,
+};
+use plan_meaning::check_plan;
+use plan_table::{AnyValue, Column, Columns, SourceKey, Table, Tables};
+use std::alloc::{AllocError, Global};
+use std::test::Fail;
+
+/// A value as its text: a number, true, false or null; any other is a text.
+fn value(alloc: Global, text: &str) -> Result<AnyValue, AllocError> {
+    match text {
+        "null" => Ok(AnyValue::Null),
+        "true" => Ok(AnyValue::Boolean(true)),
+        "false" => Ok(AnyValue::Boolean(false)),
+        _ => match text.parse::<i64>() {
+            Ok(number) => Ok(AnyValue::Int64(number)),
+            Err(_) => Ok(AnyValue::String(PlSmallStr::new(alloc, text)?)),
+        },
+    }
+}
+
+/// Each operator with two values and what it gives.
+const OPERATED: &[(Operator, &str, &str, &str)] = &[
+    (Operator::Eq, "1", "1", "true"),
+    (Operator::Eq, "1", "2", "false"),
+    (Operator::Eq, "null", "null", "null"),
+    (Operator::Eq, "null", "1", "null"),
+    (Operator::Eq, "x", "x", "true"),
+    (Operator::NotEq, "1", "2", "true"),
+    (Operator::NotEq, "x", "x", "false"),
+    (Operator::NotEq, "1", "null", "null"),
+    (Operator::Lt, "1", "2", "true"),
+    (Operator::Lt, "2", "2", "false"),
+    (Operator::Lt, "a", "ab", "true"),
+    (Operator::Lt, "b", "ab", "false"),
+    (Operator::Lt, "Z", "a", "true"),
+    (Operator::Lt, "z", "\u{e9}", "true"),
+    (Operator::Lt, "false", "true", "true"),
+    (Operator::Lt, "null", "1", "null"),
+    (Operator::LtEq, "2", "2", "true"),
+    (Operator::LtEq, "3", "2", "false"),
+    (Operator::LtEq, "1", "null", "null"),
+    (Operator::Gt, "2", "1", "true"),
+    (Operator::Gt, "2", "2", "false"),
+    (Operator::Gt, "null", "null", "null"),
+    (Operator::GtEq, "2", "2", "true"),
+    (Operator::GtEq, "1", "2", "false"),
+    (Operator::GtEq, "null", "2", "null"),
+    (Operator::EqValidity, "null", "null", "true"),
+    (Operator::EqValidity, "null", "1", "false"),
+    (Operator::EqValidity, "1", "null", "false"),
+    (Operator::EqValidity, "1", "1", "true"),
+    (Operator::NotEqValidity, "null", "null", "false"),
+    (Operator::NotEqValidity, "1", "null", "true"),
+    (Operator::NotEqValidity, "1", "1", "false"),
+    (Operator::And, "false", "false", "false"),
+    (Operator::And, "false", "null", "false"),
+    (Operator::And, "false", "true", "false"),
+    (Operator::And, "null", "false", "false"),
+    (Operator::And, "null", "null", "null"),
+    (Operator::And, "null", "true", "null"),
+    (Operator::And, "true", "false", "false"),
+    (Operator::And, "true", "null", "null"),
+    (Operator::And, "true", "true", "true"),
+    (Operator::Or, "false", "false", "false"),
+    (Operator::Or, "false", "null", "null"),
+    (Operator::Or, "false", "true", "true"),
+    (Operator::Or, "null", "false", "null"),
+    (Operator::Or, "null", "null", "null"),
+    (Operator::Or, "null", "true", "true"),
+    (Operator::Or, "true", "false", "true"),
+    (Operator::Or, "true", "null", "true"),
+    (Operator::Or, "true", "true", "true"),
+    (Operator::Xor, "false", "false", "false"),
+    (Operator::Xor, "false", "true", "true"),
+    (Operator::Xor, "true", "true", "false"),
+    (Operator::Xor, "true", "null", "null"),
+    (Operator::Xor, "null", "null", "null"),
+    (
+        Operator::Plus,
+        "9223372036854775807",
+        "1",
+        "-9223372036854775808",
+    ),
+    (
+        Operator::Plus,
+        "-9223372036854775808",
+        "-1",
+        "9223372036854775807",
+    ),
+    (Operator::Plus, "1", "null", "null"),
+    (
+        Operator::Minus,
+        "-9223372036854775808",
+        "1",
+        "9223372036854775807",
+    ),
+    (
+        Operator::Minus,
+        "9223372036854775807",
+        "-1",
+        "-9223372036854775808",
+    ),
+    (Operator::Minus, "5", "7", "-2"),
+    (Operator::Minus, "null", "7", "null"),
+    (Operator::Multiply, "9223372036854775807", "2", "-2"),
+    (
+        Operator::Multiply,
+        "-9223372036854775808",
+        "-1",
+        "-9223372036854775808",
+    ),
+    (Operator::Multiply, "-9223372036854775808", "2", "0"),
+    (Operator::Multiply, "null", "null", "null"),
+];
+
+#[test]
+fn operators_give_what_is_written(rt: HostRuntime) -> Result<(), Fail> {
+    let alloc = rt.alloc();
+    for (op, left, right, given) in OPERATED {
+        let left = value(alloc, *left)?;
+        let right = value(alloc, *right)?;
+        assert_eq!(rt; operated(*op, &left, &right), value(alloc, *given)?);
+    }
+    Ok(())
+}
+
+/// The type of a column that holds this value first.
+fn type_of(value: &str) -> DataType {
+    match value {
+        "true" | "false" => DataType::Boolean,
+        _ => match value.parse::<i64>() {
+            Ok(_) => DataType::Int64,
+            Err(_) => DataType::String,
+        },
+    }
+}
+
+/// A column of these values.
+fn column(alloc: Global, name: &str, values: &[&str]) -> Result<Column, AllocError> {
+    let mut items = Items::new(alloc);
+    for text in values {
+        items.push(value(alloc, *text)?)?;
+    }
+    let dtype = match values {
+        [] => DataType::Int64,
+        [first, ..] => type_of(*first),
+    };
+    Ok(Column {
+        name: PlSmallStr::new(alloc, name)?,
+        dtype,
+        values: items,
+    })
+}
+
+/// The tables where `key` has the table of a, b and c with three rows, behind more columns; none where a column lacks a
+/// value or has one of another type.
+fn tables(alloc: Global, key: SourceKey, b: &[&str], more: &[&str]) -> Result<Tables, AllocError> {
+    let mut columns = Columns::new(alloc);
+    for name in more {
+        columns.with_column(column(alloc, *name, &["0", "0", "0"])?)?;
+    }
+    columns.with_column(column(alloc, "a", &["1", "2", "3"])?)?;
+    columns.with_column(column(alloc, "b", b)?)?;
+    columns.with_column(column(alloc, "c", &["x", "y", "z"])?)?;
+    let table = Table { height: 3, columns };
+    let mut tables = Tables::new(alloc);
+    if table.is_formed() && tables.get(&key).is_none() {
+        tables.add(key, table)?;
+    }
+    Ok(tables)
+}
+
+/// The tables of the file `t`.
+fn files(alloc: Global) -> Result<Tables, AllocError> {
+    let key = SourceKey::Path(PlSmallStr::new(alloc, "t")?);
+    tables(alloc, key, &["2", "1", "5"], &[])
+}
+
+/// The text of a value.
+fn shown_value(alloc: Global, value: &AnyValue) -> Result<String, AllocError> {
+    match value {
+        AnyValue::Null => String::from_str(alloc, "null"),
+        AnyValue::Int64(number) => format!(in alloc; "{number}"),
+        AnyValue::String(text) => String::from_str(alloc, text.as_str()),
+        AnyValue::Boolean(truth) => format!(in alloc; "{truth}"),
+    }
+}
+
+/// The text of a table: its height, and then each column with its values.
+fn shown(alloc: Global, table: &Table) -> Result<String, AllocError> {
+    let mut text = format!(in alloc; "{}", table.height)?;
+    for column in table.columns.iter() {
+        text.push_str("; ")?;
+        text.push_str(column.name.as_str())?;
+        for value in column.values.as_slice() {
+            text.push_str(" ")?;
+            text.push_str(shown_value(alloc, value)?.as_str())?;
+        }
+    }
+    Ok(text)
+}
+
+/// The text of the table that a valid plan gives over tables that fit it; else why there is none.
+fn given(
+    alloc: Global,
+    root: Node,
+    lp: &Arena<IR>,
+    ex: &Arena<AExpr>,
+    tables: &Tables,
+) -> Result<String, AllocError> {
+    if check_plan(alloc, root, lp, ex).is_err() {
+        return Ok(String::from_str(alloc, "invalid")?);
+    }
+    if !fits(root, lp, tables) {
+        return Ok(String::from_str(alloc, "unfit")?);
+    }
+    let table = evaluate(alloc, root, lp, ex, tables)?;
+    Ok(shown(alloc, &table)?)
+}
+
+/// Columns; c is a text, and the others whole numbers.
+fn columns(alloc: Global, names: &[&str]) -> Result<Schema, AllocError> {
+    let mut schema = Schema::new(alloc);
+    for name in names {
+        let dtype = if *name == "c" {
+            DataType::String
+        } else {
+            DataType::Int64
+        };
+        let _ = schema.with_column(PlSmallStr::new(alloc, *name)?, dtype)?;
+    }
+    Ok(schema)
+}
+
+/// Adds the scan of the columns a, b and c of `t`.
+fn scan(alloc: Global, lp: &mut Arena<IR>) -> Result<Node, AllocError> {
+    let mut paths = Items::new(alloc);
+    paths.push(PlSmallStr::new(alloc, "t")?)?;
+    let schema = columns(alloc, &["a", "b", "c"])?;
+    let reader_schema = Some(schema.try_clone(alloc)?);
+    Ok(lp.add(IR::Scan {
+        sources: ScanSources::Paths(paths),
+        file_info: FileInfo {
+            schema,
+            reader_schema,
+        },
+        predicate: None,
+        output_schema: None,
+        scan_type: FileScan::Parquet,
+        file_options: FileScanOptions::default(),
+    })?)
+}
+
+/// Adds `left op right`, a column and a number.
+fn compared(
+    alloc: Global,
+    name: &str,
+    op: Operator,
+    number: i64,
+    ex: &mut Arena<AExpr>,
+) -> Result<Node, AllocError> {
+    let left = ex.add(AExpr::Column(PlSmallStr::new(alloc, name)?))?;
+    let right = ex.add(AExpr::Literal(LiteralValue::Int64(number)))?;
+    Ok(ex.add(AExpr::BinaryExpr { left, op, right })?)
+}
+
+/// Adds a filter by `b > 1`.
+fn filter(
+    alloc: Global,
+    input: Node,
+    lp: &mut Arena<IR>,
+    ex: &mut Arena<AExpr>,
+) -> Result<Node, AllocError> {
+    let root = compared(alloc, "b", Operator::Gt, 1, ex)?;
+    let predicate = ExprIR::new(root, OutputName::ColumnLhs(PlSmallStr::new(alloc, "b")?));
+    Ok(lp.add(IR::Filter { input, predicate })?)
+}
+
+/// Adds an expression to a list, put out under a name as an alias.
+fn put_out(
+    alloc: Global,
+    node: Node,
+    name: &str,
+    exprs: &mut Items<ExprIR>,
+) -> Result<(), AllocError> {
+    let output_name = OutputName::Alias(PlSmallStr::new(alloc, name)?);
+    exprs.push(ExprIR::new(node, output_name))
+}
+
+#[test]
+fn a_filter_keeps_the_rows_that_are_true(rt: HostRuntime) -> Result<(), Fail> {
+    let alloc = rt.alloc();
+    let mut lp = Arena::new(alloc);
+    let mut ex = Arena::new(alloc);
+    let node = scan(alloc, &mut lp)?;
+    let node = filter(alloc, node, &mut lp, &mut ex)?;
+    let root = lp.add(IR::SimpleProjection {
+        input: node,
+        columns: columns(alloc, &["a"])?,
+    })?;
+    let text = given(alloc, root, &lp, &ex, &files(alloc)?)?;
+    assert_eq!(rt; text.as_str(), "2; a 1 3");
+    Ok(())
+}
+
+#[test]
+fn null_is_no_true_row(rt: HostRuntime) -> Result<(), Fail> {
+    let alloc = rt.alloc();
+    let mut lp = Arena::new(alloc);
+    let mut ex = Arena::new(alloc);
+    let node = scan(alloc, &mut lp)?;
+    let root = filter(alloc, node, &mut lp, &mut ex)?;
+    let key = SourceKey::Path(PlSmallStr::new(alloc, "t")?);
+    let tables = tables(alloc, key, &["2", "null", "5"], &["d"])?;
+    let text = given(alloc, root, &lp, &ex, &tables)?;
+    assert_eq!(rt; text.as_str(), "2; a 1 3; b 2 5; c x z");
+    Ok(())
+}
+
+/// What a slice of the scan gives.
+fn sliced(alloc: Global, offset: i64, len: u32) -> Result<String, AllocError> {
+    let mut lp = Arena::new(alloc);
+    let ex = Arena::new(alloc);
+    let input = scan(alloc, &mut lp)?;
+    let root = lp.add(IR::Slice { input, offset, len })?;
+    given(alloc, root, &lp, &ex, &files(alloc)?)
+}
+
+#[test]
+fn slices_are_cut_to_the_rows(rt: HostRuntime) -> Result<(), Fail> {
+    let alloc = rt.alloc();
+    assert_eq!(rt; sliced(alloc, -2, 5)?.as_str(), "2; a 2 3; b 1 5; c y z");
+    assert_eq!(rt; sliced(alloc, 1, 1)?.as_str(), "1; a 2; b 1; c y");
+    assert_eq!(rt; sliced(alloc, -5, 3)?.as_str(), "1; a 1; b 2; c x");
+    assert_eq!(rt; sliced(alloc, 3, 1)?.as_str(), "0; a; b; c");
+    assert_eq!(rt;
+        sliced(alloc, -9223372036854775808, 4294967295)?.as_str(),
+        "0; a; b; c"
+    );
+    Ok(())
+}
+
+#[test]
+fn scalars_are_spread(rt: HostRuntime) -> Result<(), Fail> {
+    let alloc = rt.alloc();
+    let mut lp = Arena::new(alloc);
+    let mut ex = Arena::new(alloc);
+    let input = scan(alloc, &mut lp)?;
+    let one = ex.add(AExpr::Literal(LiteralValue::Int64(1)))?;
+    let mut expr = Items::new(alloc);
+    put_out(alloc, one, "x", &mut expr)?;
+    let options = ProjectionOptions::default();
+    let root = lp.add(IR::Select {
+        input,
+        expr,
+        schema: columns(alloc, &["x"])?,
+        options,
+    })?;
+    let text = given(alloc, root, &lp, &ex, &files(alloc)?)?;
+    assert_eq!(rt; text.as_str(), "1; x 1");
+    let mut expr = Items::new(alloc);
+    put_out(alloc, one, "x", &mut expr)?;
+    let sum = compared(alloc, "a", Operator::Plus, 10, &mut ex)?;
+    put_out(alloc, sum, "y", &mut expr)?;
+    let root = lp.add(IR::Select {
+        input,
+        expr,
+        schema: columns(alloc, &["x", "y"])?,
+        options,
+    })?;
+    let text = given(alloc, root, &lp, &ex, &files(alloc)?)?;
+    assert_eq!(rt; text.as_str(), "3; x 1 1 1; y 11 12 13");
+    Ok(())
+}
+
+#[test]
+fn an_addition_takes_the_place_of_its_name(rt: HostRuntime) -> Result<(), Fail> {
+    let alloc = rt.alloc();
+    let mut lp = Arena::new(alloc);
+    let mut ex = Arena::new(alloc);
+    let input = scan(alloc, &mut lp)?;
+    let product = compared(alloc, "b", Operator::Multiply, 2, &mut ex)?;
+    let mut exprs = Items::new(alloc);
+    put_out(alloc, product, "a", &mut exprs)?;
+    let sum = compared(alloc, "b", Operator::Plus, 1, &mut ex)?;
+    put_out(alloc, sum, "d", &mut exprs)?;
+    let root = lp.add(IR::HStack {
+        input,
+        exprs,
+        schema: columns(alloc, &["a", "b", "c", "d"])?,
+        options: ProjectionOptions::default(),
+    })?;
+    let text = given(alloc, root, &lp, &ex, &files(alloc)?)?;
+    assert_eq!(rt; text.as_str(), "3; a 4 2 10; b 2 1 5; c x y z; d 3 2 6");
+    Ok(())
+}
+
+#[test]
+fn frames_are_handed_in_by_number(rt: HostRuntime) -> Result<(), Fail> {
+    let alloc = rt.alloc();
+    let mut lp = Arena::new(alloc);
+    let ex = Arena::new(alloc);
+    let handed = tables(alloc, SourceKey::Frame(7), &["2", "1", "5"], &[])?;
+    let root = lp.add(IR::DataFrameScan {
+        df: Some(7),
+        schema: columns(alloc, &["a", "c"])?,
+        output_schema: Some(columns(alloc, &["c"])?),
+    })?;
+    assert_eq!(rt;
+        given(alloc, root, &lp, &ex, &handed)?.as_str(),
+        "3; c x y z"
+    );
+    assert_eq!(rt;
+        given(alloc, root, &lp, &ex, &files(alloc)?)?.as_str(),
+        "unfit"
+    );
+    let root = lp.add(IR::DataFrameScan {
+        df: None,
+        schema: Schema::new(alloc),
+        output_schema: None,
+    })?;
+    assert_eq!(rt;
+        given(alloc, root, &lp, &ex, &Tables::new(alloc))?.as_str(),
+        "0"
+    );
+    Ok(())
+}
+
+#[test]
+fn tables_fit_by_names_and_types(rt: HostRuntime) -> Result<(), Fail> {
+    let alloc = rt.alloc();
+    let mut lp = Arena::new(alloc);
+    let root = scan(alloc, &mut lp)?;
+    let ex = Arena::new(alloc);
+    let path = PlSmallStr::new(alloc, "t")?;
+    let typed = tables(alloc, SourceKey::Path(path), &["x", "y", "z"], &[])?;
+    assert_eq!(rt; given(alloc, root, &lp, &ex, &typed)?.as_str(), "unfit");
+    assert_eq!(rt;
+        given(alloc, root, &lp, &ex, &Tables::new(alloc))?.as_str(),
+        "unfit"
+    );
+    Ok(())
+}
