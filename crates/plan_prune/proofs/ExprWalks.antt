@@ -1,4 +1,4 @@
--- What walks over expressions find, one after another: their names, whether they are scalar, and the columns that they make.
+-- What walks over expressions find, one after another: their names, the first that isn't scalar, and the columns that they make.
 use Rattle.std.proofs.Common.{◌≡◌, ◌<◌, All, get_or, length, subst, ℕ, zero, suc, ◌+◌, ◌&&◌, Bool, true, false, cond, List, [], ◌∷◌, ◌++◌, take, Option, Some, None, option_map, refl, sym, ap, ◌∙◌, add-one, append-nil}
 use Rattle.std.specs.List.{slice_get, filter, cons_option}
 use Rattle.std.proofs.lemmas.List.Elements.{All-get_or, filter-append}
@@ -22,56 +22,8 @@ use Rattle.plan_prune.specs.Pruned.{typed_names}
 use Rattle.plan_prune.specs.Kept.{many_at, names_at, with_typed}
 use Rattle.plan_prune.proofs.ListSteps.{Differs, before_differ, with_name-last, with_names-append, take-next}
 
-and_true : (b : Bool) → (b && true) ≡ b
-and_true true = refl
-and_true false = refl
-
--- the item in a place
-pub item_here : {A : Type 0} (xs : List A) (i : ℕ) (x : A) → i < length xs → x ≡ get_or xs i x → slice_get xs i ≡ Some x
-item_here xs i x lt is = slice_get-get_or xs i x lt ∙ ap (λ y. Some y) (sym is)
-
--- each expression stands
-pub stands_here : (ex : List AExpr) (es : List ExprIR) (i : ℕ) (e : ExprIR) → All (λ (x : ExprIR). IsExpr ex x.node) es → i < length es → e ≡ get_or es i e → IsExpr ex e.node
-stands_here ex es i e h lt is = subst (λ (x : ExprIR). IsExpr ex x.node) (sym is) (All-get_or (λ (x : ExprIR). IsExpr ex x.node) es i e lt h)
-
--- whether an expression is scalar, kind by kind
-module _ (ex : List AExpr) (n : Node) (h : IsExpr ex n) where
-  pub scalar-column : (a : Name) → slice_get ex n.0 ≡ Some (exprs.Column a) → false ≡ is_scalar (expr_at ex n)
-  scalar-column a e = ap is_scalar (sym (expr_open ex n (exprs.Column a) h e))
-
-  pub scalar-literal : (v : LiteralValue) → slice_get ex n.0 ≡ Some (exprs.Literal v) → true ≡ is_scalar (expr_at ex n)
-  scalar-literal v e = ap is_scalar (sym (expr_open ex n (exprs.Literal v) h e))
-
-  pub scalar-alias : (i : Node) (a : Name) → slice_get ex n.0 ≡ Some (exprs.Alias i a) → is_scalar (expr_at ex i) ≡ is_scalar (expr_at ex n)
-  scalar-alias i a e = sym (and_true (is_scalar (expr_at ex i))) ∙ ap is_scalar (sym (expr_open ex n (exprs.Alias i a) h e))
-
-  pub scalar-binary : (l r : Node) (o : Operator) → slice_get ex n.0 ≡ Some (exprs.BinaryExpr l o r) → (is_scalar (expr_at ex l) && is_scalar (expr_at ex r)) ≡ is_scalar (expr_at ex n)
-  scalar-binary l r o e =
-      ap (λ (b : Bool). is_scalar (expr_at ex l) && b) (sym (and_true (is_scalar (expr_at ex r)))) ∙ ap is_scalar (sym (expr_open ex n (exprs.BinaryExpr l o r) h e))
-
 -- expressions one after another
 module _ (ex : List AExpr) where
-  scalars_suc : (es : List ExprIR) (i : ℕ) (e : ExprIR) → slice_get es i ≡ Some e → all_scalar (all_named_at ex (take i es)) ≡ true → is_scalar (expr_at ex e.node) ≡ true → all_scalar (all_named_at ex (take (suc i) es)) ≡ true
-  scalars_suc [] i e k h good = cc
-  scalars_suc (x ∷ es) zero e k h good = let q : e ≡ x = cc in (let s : is_scalar (expr_at ex x.node) ≡ true = rw (← q) good in rw s refl)
-  scalars_suc (x ∷ es) (suc i) e k h good = go (is_scalar (expr_at ex x.node)) h (λ r. scalars_suc es i e k r good)
-    where
-      go : (b : Bool) → (b && all_scalar (all_named_at ex (take i es))) ≡ true → (all_scalar (all_named_at ex (take i es)) ≡ true → all_scalar (all_named_at ex (take (suc i) es)) ≡ true) → (b && all_scalar (all_named_at ex (take (suc i) es))) ≡ true
-      go true h f = f h
-      go false h f = cc
-
-  pub scalars-next : (es : List ExprIR) (i : ℕ) (e : ExprIR) → slice_get es i ≡ Some e → all_scalar (all_named_at ex (take i es)) ≡ true → is_scalar (expr_at ex e.node) ≡ true → all_scalar (all_named_at ex (take (i + 1) es)) ≡ true
-  scalars-next es i e k h good = rw (add-one i) (scalars_suc es i e k h good)
-
-  pub scalars-bad : (es : List ExprIR) (i : ℕ) (e : ExprIR) → slice_get es i ≡ Some e → is_scalar (expr_at ex e.node) ≡ false → false ≡ all_scalar (all_named_at ex es)
-  scalars-bad [] i e k bad = cc
-  scalars-bad (x ∷ es) zero e k bad = let q : e ≡ x = cc in (let s : is_scalar (expr_at ex x.node) ≡ false = rw (← q) bad in rw s refl)
-  scalars-bad (x ∷ es) (suc i) e k bad = go (is_scalar (expr_at ex x.node)) (scalars-bad es i e k bad)
-    where
-      go : (b : Bool) → false ≡ all_scalar (all_named_at ex es) → false ≡ (b && all_scalar (all_named_at ex es))
-      go true h = h
-      go false h = refl
-
   many_suc : (es : List ExprIR) (i : ℕ) (e : ExprIR) → slice_get es i ≡ Some e → many_at ex (take i es) ≡ [] → is_scalar (expr_at ex e.node) ≡ true → many_at ex (take (suc i) es) ≡ []
   many_suc [] i e k h good = cc
   many_suc (x ∷ es) zero e k h good = let q : e ≡ x = cc in (let s : is_scalar (expr_at ex x.node) ≡ true = rw (← q) good in rw s refl)

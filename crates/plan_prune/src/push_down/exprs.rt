@@ -1,10 +1,9 @@
-//! What pruning reads of expressions: the names of their columns, whether they are scalar, and which of them are asked.
+//! What pruning reads of expressions: the names of their columns, and which of them are asked.
 ghost use Rattle.std.specs.Prelude.{◌≡◌, All, IfOk, OnOk};
 ghost use Rattle.plan_core.specs.Names.{with_names};
 ghost use Rattle.plan_ir.specs.Parts.{IsExpr};
 ghost use Rattle.plan_ir.specs.Plans.{all_named_at, expr_at};
-ghost use Rattle.plan_meaning.specs.Exprs.{leaves, is_scalar as scalar};
-ghost use Rattle.plan_meaning.specs.Steps.{all_scalar as are_scalar};
+ghost use Rattle.plan_meaning.specs.Exprs.{leaves};
 ghost use Rattle.plan_meaning.specs.Asked.{all_leaves};
 ghost use Rattle.plan_prune.specs.Kept.{asked_exprs as exprs_asked, names_at, with_typed as columns_with};
 
@@ -49,32 +48,6 @@ pub fn add_all_names(
         add_names(names, expr.node, ex)?;
     }
     Ok(())
-}
-
-/// Whether the expression is scalar: no column is in it.
-pub fn is_scalar(node: Node, ex: &Arena<AExpr>) -> bool
-    requires { IsExpr ex.now node }
-    ensures { result ≡ scalar (expr_at ex.now node) }
-{
-    match ex.get(node) {
-        AExpr::Column(_) => false,
-        AExpr::Literal(_) => true,
-        AExpr::Alias(input, _) => is_scalar(*input, ex),
-        AExpr::BinaryExpr { left, right, .. } => is_scalar(*left, ex) && is_scalar(*right, ex),
-    }
-}
-
-/// Whether the expressions are scalar throughout.
-pub fn all_scalar(exprs: &[ExprIR], ex: &Arena<AExpr>) -> bool
-    requires { All (λ e. IsExpr ex.now e.node) exprs.now }
-    ensures { result ≡ are_scalar (all_named_at ex.now exprs.now) }
-{
-    for expr in exprs {
-        if !is_scalar(expr.node, ex) {
-            return false;
-        }
-    }
-    true
 }
 
 /// The expressions that are asked, in their order.

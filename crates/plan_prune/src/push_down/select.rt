@@ -10,10 +10,11 @@ ghost use Rattle.plan_prune.specs.Prunes.{StandExprs};
 ghost use Rattle.plan_prune.specs.Steps.{selected_step};
 ghost use Rattle.plan_prune.specs.Kept.{many_at, selected_at, names_at, is_some_name, stored_after};
 
-use crate::push_down::exprs::{add_all_names, all_scalar, asked_exprs, is_scalar, with_typed};
+use crate::push_down::exprs::{add_all_names, asked_exprs, with_typed};
 use crate::push_down::step::Step;
 use plan_core::{Arena, Items, Names, Node, ProjectionOptions, Schema, TryClone};
 use plan_ir::{AExpr, ExprIR, IR};
+use plan_meaning::{all_scalar, is_scalar};
 use std::alloc::{AllocError, Global};
 
 /// Adds the first expression that isn't scalar, if there is one.

@@ -2,7 +2,8 @@ use Rattle.std.proofs.Common.{◌∙◌, ap, List}
 use Rattle.plan_core.specs.Names.{with_names}
 use Rattle.plan_ir.specs.Plans.{expr_at}
 use Rattle.plan_meaning.specs.Exprs.{Name, leaves}
-use Rattle.plan_prune.proofs.ExprWalks.{stands_here, item_here, leaves-next}
+use Rattle.plan_meaning.proofs.ScalarExprs.{stands_here, item_here}
+use Rattle.plan_prune.proofs.ExprWalks.{leaves-next}
 use Rattle.plan_prune.proofs.push_down.exprs.add_all_names.Goals as goal
 
 pub add_names-requires : goal.add_names-requires
