@@ -6,8 +6,6 @@ mod command;
 mod listings;
 mod status;
 mod stop;
-#[cfg(test)]
-mod tests;
 
 pub use command::{LIMIT, run};
 pub use status::Status;

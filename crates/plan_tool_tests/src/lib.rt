@@ -1,0 +1,7 @@
+//! The tests of plan_tool. They stand apart from it, so that it is proved once, and not with its tests again.
+#![tactic(auto)]
+
+#[cfg(test)]
+mod depths;
+#[cfg(test)]
+mod streams;
