@@ -8,6 +8,7 @@ use plan_ir::{
 };
 use plan_meaning::{check_plan, output_name};
 use std::alloc::{AllocError, Global};
+use std::process::Abort;
 use std::test::Fail;
 
 /// Columns; c and t are texts, and the others whole numbers.
@@ -22,108 +23,6 @@ fn columns(alloc: Global, names: &[&str]) -> Result<Schema, AllocError> {
         let _ = schema.with_column(PlSmallStr::new(alloc, *name)?, dtype)?;
     }
     Ok(schema)
-}
-
-/// Adds a scan of the columns a, b and c.
-fn scan(alloc: Global, lp: &mut Arena<IR>) -> Result<Node, AllocError> {
-    let schema = columns(alloc, &["a", "b", "c"])?;
-    let reader_schema = Some(schema.try_clone(alloc)?);
-    Ok(lp.add(IR::Scan {
-        sources: ScanSources::Paths(Items::new(alloc)),
-        file_info: FileInfo {
-            schema,
-            reader_schema,
-        },
-        predicate: None,
-        output_schema: None,
-        scan_type: FileScan::Parquet,
-        file_options: FileScanOptions::default(),
-    })?)
-}
-
-/// Adds a filter by `name > 1`.
-fn filter(
-    alloc: Global,
-    input: Node,
-    name: &str,
-    lp: &mut Arena<IR>,
-    ex: &mut Arena<AExpr>,
-) -> Result<Node, AllocError> {
-    let right = ex.add(AExpr::Literal(LiteralValue::Int64(1)))?;
-    let left = ex.add(AExpr::Column(PlSmallStr::new(alloc, name)?))?;
-    let op = Operator::Gt;
-    let root = ex.add(AExpr::BinaryExpr { left, op, right })?;
-    let predicate = ExprIR::new(root, OutputName::ColumnLhs(PlSmallStr::new(alloc, name)?));
-    Ok(lp.add(IR::Filter { input, predicate })?)
-}
-
-/// Adds a simple projection.
-fn projection(
-    alloc: Global,
-    input: Node,
-    names: &[&str],
-    lp: &mut Arena<IR>,
-) -> Result<Node, AllocError> {
-    let columns = columns(alloc, names)?;
-    Ok(lp.add(IR::SimpleProjection { input, columns })?)
-}
-
-/// Adds expressions, each an alias of a column; in place of a column named 1 or t stands a literal.
-fn aliases(
-    alloc: Global,
-    made: &[(&str, &str)],
-    ex: &mut Arena<AExpr>,
-) -> Result<Items<ExprIR>, AllocError> {
-    let mut exprs = Items::new(alloc);
-    for (name, of) in made {
-        let input = match *of {
-            "1" => ex.add(AExpr::Literal(LiteralValue::Int64(1)))?,
-            "t" => ex.add(AExpr::Literal(LiteralValue::String(PlSmallStr::new(alloc, "t")?)))?,
-            column => ex.add(AExpr::Column(PlSmallStr::new(alloc, column)?))?,
-        };
-        let root = ex.add(AExpr::Alias(input, PlSmallStr::new(alloc, *name)?))?;
-        exprs.push(ExprIR::new(root, OutputName::Alias(PlSmallStr::new(alloc, *name)?)))?;
-    }
-    Ok(exprs)
-}
-
-/// Adds a selection.
-fn select(
-    alloc: Global,
-    input: Node,
-    made: &[(&str, &str)],
-    names: &[&str],
-    lp: &mut Arena<IR>,
-    ex: &mut Arena<AExpr>,
-) -> Result<Node, AllocError> {
-    let expr = aliases(alloc, made, ex)?;
-    let schema = columns(alloc, names)?;
-    let options = ProjectionOptions::default();
-    Ok(lp.add(IR::Select {
-        input,
-        expr,
-        schema,
-        options,
-    })?)
-}
-
-/// Adds an addition of columns.
-fn hstack(
-    alloc: Global,
-    input: Node,
-    made: &[(&str, &str)],
-    schema: Schema,
-    lp: &mut Arena<IR>,
-    ex: &mut Arena<AExpr>,
-) -> Result<Node, AllocError> {
-    let exprs = aliases(alloc, made, ex)?;
-    let options = ProjectionOptions::default();
-    Ok(lp.add(IR::HStack {
-        input,
-        exprs,
-        schema,
-        options,
-    })?)
 }
 
 /// Writes the columns.
@@ -213,17 +112,8 @@ fn write_node(alloc: Global, text: &mut String, node: &IR) -> Result<Option<Node
     }
 }
 
-/// The nodes from the root down, once the plan is checked, pruned, and checked again.
-fn pruned(
-    alloc: Global,
-    root: Node,
-    is_count_star: bool,
-    lp: &mut Arena<IR>,
-    ex: &Arena<AExpr>,
-) -> Result<String, Fail> {
-    let _ = check_plan(alloc, root, lp, ex)?;
-    ProjectionPushDown { is_count_star }.optimize(alloc, root, lp, ex)?;
-    let _ = check_plan(alloc, root, lp, ex)?;
+/// Writes the nodes from the root down.
+fn written(alloc: Global, root: Node, lp: &Arena<IR>) -> Result<String, Fail> {
     let mut text = String::new(alloc);
     let mut next = Some(root);
     for _ in 0..lp.len() {
@@ -241,148 +131,240 @@ fn pruned(
     Ok(text)
 }
 
-#[test]
-fn a_scan_reads_what_is_needed(rt: HostRuntime) -> Result<(), Fail> {
-    let alloc = rt.alloc();
-    let mut lp = Arena::new(alloc);
-    let mut ex = Arena::new(alloc);
-    let node = scan(alloc, &mut lp)?;
-    let node = filter(alloc, node, "b", &mut lp, &mut ex)?;
-    let root = projection(alloc, node, &["a"], &mut lp)?;
-    assert_eq!(rt;
-        pruned(alloc, root, false, &mut lp, &ex)?.as_str(),
-        "SimpleProjection a; Filter; SimpleProjection a b; Scan reads a b puts out a b"
-    );
+/// Expressions, each an alias of a column; in place of a column named 1 or t stands a literal.
+fn aliases(
+    alloc: Global,
+    made: &[(&str, &str)],
+    ex: &mut Arena<AExpr>,
+) -> Result<Items<ExprIR>, AllocError> {
+    let mut exprs = Items::new(alloc);
+    for (name, of) in made {
+        let input = match *of {
+            "1" => ex.add(AExpr::Literal(LiteralValue::Int64(1)))?,
+            "t" => ex.add(AExpr::Literal(LiteralValue::String(PlSmallStr::new(alloc, "t")?)))?,
+            column => ex.add(AExpr::Column(PlSmallStr::new(alloc, column)?))?,
+        };
+        let root = ex.add(AExpr::Alias(input, PlSmallStr::new(alloc, *name)?))?;
+        exprs.push(ExprIR::new(root, OutputName::Alias(PlSmallStr::new(alloc, *name)?)))?;
+    }
+    Ok(exprs)
+}
+
+/// A plan that grows by a node over its root.
+#[derive(Drop)]
+struct Sample {
+    alloc: Global,
+    lp: Arena<IR>,
+    ex: Arena<AExpr>,
+    root: Node,
+}
+
+impl Sample {
+    /// A scan of the columns a, b and c.
+    fn scan(alloc: Global) -> Result<Self, AllocError> {
+        let schema = columns(alloc, &["a", "b", "c"])?;
+        let reader_schema = Some(schema.try_clone(alloc)?);
+        let mut lp = Arena::new(alloc);
+        let root = lp.add(IR::Scan {
+            sources: ScanSources::Paths(Items::new(alloc)),
+            file_info: FileInfo {
+                schema,
+                reader_schema,
+            },
+            predicate: None,
+            output_schema: None,
+            scan_type: FileScan::Parquet,
+            file_options: FileScanOptions::default(),
+        })?;
+        let ex = Arena::new(alloc);
+        Ok(Sample {
+            alloc,
+            lp,
+            ex,
+            root,
+        })
+    }
+
+    /// Adds a filter by `name > 1`.
+    fn filter(&mut self, name: &str) -> Result<(), AllocError> {
+        let right = self.ex.add(AExpr::Literal(LiteralValue::Int64(1)))?;
+        let left = self
+            .ex
+            .add(AExpr::Column(PlSmallStr::new(self.alloc, name)?))?;
+        let op = Operator::Gt;
+        let node = self.ex.add(AExpr::BinaryExpr { left, op, right })?;
+        let name = OutputName::ColumnLhs(PlSmallStr::new(self.alloc, name)?);
+        let predicate = ExprIR::new(node, name);
+        let input = self.root;
+        self.root = self.lp.add(IR::Filter { input, predicate })?;
+        Ok(())
+    }
+
+    /// Adds a simple projection.
+    fn projection(&mut self, names: &[&str]) -> Result<(), AllocError> {
+        let columns = columns(self.alloc, names)?;
+        let input = self.root;
+        self.root = self.lp.add(IR::SimpleProjection { input, columns })?;
+        Ok(())
+    }
+
+    /// Adds a selection.
+    fn select(&mut self, made: &[(&str, &str)], names: &[&str]) -> Result<(), AllocError> {
+        let expr = aliases(self.alloc, made, &mut self.ex)?;
+        let schema = columns(self.alloc, names)?;
+        let options = ProjectionOptions::default();
+        let input = self.root;
+        self.root = self.lp.add(IR::Select {
+            input,
+            expr,
+            schema,
+            options,
+        })?;
+        Ok(())
+    }
+
+    /// Adds an addition of columns.
+    fn hstack(&mut self, made: &[(&str, &str)], schema: Schema) -> Result<(), AllocError> {
+        let exprs = aliases(self.alloc, made, &mut self.ex)?;
+        let options = ProjectionOptions::default();
+        let input = self.root;
+        self.root = self.lp.add(IR::HStack {
+            input,
+            exprs,
+            schema,
+            options,
+        })?;
+        Ok(())
+    }
+
+    /// The nodes from the root down, once the plan is checked, pruned, and checked again.
+    fn pruned(&mut self, is_count_star: bool) -> Result<String, Fail> {
+        let _ = check_plan(self.alloc, self.root, &self.lp, &self.ex)?;
+        let mut pass = ProjectionPushDown { is_count_star };
+        pass.optimize(self.alloc, self.root, &mut self.lp, &self.ex)?;
+        let _ = check_plan(self.alloc, self.root, &self.lp, &self.ex)?;
+        written(self.alloc, self.root, &self.lp)
+    }
+}
+
+/// A filter by b over the scan, and a projection to a over that.
+fn filtered(alloc: Global) -> Result<Sample, AllocError> {
+    let mut plan = Sample::scan(alloc)?;
+    plan.filter("b")?;
+    plan.projection(&["a"])?;
+    Ok(plan)
+}
+
+/// Asserts that a plan is pruned to these nodes.
+fn assert_pruned(rt: &impl Abort, plan: &mut Sample, nodes: &str) -> Result<(), Fail> {
+    assert_eq!(rt; plan.pruned(false)?.as_str(), nodes);
     Ok(())
 }
 
 #[test]
+fn a_scan_reads_what_is_needed(rt: HostRuntime) -> Result<(), Fail> {
+    let mut plan = filtered(rt.alloc())?;
+    assert_pruned(
+        &rt,
+        &mut plan,
+        "SimpleProjection a; Filter; SimpleProjection a b; Scan reads a b puts out a b",
+    )
+}
+
+#[test]
 fn a_count_puts_no_projection_on_top(rt: HostRuntime) -> Result<(), Fail> {
-    let alloc = rt.alloc();
-    let mut lp = Arena::new(alloc);
-    let mut ex = Arena::new(alloc);
-    let node = scan(alloc, &mut lp)?;
-    let node = filter(alloc, node, "b", &mut lp, &mut ex)?;
-    let root = projection(alloc, node, &["a"], &mut lp)?;
+    let mut plan = filtered(rt.alloc())?;
     assert_eq!(rt;
-        pruned(alloc, root, true, &mut lp, &ex)?.as_str(),
+        plan.pruned(true)?.as_str(),
         "SimpleProjection a; Filter; Scan reads a b puts out a b"
     );
-    assert_eq!(rt; lp.len(), 3);
+    assert_eq!(rt; plan.lp.len(), 3);
     Ok(())
 }
 
 #[test]
 fn projections_narrow_one_another(rt: HostRuntime) -> Result<(), Fail> {
-    let alloc = rt.alloc();
-    let mut lp = Arena::new(alloc);
-    let mut ex = Arena::new(alloc);
-    let node = scan(alloc, &mut lp)?;
-    let node = filter(alloc, node, "a", &mut lp, &mut ex)?;
-    let node = projection(alloc, node, &["c", "b", "a"], &mut lp)?;
-    let node = filter(alloc, node, "b", &mut lp, &mut ex)?;
-    let root = projection(alloc, node, &["b", "c"], &mut lp)?;
-    assert_eq!(rt;
-        pruned(alloc, root, false, &mut lp, &ex)?.as_str(),
-        "SimpleProjection b c; Filter; SimpleProjection c b; Filter; SimpleProjection c b a; Scan reads c b a puts out c b a"
-    );
-    Ok(())
+    let mut plan = Sample::scan(rt.alloc())?;
+    plan.filter("a")?;
+    plan.projection(&["c", "b", "a"])?;
+    plan.filter("b")?;
+    plan.projection(&["b", "c"])?;
+    assert_pruned(
+        &rt,
+        &mut plan,
+        "SimpleProjection b c; Filter; SimpleProjection c b; Filter; SimpleProjection c b a; Scan reads c b a puts out c b a",
+    )
 }
 
 #[test]
 fn a_plan_asked_for_everything_stays(rt: HostRuntime) -> Result<(), Fail> {
-    let alloc = rt.alloc();
-    let mut lp = Arena::new(alloc);
-    let mut ex = Arena::new(alloc);
-    let node = scan(alloc, &mut lp)?;
-    let root = filter(alloc, node, "b", &mut lp, &mut ex)?;
-    assert_eq!(rt;
-        pruned(alloc, root, false, &mut lp, &ex)?.as_str(),
-        "Filter; Scan"
-    );
-    assert_eq!(rt; lp.len(), 2);
+    let mut plan = Sample::scan(rt.alloc())?;
+    plan.filter("b")?;
+    assert_pruned(&rt, &mut plan, "Filter; Scan")?;
+    assert_eq!(rt; plan.lp.len(), 2);
     Ok(())
 }
 
 #[test]
 fn an_addition_that_keeps_nothing_is_gone(rt: HostRuntime) -> Result<(), Fail> {
     let alloc = rt.alloc();
-    let mut lp = Arena::new(alloc);
-    let mut ex = Arena::new(alloc);
-    let node = scan(alloc, &mut lp)?;
+    let mut plan = Sample::scan(alloc)?;
     let mut schema = columns(alloc, &["a", "b", "c"])?;
     let _ = schema.with_column(PlSmallStr::new(alloc, "b")?, DataType::String)?;
-    let node = hstack(alloc, node, &[("b", "t")], schema, &mut lp, &mut ex)?;
-    let root = projection(alloc, node, &["a"], &mut lp)?;
-    assert_eq!(rt;
-        pruned(alloc, root, false, &mut lp, &ex)?.as_str(),
-        "SimpleProjection a; SimpleProjection a; Scan reads a puts out a"
-    );
-    Ok(())
+    plan.hstack(&[("b", "t")], schema)?;
+    plan.projection(&["a"])?;
+    assert_pruned(
+        &rt,
+        &mut plan,
+        "SimpleProjection a; SimpleProjection a; Scan reads a puts out a",
+    )
 }
 
 #[test]
 fn a_selection_of_a_literal_reads_all(rt: HostRuntime) -> Result<(), Fail> {
-    let alloc = rt.alloc();
-    let mut lp = Arena::new(alloc);
-    let mut ex = Arena::new(alloc);
-    let node = scan(alloc, &mut lp)?;
-    let root = select(alloc, node, &[("x", "1")], &["x"], &mut lp, &mut ex)?;
-    assert_eq!(rt;
-        pruned(alloc, root, false, &mut lp, &ex)?.as_str(),
-        "Select x of x; Scan"
-    );
-    Ok(())
+    let mut plan = Sample::scan(rt.alloc())?;
+    plan.select(&[("x", "1")], &["x"])?;
+    assert_pruned(&rt, &mut plan, "Select x of x; Scan")
 }
 
 #[test]
 fn a_selection_keeps_its_height(rt: HostRuntime) -> Result<(), Fail> {
-    let alloc = rt.alloc();
-    let mut lp = Arena::new(alloc);
-    let mut ex = Arena::new(alloc);
-    let node = scan(alloc, &mut lp)?;
-    let made = [("b", "b"), ("x", "1"), ("a", "a")];
-    let node = select(alloc, node, &made, &["b", "x", "a"], &mut lp, &mut ex)?;
-    let root = projection(alloc, node, &["x"], &mut lp)?;
-    assert_eq!(rt;
-        pruned(alloc, root, false, &mut lp, &ex)?.as_str(),
-        "SimpleProjection x; Select x b of x b; SimpleProjection b; Scan reads b puts out b"
-    );
-    Ok(())
+    let mut plan = Sample::scan(rt.alloc())?;
+    plan.select(&[("b", "b"), ("x", "1"), ("a", "a")], &["b", "x", "a"])?;
+    plan.projection(&["x"])?;
+    assert_pruned(
+        &rt,
+        &mut plan,
+        "SimpleProjection x; Select x b of x b; SimpleProjection b; Scan reads b puts out b",
+    )
 }
 
 #[test]
 fn an_addition_keeps_what_is_asked(rt: HostRuntime) -> Result<(), Fail> {
     let alloc = rt.alloc();
-    let mut lp = Arena::new(alloc);
-    let mut ex = Arena::new(alloc);
-    let node = scan(alloc, &mut lp)?;
-    let made = [("x", "a"), ("y", "b")];
+    let mut plan = Sample::scan(alloc)?;
     let schema = columns(alloc, &["a", "b", "c", "x", "y"])?;
-    let node = hstack(alloc, node, &made, schema, &mut lp, &mut ex)?;
-    let root = projection(alloc, node, &["x", "c"], &mut lp)?;
-    assert_eq!(rt;
-        pruned(alloc, root, false, &mut lp, &ex)?.as_str(),
-        "SimpleProjection x c; HStack x of c a x; SimpleProjection c a; Scan reads c a puts out c a"
-    );
-    Ok(())
+    plan.hstack(&[("x", "a"), ("y", "b")], schema)?;
+    plan.projection(&["x", "c"])?;
+    assert_pruned(
+        &rt,
+        &mut plan,
+        "SimpleProjection x c; HStack x of c a x; SimpleProjection c a; Scan reads c a puts out c a",
+    )
 }
 
 #[test]
 fn additions_replace_columns_one_after_another(rt: HostRuntime) -> Result<(), Fail> {
     let alloc = rt.alloc();
-    let mut lp = Arena::new(alloc);
-    let mut ex = Arena::new(alloc);
-    let node = scan(alloc, &mut lp)?;
-    let made = [("a", "b"), ("t", "c")];
+    let mut plan = Sample::scan(alloc)?;
     let schema = columns(alloc, &["a", "b", "c", "t"])?;
-    let node = hstack(alloc, node, &made, schema, &mut lp, &mut ex)?;
+    plan.hstack(&[("a", "b"), ("t", "c")], schema)?;
     let schema = columns(alloc, &["a", "b", "c", "t"])?;
-    let node = hstack(alloc, node, &[("b", "a")], schema, &mut lp, &mut ex)?;
-    let root = projection(alloc, node, &["b"], &mut lp)?;
-    assert_eq!(rt;
-        pruned(alloc, root, false, &mut lp, &ex)?.as_str(),
-        "SimpleProjection b; HStack b of b a; HStack a of b a; SimpleProjection b a; Scan reads b a puts out b a"
-    );
-    Ok(())
+    plan.hstack(&[("b", "a")], schema)?;
+    plan.projection(&["b"])?;
+    assert_pruned(
+        &rt,
+        &mut plan,
+        "SimpleProjection b; HStack b of b a; HStack a of b a; SimpleProjection b a; Scan reads b a puts out b a",
+    )
 }
