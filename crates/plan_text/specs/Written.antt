@@ -25,6 +25,10 @@ use Rattle.plan_ir.specs.declared.scan.FileInfo.{FileInfo}
 use Rattle.plan_ir.specs.declared.scan.FileScan.{FileScan}
 use Rattle.plan_ir.specs.declared.scan.ScanSources.{ScanSources}
 use Rattle.plan_ir.specs.declared.scan.ScanSources.TheVariants as sources
+use Rattle.plan_table.specs.declared.column.Column.{Column}
+use Rattle.plan_table.specs.declared.table.Table.{Table}
+use Rattle.plan_table.specs.declared.value.AnyValue.{AnyValue}
+use Rattle.plan_table.specs.declared.value.AnyValue.TheVariants as values
 use Rattle.plan_text.specs.Kinds.{type_text, literal_text, operator_text, format_text, fault_text, place_of}
 
 -- the number of a node or of an expression
@@ -173,9 +177,28 @@ node_data nodes.Invalid = object (member (codes "op") (string (codes "Invalid"))
 unfoldable pub plan_data : List IR → List AExpr → Node → Data
 plan_data lp ex root = object (member (codes "exprs") (list_data expr_data ex) (member (codes "nodes") (list_data node_data lp) (member (codes "root") (link_data root) no_members)))
 
--- a plan with the columns that each of its scans reads
-unfoldable pub listing_data : List IR → List AExpr → Node → List (List (List ℕ)) → Data
-listing_data lp ex root reads = object (member (codes "plan") (plan_data lp ex root) (member (codes "reads") (list_data names_data reads) (member (codes "rows") json.null no_members)))
+-- a value in a row, null where there is none
+abbrev pub value_data : AnyValue → Data
+value_data values.Null = json.null
+value_data (values.Int64 z) = integer_data z
+value_data (values.String s) = string s
+value_data (values.Boolean b) = boolean b
+
+-- a column of a table: its name, its type and its values from the first row on
+abbrev pub column_data : Column → Data
+column_data c = array (item (string c.name) (item (string (type_text c.dtype)) (item (list_data value_data c.values) no_items)))
+
+-- a table: its columns in order, and how many rows it has
+abbrev pub table_data : Table → Data
+table_data t = object (member (codes "columns") (list_data column_data t.columns) (member (codes "height") (number_data t.height) no_members))
+
+-- the rows that a plan gives, null where no table is told
+abbrev pub rows_data : Option Table → Data
+rows_data = nullable_data table_data
+
+-- a plan with the columns that each of its scans reads, and the rows that it gives
+unfoldable pub listing_data : List IR → List AExpr → Node → List (List (List ℕ)) → Option Table → Data
+listing_data lp ex root reads rows = object (member (codes "plan") (plan_data lp ex root) (member (codes "reads") (list_data names_data reads) (member (codes "rows") (rows_data rows) no_members)))
 
 -- an error: its kind and where it lies
 unfoldable pub fault_data : PolarsError → Data
@@ -190,8 +213,8 @@ unfoldable pub plan_text : List IR → List AExpr → Node → List ℕ
 plan_text lp ex root = compact_text (plan_data lp ex root)
 
 -- the text of a listing
-unfoldable pub listing_text : List IR → List AExpr → Node → List (List (List ℕ)) → List ℕ
-listing_text lp ex root reads = line_of (listing_data lp ex root reads)
+unfoldable pub listing_text : List IR → List AExpr → Node → List (List (List ℕ)) → Option Table → List ℕ
+listing_text lp ex root reads rows = line_of (listing_data lp ex root reads rows)
 
 -- the text of an error
 unfoldable pub error_text : PolarsError → List ℕ

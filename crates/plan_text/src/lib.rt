@@ -8,6 +8,7 @@ mod objects;
 mod parts;
 mod pieces;
 mod plan;
+mod rows;
 mod texts;
 
 pub use texts::{write_fault, write_listing, write_plan};

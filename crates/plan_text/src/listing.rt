@@ -1,5 +1,5 @@
 //! The text of a listing, for which no value of a whole node is made.
-ghost use Rattle.std.specs.Prelude.{◌≡◌, ◌++◌, IfOk};
+ghost use Rattle.std.specs.Prelude.{◌≡◌, ◌++◌, IfOk, option_copied};
 ghost use Rattle.serde_json.specs.Data.{null as json_null};
 ghost use Rattle.serde_json.specs.View.{view};
 ghost use Rattle.serde_json.specs.Written.{compact_text};
@@ -11,8 +11,10 @@ use crate::kinds::format_name;
 use crate::parts::{optional_name, optional_output, optional_row_index, optional_slice, sources};
 use crate::pieces::{Piece, with_comma, with_key, with_names, with_object, with_value};
 use crate::plan::{exprs, node as node_value};
+use crate::rows::with_rows;
 use plan_core::{Arena, FileScanOptions, Items, Node, PlSmallStr, Schema};
 use plan_ir::{ExprIR, FileInfo, FileScan, IR, PlanCopy, ScanSources};
+use plan_table::Table;
 use serde_json::Value;
 use std::alloc::{AllocError, Global};
 
@@ -187,16 +189,16 @@ pub fn listing_bytes(
     alloc: Global,
     plan: &PlanCopy,
     reads: &[Items<PlSmallStr>],
+    rows: Option<&Table>,
 ) -> Result<Vec<u8>, AllocError>
-    ensures { IfOk result (λ text. text.items
-        ≡ compact_text (listing_data plan.now.lp plan.now.ex plan.now.root reads.now)) }
+    ensures { IfOk result (λ text. text.items ≡ compact_text
+        (listing_data plan.now.lp plan.now.ex plan.now.root reads.now (option_copied rows.entry))) }
 {
-    let rows = null();
     let mut text = Vec::new(alloc);
     text.push(b'{')?;
     let text = with_plan(alloc, with_key(text, false, "plan")?, plan)?;
     let text = with_reads(with_key(text, true, "reads")?, reads)?;
-    let mut text = with_value(alloc, with_key(text, true, "rows")?, &rows)?;
+    let mut text = with_rows(with_key(text, true, "rows")?, rows)?;
     text.push(b'}')?;
     Ok(text)
 }

@@ -1,5 +1,5 @@
 //! The texts that are written.
-ghost use Rattle.std.specs.Prelude.{◌≡◌, IfOk, Some, false, string_bytes};
+ghost use Rattle.std.specs.Prelude.{◌≡◌, IfOk, Some, false, option_copied, string_bytes};
 ghost use Rattle.serde_json.specs.Read.{read};
 ghost use Rattle.serde_json.specs.View.{view};
 ghost use Rattle.serde_json.specs.Written.{has_float};
@@ -11,6 +11,7 @@ use crate::parts::optional_link;
 use crate::plan::plan as plan_value;
 use plan_core::{Items, PlSmallStr, PolarsError};
 use plan_ir::PlanCopy;
+use plan_table::Table;
 use serde_json::{Value, json};
 use std::alloc::{AllocError, Global};
 
@@ -50,18 +51,20 @@ fn text_of(bytes: Vec<u8>) -> Result<String, AllocError>
 }
 
 /// The text of a listing, with a line feed: the object of a `plan`, of the names that each of its
-/// scans `reads`, from left to right, and of its `rows`, which are null. It fails only where
-/// memory is wanting.
+/// scans `reads`, from left to right, and of its `rows`: the object of a table's `columns`, each
+/// with its name, its type and its values, and of its `height`; null where no table is given. It
+/// fails only where memory is wanting.
 #[tactic(auto, unfolding(crate::specs::Written::listing_text))]
 pub fn write_listing(
     alloc: Global,
     plan: &PlanCopy,
     reads: &[Items<PlSmallStr>],
+    rows: Option<&Table>,
 ) -> Result<String, AllocError>
     ensures { IfOk result (λ s. string_bytes s
-        ≡ listing_text plan.now.lp plan.now.ex plan.now.root reads.now) }
+        ≡ listing_text plan.now.lp plan.now.ex plan.now.root reads.now (option_copied rows.entry)) }
 {
-    let mut bytes = listing_bytes(alloc, plan, reads)?;
+    let mut bytes = listing_bytes(alloc, plan, reads, rows)?;
     bytes.push(b'\n')?;
     text_of(bytes)
 }

@@ -1,8 +1,7 @@
 -- The three members, one after another.
 use Rattle.std.proofs.Common.{[]}
-use Rattle.std.specs.Prelude.{codes}
-use Rattle.serde_json.specs.Data as json
-use Rattle.plan_text.specs.Written.{list_data, names_data, plan_data, listing_data}
+use Rattle.std.specs.Prelude.{codes, option_copied}
+use Rattle.plan_text.specs.Written.{list_data, names_data, plan_data, rows_data, listing_data}
 use Rattle.plan_text.proofs.PieceLemmas.{three_members}
 use Rattle.plan_text.proofs.listing.listing_bytes.Goals as goal
 
@@ -19,5 +18,4 @@ returns c =
       c.in_ok-with_key.ensures,
       c.in_ok-push.ensures.items,
       c.new-text.ensures.items,
-      c.null-rows.ensures,
-    ) (three_members [] (codes "plan") (codes "reads") (codes "rows") (plan_data c.args.plan.now.lp c.args.plan.now.ex c.args.plan.now.root) (list_data names_data c.args.reads.now) json.null)
+    ) (three_members [] (codes "plan") (codes "reads") (codes "rows") (plan_data c.args.plan.now.lp c.args.plan.now.ex c.args.plan.now.root) (list_data names_data c.args.reads.now) (rows_data (option_copied c.args.rows)))

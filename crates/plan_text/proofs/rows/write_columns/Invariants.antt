@@ -1,0 +1,13 @@
+-- What is written, and then what is left, are the tokens of the columns.
+use Rattle.std.proofs.Common.{◌≡◌, ◌++◌, map}
+use Rattle.json.specs.Tree.{json_tokens, items_tokens}
+use Rattle.serde_json.specs.View.{items_of}
+use Rattle.serde_json.specs.Written.{outline, items_outline}
+use Rattle.plan_text.specs.Written.{column_data, list_data}
+use Rattle.plan_text.proofs.rows.write_columns.Given as goal
+
+abbrev pub invariant-loop-column : goal.invariant-loop-column
+invariant-loop-column l = record {
+  before : l.writer.before ≡ l.fn.writer.before;
+  tokens : l.writer.tokens ++ items_tokens (items_outline (items_of (map column_data l.column-iterator))) ≡ l.fn.writer.tokens ++ json_tokens (outline (list_data column_data l.columns));
+}

@@ -1,0 +1,101 @@
+//! The text of a table's rows, for which no value of a cell is made.
+ghost use Rattle.std.specs.Prelude.{◌≡◌, ◌++◌, IfOk, OnOk, option_copied};
+ghost use Rattle.json.specs.Tree.{json_tokens};
+ghost use Rattle.serde_json.specs.Written.{compact_text, outline};
+ghost use Rattle.plan_text.specs.Written.{column_data, list_data, rows_data, table_data, value_data};
+
+use crate::kinds::type_name;
+use json::Writer;
+use plan_table::{AnyValue, Column, Columns, Table};
+use std::alloc::AllocError;
+
+/// Writes a value: null, a whole number, a text or a truth value.
+fn write_value(writer: &mut Writer, value: &AnyValue) -> Result<(), AllocError>
+    ensures tokens { OnOk result (writer.new.tokens
+        ≡ writer.old.tokens ++ json_tokens (outline (value_data value.now))) }
+    ensures before { OnOk result (writer.new.before ≡ writer.old.before) }
+{
+    match value {
+        AnyValue::Null => writer.null(),
+        AnyValue::Int64(number) => writer.i64(*number),
+        AnyValue::String(text) => writer.string(text.as_str()),
+        AnyValue::Boolean(truth) => writer.boolean(*truth),
+    }
+}
+
+/// Writes the array of values.
+#[tactic(auto, unfolding(crate::specs::Written::list_data))]
+fn write_values(writer: &mut Writer, values: &[AnyValue]) -> Result<(), AllocError>
+    ensures tokens { OnOk result (writer.new.tokens
+        ≡ writer.old.tokens ++ json_tokens (outline (list_data value_data values.now))) }
+    ensures before { OnOk result (writer.new.before ≡ writer.old.before) }
+{
+    writer.begin_array()?;
+    for value in values {
+        write_value(writer, value)?;
+    }
+    writer.end_array()
+}
+
+/// Writes a column: its name, its type and its values.
+fn write_column(writer: &mut Writer, column: &Column) -> Result<(), AllocError>
+    ensures tokens { OnOk result (writer.new.tokens
+        ≡ writer.old.tokens ++ json_tokens (outline (column_data column.now))) }
+    ensures before { OnOk result (writer.new.before ≡ writer.old.before) }
+{
+    writer.begin_array()?;
+    writer.string(column.name.as_str())?;
+    writer.string(type_name(column.dtype))?;
+    write_values(writer, column.values.as_slice())?;
+    writer.end_array()
+}
+
+/// Writes the array of columns, in order.
+#[tactic(auto, unfolding(crate::specs::Written::list_data))]
+fn write_columns(writer: &mut Writer, columns: &Columns) -> Result<(), AllocError>
+    ensures tokens { OnOk result (writer.new.tokens
+        ≡ writer.old.tokens ++ json_tokens (outline (list_data column_data columns.now))) }
+    ensures before { OnOk result (writer.new.before ≡ writer.old.before) }
+{
+    writer.begin_array()?;
+    for column in columns.iter() {
+        write_column(writer, column)?;
+    }
+    writer.end_array()
+}
+
+/// Writes the object of a table: its columns and its height.
+fn write_table(writer: &mut Writer, table: &Table) -> Result<(), AllocError>
+    ensures tokens { OnOk result (writer.new.tokens
+        ≡ writer.old.tokens ++ json_tokens (outline (table_data table.now))) }
+    ensures before { OnOk result (writer.new.before ≡ writer.old.before) }
+{
+    writer.begin_object()?;
+    writer.key("columns")?;
+    write_columns(writer, &table.columns)?;
+    writer.key("height")?;
+    writer.u64(table.height as u64)?;
+    writer.end_object()
+}
+
+/// Writes a table, or null where there is none.
+fn write_rows(writer: &mut Writer, rows: Option<&Table>) -> Result<(), AllocError>
+    ensures tokens { OnOk result (writer.new.tokens
+        ≡ writer.old.tokens ++ json_tokens (outline (rows_data (option_copied rows.entry)))) }
+    ensures before { OnOk result (writer.new.before ≡ writer.old.before) }
+{
+    match rows {
+        None => writer.null(),
+        Some(table) => write_table(writer, table),
+    }
+}
+
+/// Bytes with the text of a table after them, or null where there is none.
+pub fn with_rows(bytes: Vec<u8>, rows: Option<&Table>) -> Result<Vec<u8>, AllocError>
+    ensures { IfOk result (λ text. text.items
+        ≡ bytes.items ++ compact_text (rows_data (option_copied rows.entry))) }
+{
+    let mut writer = Writer::new(bytes);
+    write_rows(&mut writer, rows)?;
+    Ok(writer.into_inner())
+}
