@@ -3,4 +3,7 @@ pub mod EntryLemmas
 pub mod PairLemmas
 pub mod NullLemmas
 pub mod ReadingLemmas
+pub mod DistinctLemmas
 pub mod ColumnLemmas
+pub mod TableLemmas
+pub mod FormedLemmas

@@ -8,15 +8,16 @@ use Rattle.serde_json.specs.Read.{read}
 use Rattle.serde_json.specs.Data.{Data}
 use Rattle.serde_json.specs.View.{view}
 use Rattle.serde_json.specs.declared.value.Value.{Value}
-use Rattle.serde_json.specs.Find.{get, as_null}
+use Rattle.serde_json.specs.Find.{get}
 use Rattle.plan_ir.specs.declared.expr.AExpr.{AExpr}
 use Rattle.plan_ir.specs.declared.ir.IR.{IR}
 use Rattle.plan_doc.specs.declared.document.Document.{Document}
 use Rattle.plan_doc.specs.declared.document.ReadError.{ReadError}
 use Rattle.plan_doc.specs.declared.document.ReadError.TheVariants as errors
-use Rattle.plan_doc.specs.Parts.{◌>>=◌, entries_of, each, object_of, number_of, link_of}
+use Rattle.plan_doc.specs.Parts.{◌>>=◌, entries_of, each, object_of, nullable, number_of, link_of}
 use Rattle.plan_doc.specs.Built.{built_flags, unshared_of}
 use Rattle.plan_doc.specs.Nodes.{node_of, expr_of}
+use Rattle.plan_doc.specs.Tables.{tables_of}
 
 -- a number whose bits all have names, as flags
 abbrev pub named_flags : ℕ → Option OptFlags
@@ -60,8 +61,8 @@ document_of d = do
   shared ← get (codes "shared") o
   s ← unshared_of shared
   tables ← get (codes "tables") o
-  nothing ← as_null tables
-  Some (record { root = r; lp = ns; ex = es; flags = fs; shared = s })
+  ts ← nullable tables_of tables
+  Some (record { root = r; lp = ns; ex = es; flags = fs; shared = s; tables = ts })
 
 -- What bytes stand for.
 pub data Reading : Type 0 where

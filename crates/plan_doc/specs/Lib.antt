@@ -4,4 +4,5 @@ pub mod Each
 pub mod Parts
 pub mod Built
 pub mod Nodes
+pub mod Tables
 pub mod Document

@@ -148,10 +148,10 @@ column_of d = do
   t ← type_of p.1
   Some (n, t)
 
--- no name stands twice
-abbrev pub are_distinct : List (List ℕ) → Bool
-are_distinct [] = true
-are_distinct (n ∷ ns) = not (list_any (λ m. bytes_eq m n) ns) && are_distinct ns
+-- none stands twice, where this test says which are the same
+abbrev pub are_distinct : {K : Type 0} → (K → K → Bool) → List K → Bool
+are_distinct same [] = true
+are_distinct same (k ∷ ks) = not (list_any (λ m. same m k) ks) && are_distinct same ks
 
 -- the names of columns
 abbrev pub column_names : Columns → List (List ℕ)
@@ -159,7 +159,7 @@ column_names cs = map (λ c. c.0) cs
 
 -- columns, if no name stands twice
 abbrev pub distinct_columns : Columns → Option Columns
-distinct_columns cs = if are_distinct (column_names cs) then Some cs else None
+distinct_columns cs = if are_distinct bytes_eq (column_names cs) then Some cs else None
 
 -- names with types, no name twice
 unfoldable pub columns_of : Data → Option Columns

@@ -10,9 +10,11 @@ use crate::built::{built_flags, unshared};
 use crate::exprs::expr;
 use crate::fault::Fault;
 use crate::nodes::node;
-use crate::parts::{entries, field, link, nothing, number, object};
+use crate::optional::optional_tables;
+use crate::parts::{entries, field, link, number, object};
 use plan_core::{Arena, Node, OptFlags};
 use plan_ir::{AExpr, IR};
+use plan_table::Tables;
 use serde_json::Value;
 use std::alloc::Global;
 use thiserror::Error;
@@ -30,6 +32,8 @@ pub struct Document {
     pub flags: OptFlags,
     /// Whether equal parts of the plan are shared.
     pub shared: bool,
+    /// The tables of sources that it comes with, if it comes with any.
+    pub tables: Option<Tables>,
 }
 
 /// Why bytes stand for no document.
@@ -102,13 +106,14 @@ fn document_of(alloc: Global, value: &Value) -> Result<Document, Fault>
     let ex = exprs(alloc, field(object, "exprs")?)?;
     let flags = flags(field(object, "flags")?)?;
     let shared = unshared(field(object, "shared")?)?;
-    nothing(field(object, "tables")?)?;
+    let tables = optional_tables(alloc, field(object, "tables")?)?;
     Ok(Document {
         root,
         lp,
         ex,
         flags,
         shared,
+        tables,
     })
 }
 

@@ -9,5 +9,6 @@ mod fault;
 mod nodes;
 mod optional;
 mod parts;
+mod tables;
 
 pub use document::{Document, ReadError, read_document};

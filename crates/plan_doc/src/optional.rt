@@ -3,11 +3,14 @@ ghost use Rattle.std.specs.Prelude.{◌≡◌};
 ghost use Rattle.serde_json.specs.View.{view};
 ghost use Rattle.plan_doc.specs.Gives.{Gives};
 ghost use Rattle.plan_doc.specs.Parts.{number_of, names_of, nullable, columns_of, output_of, slice_of};
+ghost use Rattle.plan_doc.specs.Tables.{tables_of};
 
 use crate::fault::Fault;
 use crate::parts::{columns, names, number, output, slice};
+use crate::tables::tables;
 use plan_core::{Items, PlSmallStr, Schema};
 use plan_ir::ExprIR;
+use plan_table::Tables;
 use serde_json::Value;
 use std::alloc::Global;
 
@@ -64,4 +67,15 @@ pub fn optional_columns(alloc: Global, value: &Value) -> Result<Option<Schema>, 
         return Ok(None);
     }
     Ok(Some(columns(alloc, value)?))
+}
+
+/// Null, or tables with their sources.
+#[tactic(auto, using(crate::proofs::NullLemmas::nullable_null, crate::proofs::NullLemmas::nullable_other))]
+pub fn optional_tables(alloc: Global, value: &Value) -> Result<Option<Tables>, Fault>
+    ensures { Gives result (nullable tables_of (view value.now)) }
+{
+    if value.is_null() {
+        return Ok(None);
+    }
+    Ok(Some(tables(alloc, value)?))
 }

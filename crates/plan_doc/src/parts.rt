@@ -139,7 +139,7 @@ fn two(value: &Value) -> Result<(&Value, &Value), Fault>
 
 /// The entries of an array of three.
 #[tactic(auto, unfolding(crate::specs::Parts::three_of))]
-fn three(value: &Value) -> Result<(&Value, &Value, &Value), Fault>
+pub fn three(value: &Value) -> Result<(&Value, &Value, &Value), Fault>
     ensures { Shows (λ p. (view p.0.now, view p.1.now, view p.2.now)) result
         (three_of (view value.now)) }
 {

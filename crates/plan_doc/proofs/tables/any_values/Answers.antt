@@ -1,0 +1,8 @@
+use Rattle.std.proofs.Common.{rules}
+use Rattle.plan_doc.specs.Tables.{any_value_of, any_values_of}
+use Rattle.plan_doc.proofs.PairLemmas.{each_is_read}
+use Rattle.plan_doc.proofs.tables.any_values.Goals as goal
+
+pub returns : goal.returns
+unfolding any_values_of
+returns c = rw c.in_ok-entries.ensures (each_is_read (any_value_of c.args.dtype) c.each.ensures (λ v r p. search rules))

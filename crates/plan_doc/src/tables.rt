@@ -1,0 +1,161 @@
+//! The readers of tables.
+ghost use Rattle.std.specs.Prelude.{◌≡◌};
+ghost use Rattle.serde_json.specs.View.{view};
+ghost use Rattle.plan_doc.specs.Gives.{Gives};
+ghost use Rattle.plan_doc.specs.Tables.{typed_value_of, any_value_of, any_values_of, so_many as so_many_of, table_column_of, table_columns_of, path_key_of, buffer_key_of, frame_key_of, source_key_of, table_of, tables_of};
+
+use crate::arrays::each;
+use crate::fault::Fault;
+use crate::parts::{data_type, entries, field, integer, name, number, object, three, truth};
+use plan_core::{DataType, Items};
+use plan_table::{AnyValue, Column, Columns, SourceKey, Table, Tables};
+use serde_json::Value;
+use std::alloc::Global;
+
+/// A value of the type.
+fn typed_value(alloc: Global, dtype: DataType, value: &Value) -> Result<AnyValue, Fault>
+    ensures { Gives result (typed_value_of dtype (view value.now)) }
+{
+    match dtype {
+        DataType::Int64 => Ok(AnyValue::Int64(integer(value)?)),
+        DataType::String => Ok(AnyValue::String(name(alloc, value)?)),
+        DataType::Boolean => Ok(AnyValue::Boolean(truth(value)?)),
+    }
+}
+
+/// Null, or a value of the type.
+fn any_value(alloc: Global, dtype: DataType, value: &Value) -> Result<AnyValue, Fault>
+    ensures { Gives result (any_value_of dtype (view value.now)) }
+{
+    if value.is_null() {
+        return Ok(AnyValue::Null);
+    }
+    typed_value(alloc, dtype, value)
+}
+
+/// An array of values, each null or of the type.
+#[tactic(auto, unfolding(crate::specs::Tables::any_values_of))]
+fn any_values(alloc: Global, dtype: DataType, value: &Value) -> Result<Items<AnyValue>, Fault>
+    ensures { Gives result (any_values_of dtype (view value.now)) }
+{
+    let entries = entries(value)?;
+    each(alloc, entries, |entry| any_value(alloc, dtype, entry))
+}
+
+/// The same values, where there are so many; else `Form`.
+fn so_many(height: usize, values: Items<AnyValue>) -> Result<Items<AnyValue>, Fault>
+    ensures { Gives result (so_many_of height values) }
+{
+    if values.len() == height {
+        Ok(values)
+    } else {
+        Err(Fault::Form)
+    }
+}
+
+/// The name, the type and the values of an array of three; there are as many values as the table has rows.
+#[tactic(auto, unfolding(crate::specs::Tables::table_column_of))]
+fn table_column(alloc: Global, height: usize, value: &Value) -> Result<Column, Fault>
+    ensures { Gives result (table_column_of height (view value.now)) }
+{
+    let (name_value, type_value, array) = three(value)?;
+    let name = name(alloc, name_value)?;
+    let dtype = data_type(type_value)?;
+    let values = so_many(height, any_values(alloc, dtype, array)?)?;
+    Ok(Column {
+        name,
+        dtype,
+        values,
+    })
+}
+
+/// An array of columns of so many rows, no name twice.
+#[tactic(auto, unfolding(crate::specs::Tables::table_columns_of))]
+fn table_columns(alloc: Global, height: usize, value: &Value) -> Result<Columns, Fault>
+    ensures { Gives result (table_columns_of height (view value.now)) }
+{
+    let entries = entries(value)?;
+    let mut columns = Columns::new(alloc);
+    for entry in entries {
+        let column = table_column(alloc, height, entry)?;
+        match columns.get(column.name.as_str()) {
+            None => {}
+            Some(_) => return Err(Fault::Form),
+        }
+        columns.with_column(column)?;
+    }
+    Ok(columns)
+}
+
+/// The file of the path of an object.
+#[tactic(auto, unfolding(crate::specs::Tables::path_key_of))]
+fn path_key(alloc: Global, value: &Value) -> Result<SourceKey, Fault>
+    ensures { Gives result (path_key_of (view value.now)) }
+{
+    let object = object(value, &["path"])?;
+    let path = name(alloc, field(object, "path")?)?;
+    Ok(SourceKey::Path(path))
+}
+
+/// The buffer of the number of an object.
+#[tactic(auto, unfolding(crate::specs::Tables::buffer_key_of))]
+fn buffer_key(value: &Value) -> Result<SourceKey, Fault>
+    ensures { Gives result (buffer_key_of (view value.now)) }
+{
+    let object = object(value, &["buffer"])?;
+    let buffer = number(field(object, "buffer")?)?;
+    Ok(SourceKey::Buffer(buffer))
+}
+
+/// The frame of the number of an object.
+#[tactic(auto, unfolding(crate::specs::Tables::frame_key_of))]
+fn frame_key(value: &Value) -> Result<SourceKey, Fault>
+    ensures { Gives result (frame_key_of (view value.now)) }
+{
+    let object = object(value, &["frame"])?;
+    let frame = number(field(object, "frame")?)?;
+    Ok(SourceKey::Frame(frame))
+}
+
+/// The source that an object of one key names.
+fn source_key(alloc: Global, value: &Value) -> Result<SourceKey, Fault>
+    ensures { Gives result (source_key_of (view value.now)) }
+{
+    if value.get("path").is_some() {
+        return path_key(alloc, value);
+    }
+    if value.get("buffer").is_some() {
+        return buffer_key(value);
+    }
+    frame_key(value)
+}
+
+/// A table with its source.
+#[tactic(auto, unfolding(crate::specs::Tables::table_of))]
+fn table(alloc: Global, value: &Value) -> Result<(SourceKey, Table), Fault>
+    ensures { Gives result (table_of (view value.now)) }
+{
+    let object = object(value, &["columns", "height", "source"])?;
+    let key = source_key(alloc, field(object, "source")?)?;
+    let height = number(field(object, "height")?)? as usize;
+    let columns = table_columns(alloc, height, field(object, "columns")?)?;
+    Ok((key, Table { height, columns }))
+}
+
+/// An array of tables with their sources, no source twice.
+#[tactic(auto, unfolding(crate::specs::Tables::tables_of))]
+pub fn tables(alloc: Global, value: &Value) -> Result<Tables, Fault>
+    ensures { Gives result (tables_of (view value.now)) }
+{
+    let entries = entries(value)?;
+    let mut tables = Tables::new(alloc);
+    for entry in entries {
+        let (key, table) = table(alloc, entry)?;
+        match tables.get(&key) {
+            None => {}
+            Some(_) => return Err(Fault::Form),
+        }
+        tables.add(key, table)?;
+    }
+    Ok(tables)
+}
