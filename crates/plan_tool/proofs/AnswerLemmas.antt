@@ -10,7 +10,7 @@ use Rattle.plan_doc.specs.declared.document.Document.{Document}
 use Rattle.plan_doc.specs.Document.{doc_of, document}
 use Rattle.plan_text.specs.Written.{error_text}
 use Rattle.plan_tool.specs.declared.stop.Stop.{Stop}
-use Rattle.plan_tool.specs.declared.stop.Stop.TheVariants.{NotJson, Form, Limit, Fault, OutOfMemory}
+use Rattle.plan_tool.specs.declared.stop.Stop.TheVariants.{NotJson, Form, Limit, Unfit, Fault, OutOfMemory}
 use Rattle.plan_tool.specs.declared.status.Status.{Status}
 use Rattle.plan_tool.specs.declared.status.Status.TheVariants as answers
 use Rattle.plan_core.specs.declared.flags.OptFlags.{OptFlags}
@@ -22,6 +22,10 @@ use Rattle.plan_meaning.specs.Steps.{IsValid}
 use Rattle.plan_meaning.proofs.Refining.{refines_refl}
 use Rattle.plan_meaning.specs.Scans.{nodes, scans}
 use Rattle.plan_meaning.specs.Work.{made, kept}
+use Rattle.plan_meaning.specs.Contents.{Fits}
+use Rattle.plan_table.specs.declared.table.Table.{Table}
+use Rattle.plan_eval.specs.Shown.{contents_of, frame_of}
+use Rattle.plan_tool.specs.Rows.{AreRows, Given}
 use Rattle.plan_prune.specs.Reads.{ReadWithin, tops}
 use Rattle.plan_tool.specs.Listings.{IsAnswer, pushdown_bit, SaysOf, SaysOfDocument, Lists, Refuses}
 use Rattle.plan_tool.specs.Causes.{Call, Comes, IsCommand, IsReadWhole, Finishes, Listed, Told, Cut}
@@ -32,6 +36,7 @@ said d bytes (Ok text) is a = record { asked = d; read = is; answers = a }
 said d bytes (Err NotJson) is a = absurd a
 said d bytes (Err Form) is a = absurd a
 said d bytes (Err Limit) is a = record { asked = d; read = is; deep = a }
+said d bytes (Err Unfit) is a = record { asked = d; read = is; unfit = a }
 said d bytes (Err (Fault fault)) is a = record { asked = d; read = is; refused = a }
 said d bytes (Err OutOfMemory) is a = tt
 
@@ -101,3 +106,15 @@ pruned_answer flags q p r reads work few on = record {
   nodes = λ _. few;
   same = λ off. let u : true ≡ false = sym on ∙ off in cc;
 }
+
+-- tables that fit a plan fit what refines it
+pub fits_answered : (tables : Given) (q p : Plan) → Refines q p → IfSome tables (λ ts. Fits (contents_of ts) p) → IfSome tables (λ ts. Fits (contents_of ts) q)
+fits_answered None q p r f = tt
+fits_answered (Some ts) q p r f = r.fits (contents_of ts) f
+
+-- rows that a plan may give are rows that each plan which it refines may give
+pub rows_given : (tables : Given) (q p : Plan) (rows : Option Table) → Refines q p → IfSome tables (λ ts. Fits (contents_of ts) p) → AreRows tables q rows → AreRows tables p rows
+rows_given None q p None r f a = tt
+rows_given None q p (Some t) r f a = a
+rows_given (Some ts) q p None r f a = a
+rows_given (Some ts) q p (Some t) r f a = record { may = r.may (contents_of ts) (frame_of t) f a.may; types = a.types ∙ r.schema; rows = a.rows }

@@ -9,7 +9,7 @@ use Rattle.plan_stream.specs.Texts.{GrowsByFront}
 use Rattle.plan_text.specs.Written.{error_text}
 use Rattle.plan_tool.specs.declared.status.Status.{Status}
 use Rattle.plan_tool.specs.declared.status.Status.TheVariants as answers
-use Rattle.plan_tool.specs.Listings.{Lists, Refuses, TooDeep}
+use Rattle.plan_tool.specs.Listings.{Lists, Refuses, TooDeep, Unfits}
 
 -- what a call was given and left: the words, the bytes that the source had and has left, the bytes that the sink held and holds, whether it is clean, and the counts of faults before and after
 pub record Call : Type 0 where
@@ -72,6 +72,7 @@ Comes limit c answers.Usage = (IsCommand c.words → ⊥) × IsUnwritten c × Is
 Comes limit c answers.NotJson = IsCommand c.words × IsUnwritten c × IsReadWhole c × IfSome c.given (λ bytes. (length bytes ≤ limit) × (doc_of bytes ≡ not_json))
 Comes limit c answers.Form = IsCommand c.words × IsUnwritten c × IsReadWhole c × IfSome c.given (λ bytes. (length bytes ≤ limit) × (doc_of bytes ≡ form))
 Comes limit c answers.Refused = IsCommand c.words × IsFlushed c × IsReadWhole c × IfSome c.given (Told limit c)
+Comes limit c answers.Unfit = IsCommand c.words × IsUnwritten c × IsReadWhole c × IfSome c.given (λ bytes. (length bytes ≤ limit) × Unfits bytes)
 Comes limit c answers.Limit = IsCommand c.words × IsUnwritten c × (c.read_faults_now ≡ c.read_faults) × IfSome c.given (λ bytes. (limit < length bytes) ⊎ ((length bytes ≤ limit) × TooDeep bytes))
 Comes limit c answers.ReadFault = IsCommand c.words × IsUnwritten c × Rose c.read_faults c.read_faults_now
 Comes limit c answers.WriteFault = IsCommand c.words × Rose c.write_faults c.write_faults_now × IsReadWhole c × IfSome c.given (Cut limit c)

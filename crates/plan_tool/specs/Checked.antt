@@ -33,5 +33,6 @@ Checks (Ok x) lp ex root = IsChecked lp ex root
 Checks (Err stops.NotJson) lp ex root = ⊥
 Checks (Err stops.Form) lp ex root = ⊥
 Checks (Err stops.Limit) lp ex root = IsTooDeep lp ex root
+Checks (Err stops.Unfit) lp ex root = ⊥
 Checks (Err (stops.Fault fault)) lp ex root = IsRefused lp ex root fault
 Checks (Err stops.OutOfMemory) lp ex root = Unit {0}

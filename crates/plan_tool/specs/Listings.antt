@@ -1,5 +1,5 @@
 -- What is listed for a document, and what the program says of bytes.
-use Rattle.std.specs.Prelude.{◌≡◌, ◌≤◌, ◌+◌, ℕ, true, false, List, [], ◌∷◌, Result, Ok, Err, String, string_bytes, if◌then◌else◌}
+use Rattle.std.specs.Prelude.{◌≡◌, ◌≤◌, ◌+◌, ℕ, true, false, List, [], ◌∷◌, Option, Result, Ok, Err, String, string_bytes, if◌then◌else◌}
 use Rattle.std.specs.declared.alloc.Global.{Global}
 use Rattle.plan_core.specs.declared.arena.Node.{Node}
 use Rattle.plan_core.specs.declared.error.PolarsError.{PolarsError}
@@ -21,10 +21,12 @@ use Rattle.plan_prune.specs.Pruned.{pruned_all}
 use Rattle.plan_meaning.specs.Scans.{nodes, scans}
 use Rattle.plan_meaning.specs.Work.{made, kept}
 use Rattle.plan_prune.specs.Reads.{ReadWithin, tops}
+use Rattle.plan_table.specs.declared.table.Table.{Table}
 use Rattle.plan_text.specs.Written.{listing_text}
 use Rattle.plan_tool.specs.declared.stop.Stop.{Stop}
 use Rattle.plan_tool.specs.declared.stop.Stop.TheVariants as stops
 use Rattle.plan_tool.specs.Checked.{IsChecked, IsRefused, IsTooDeep}
+use Rattle.plan_tool.specs.Rows.{AreRows, DontFit, Fit}
 
 -- the bit of projection pushdown
 abbrev pub pushdown_bit : ℕ
@@ -42,22 +44,31 @@ pub record IsAnswer (flags : OptFlags) (answer given : Plan) : Type 0 where
   pub nodes : has_bits (bits_of flags) pushdown_bit ≡ true → nodes answer ≤ nodes given + tops given all
   pub same : has_bits (bits_of flags) pushdown_bit ≡ false → answer ≡ given
 
--- the text lists the plan at a number, numbered from 0, and what its scans read
-pub record IsListOf (lp : List IR) (ex : List AExpr) (root : Node) (text : List ℕ) : Type 0 where
+-- the text lists the plan at a number, numbered from 0, what its scans read, and these rows
+pub record IsListOf (lp : List IR) (ex : List AExpr) (root : Node) (rows : Option Table) (text : List ℕ) : Type 0 where
   pub plan : PlanCopy
   pub renumbered : IsRenumbered lp ex root plan
-  pub is : text ≡ listing_text plan.lp plan.ex plan.root (scan_reads_of plan.lp)
+  pub is : text ≡ listing_text plan.lp plan.ex plan.root (scan_reads_of plan.lp) rows
 
--- the text lists the optimised plan of a document
+-- the text lists the optimised plan of a document, and the rows of a frame that this plan, and so the given one, may give over the document's tables
 pub record IsListing (d : Document) (text : List ℕ) : Type 0 where
   pub nodes : List IR
   pub promised : IsAnswer d.flags (plan_at nodes d.ex d.root) (plan_at d.lp d.ex d.root)
   pub exact : bare (plans_at nodes d.ex (d.root ∷ [])) ≡ answered d.flags (bare (plans_at d.lp d.ex (d.root ∷ [])))
-  pub lists : IsListOf nodes d.ex d.root text
+  pub rows : Option Table
+  pub answered_rows : AreRows d.tables (plan_at nodes d.ex d.root) rows
+  pub given_rows : AreRows d.tables (plan_at d.lp d.ex d.root) rows
+  pub lists : IsListOf nodes d.ex d.root rows text
 
--- the plan of a document has no fault, and the text is its listing
+-- the plan of a document has no fault, and its tables don't fit it
+pub record IsUnfit (d : Document) : Type 0 where
+  pub checked : IsChecked d.lp d.ex d.root
+  pub unfit : DontFit d.tables (plans_at d.lp d.ex (d.root ∷ []))
+
+-- the plan of a document has no fault, its tables fit, and the text is its listing
 pub record Answers (d : Document) (text : List ℕ) : Type 0 where
   pub checked : IsChecked d.lp d.ex d.root
+  pub fit : Fit d.tables (plans_at d.lp d.ex (d.root ∷ []))
   pub listed : IsListing d text
 
 -- the text that is listed for a document, or why there is none
@@ -66,6 +77,7 @@ SaysOfDocument (Ok text) d = Answers d (string_bytes text)
 SaysOfDocument (Err stops.NotJson) d = ⊥
 SaysOfDocument (Err stops.Form) d = ⊥
 SaysOfDocument (Err stops.Limit) d = IsTooDeep d.lp d.ex d.root
+SaysOfDocument (Err stops.Unfit) d = IsUnfit d
 SaysOfDocument (Err (stops.Fault fault)) d = IsRefused d.lp d.ex d.root fault
 SaysOfDocument (Err stops.OutOfMemory) d = Unit {0}
 
@@ -87,11 +99,18 @@ pub record TooDeep (bytes : List ℕ) : Type 0 where
   pub read : doc_of bytes ≡ document asked
   pub deep : IsTooDeep asked.lp asked.ex asked.root
 
+-- the bytes are a document whose tables don't fit its plan
+pub record Unfits (bytes : List ℕ) : Type 0 where
+  pub asked : Document
+  pub read : doc_of bytes ≡ document asked
+  pub unfit : IsUnfit asked
+
 -- the text that is listed for bytes, or why there is none
 abbrev pub SaysOf : Result (String Global) Stop → List ℕ → Type 0
 SaysOf (Ok text) bytes = Lists bytes (string_bytes text)
 SaysOf (Err stops.NotJson) bytes = doc_of bytes ≡ not_json
 SaysOf (Err stops.Form) bytes = doc_of bytes ≡ form
 SaysOf (Err stops.Limit) bytes = TooDeep bytes
+SaysOf (Err stops.Unfit) bytes = Unfits bytes
 SaysOf (Err (stops.Fault fault)) bytes = Refuses bytes fault
 SaysOf (Err stops.OutOfMemory) bytes = Unit {0}

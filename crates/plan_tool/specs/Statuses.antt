@@ -10,6 +10,7 @@ code_of statuses.Usage = 2
 code_of statuses.NotJson = 3
 code_of statuses.Form = 4
 code_of statuses.Refused = 5
+code_of statuses.Unfit = 6
 code_of statuses.Limit = 7
 code_of statuses.ReadFault = 8
 code_of statuses.WriteFault = 9

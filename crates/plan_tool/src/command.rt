@@ -68,6 +68,7 @@ pub fn run<S: Source, K: Sink>(
         Err(Stop::NotJson) => Status::NotJson,
         Err(Stop::Form) => Status::Form,
         Err(Stop::Limit) => Status::Limit,
+        Err(Stop::Unfit) => Status::Unfit,
         Err(Stop::OutOfMemory) => Status::OutOfMemory,
     }
 }

@@ -4,6 +4,7 @@
 mod check;
 mod command;
 mod listings;
+mod rows;
 mod status;
 mod stop;
 

@@ -1,5 +1,5 @@
 //! From the bytes of a document to the text that lists its plan.
-ghost use Rattle.std.specs.Prelude.{◌≡◌, [], ◌∷◌, IfOk, string_bytes};
+ghost use Rattle.std.specs.Prelude.{◌≡◌, [], ◌∷◌, IfOk, option_copied, string_bytes};
 ghost use Rattle.plan_ir.specs.Parts.{IsPlan};
 ghost use Rattle.plan_ir.specs.Plans.{bare, plans_at};
 ghost use Rattle.plan_meaning.specs.PlanAt.{plan_at};
@@ -7,11 +7,13 @@ ghost use Rattle.plan_meaning.specs.Steps.{IsValid};
 ghost use Rattle.plan_tool.specs.Listings.{answered, IsAnswer, IsListOf, SaysOf, SaysOfDocument};
 
 use crate::check::check;
+use crate::rows::{check_tables, rows_of};
 use crate::stop::Stop;
 use plan_core::{Arena, Node, OptFlags};
 use plan_doc::{Document, read_document};
 use plan_ir::{AExpr, IR, into_renumbered, scan_reads};
 use plan_prune::ProjectionPushDown;
+use plan_table::Table;
 use plan_text::write_listing;
 use std::alloc::{AllocError, Global};
 
@@ -38,14 +40,20 @@ fn optimized(
     Ok(lp)
 }
 
-/// The text that lists a plan, and what its scans read. The given columns move into the plan that is listed.
-fn list(alloc: Global, root: Node, lp: Arena<IR>, ex: Arena<AExpr>) -> Result<String, AllocError>
+/// The text that lists a plan, what its scans read, and rows. The given columns move into the plan that is listed.
+fn list(
+    alloc: Global,
+    root: Node,
+    lp: Arena<IR>,
+    ex: Arena<AExpr>,
+    rows: Option<&Table>,
+) -> Result<String, AllocError>
     requires { IsPlan lp ex root }
-    ensures { IfOk result (λ text. IsListOf lp ex root (string_bytes text)) }
+    ensures { IfOk result (λ text. IsListOf lp ex root (option_copied rows.entry) (string_bytes text)) }
 {
     let plan = into_renumbered(alloc, root, lp, ex)?;
     let reads = scan_reads(alloc, &plan)?;
-    Ok(write_listing(alloc, &plan, reads.as_slice())?)
+    Ok(write_listing(alloc, &plan, reads.as_slice(), rows)?)
 }
 
 /// The text that lists the optimised plan of a document, or why there is none.
@@ -58,11 +66,14 @@ fn answer(alloc: Global, document: Document) -> Result<String, Stop>
         ex,
         flags,
         shared,
+        tables,
     } = document;
     let _ = shared;
     check(alloc, root, &lp, &ex)?;
+    check_tables(root, &lp, &tables)?;
     let lp = optimized(alloc, root, flags, lp, &ex)?;
-    Ok(list(alloc, root, lp, ex)?)
+    let rows = rows_of(alloc, root, &lp, &ex, &tables)?;
+    Ok(list(alloc, root, lp, ex, rows.as_ref())?)
 }
 
 /// The text that lists the optimised plan of the document that the bytes stand for, or why there is none.

@@ -15,6 +15,8 @@ pub enum Status {
     Form,
     /// The plan has a fault, and the text that names it was written whole and flushed.
     Refused,
+    /// The tables of the document don't fit its plan.
+    Unfit,
     /// The document has too many bytes, or the plan or an expression too many levels.
     Limit,
     /// The source failed.
@@ -36,6 +38,7 @@ impl Status {
             Status::NotJson => 3,
             Status::Form => 4,
             Status::Refused => 5,
+            Status::Unfit => 6,
             Status::Limit => 7,
             Status::ReadFault => 8,
             Status::WriteFault => 9,

@@ -13,6 +13,8 @@ pub enum Stop {
     Form,
     /// The plan or an expression has too many levels.
     Limit,
+    /// The tables don't fit the plan.
+    Unfit,
     /// The plan has this fault, which isn't want of memory.
     Fault(PolarsError),
     /// There was not enough memory.
