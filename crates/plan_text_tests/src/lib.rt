@@ -4,4 +4,6 @@
 #[cfg(test)]
 mod plans;
 #[cfg(test)]
+mod rows;
+#[cfg(test)]
 mod texts;

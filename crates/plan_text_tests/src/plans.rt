@@ -106,6 +106,14 @@ pub fn simple_plan(alloc: Global) -> Result<PlanCopy, AllocError> {
     })
 }
 
+pub fn no_plan(alloc: Global) -> PlanCopy {
+    PlanCopy {
+        root: Node(0),
+        lp: Arena::new(alloc),
+        ex: Arena::new(alloc),
+    }
+}
+
 fn some_rows(alloc: Global) -> Result<FileScanOptions, AllocError> {
     let row_index = RowIndex {
         name: name(alloc, "i")?,

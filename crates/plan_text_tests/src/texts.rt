@@ -58,7 +58,7 @@ fn writes_each_operator(rt: HostRuntime) -> Result<(), AllocError> {
 fn writes_listings(rt: HostRuntime) -> Result<(), AllocError> {
     let alloc = rt.alloc();
     let reads = vec![in alloc; names(alloc, &["a", "b"])?]?;
-    let text = write_listing(alloc, &simple_plan(alloc)?, reads.as_slice())?;
+    let text = write_listing(alloc, &simple_plan(alloc)?, reads.as_slice(), None)?;
     let wanted = format!(in alloc;
         "{{\"plan\":{SIMPLE_PLAN},\"reads\":[[\"a\",\"b\"]],\"rows\":null}}\n"
     )?;
