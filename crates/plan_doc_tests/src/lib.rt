@@ -5,3 +5,5 @@
 mod documents;
 #[cfg(test)]
 mod further;
+#[cfg(test)]
+mod tables;
