@@ -1,11 +1,10 @@
 -- When tables have what nodes and plans need.
-use Rattle.std.proofs.Common.{◌≡◌, ◌<◌, ◌++◌, ◌+◌, ◌&&◌, ℕ, zero, suc, Bool, true, false, cond, length, get_or, take, List, [], ◌∷◌, map, Option, None, Some, option_map, refl, ap, ap₂, sym, subst, ◌∙◌, append-nil}
+use Rattle.std.proofs.Common.{◌≡◌, ◌<◌, ◌++◌, ◌+◌, ℕ, zero, suc, Bool, true, false, cond, length, get_or, take, List, [], ◌∷◌, map, Option, None, Some, option_map, refl, ap, ap₂, sym, subst, ◌∙◌}
 use Rattle.std.specs.Prelude.{◌↔◌, IsTrue, IfSome}
 use Rattle.std.specs.List.{AllByRecursion, slice_get}
-use Rattle.std.specs.Map.{lookup}
 use Rattle.std.specs.Str.{bytes_eq}
 use Rattle.std.proofs.lemmas.List.{map-append, take_more}
-use Rattle.plan_core.specs.Columns.{Columns, HasDistinctNames, type_of}
+use Rattle.plan_core.specs.Columns.{Columns, type_of}
 use Rattle.plan_core.specs.declared.arena.Node.{Node}
 use Rattle.plan_core.specs.declared.data_type.DataType.{DataType}
 use Rattle.plan_tree.specs.Rose.{Roses, rose, no_roses, more}
@@ -14,24 +13,20 @@ use Rattle.plan_ir.specs.declared.ir.IR.{IR}
 use Rattle.plan_ir.specs.declared.scan.FileInfo.{FileInfo}
 use Rattle.plan_ir.specs.declared.scan.ScanSources.TheVariants.{Paths}
 use Rattle.plan_ir.specs.Parts.{inputs_of, IsPlan}
-use Rattle.plan_ir.specs.Plans.{Op, slice, filter, scan, frame_scan, simple_projection, select, hstack, invalid, bare, op_at, plans_at}
+use Rattle.plan_ir.specs.Plans.{Op, bare, op_at, plans_at}
 use Rattle.plan_ir.proofs.PlanLemmas.{plan_open}
 use Rattle.plan_meaning.specs.PlanAt.{one_plan}
-use Rattle.plan_meaning.specs.Exprs.{Name, is_type}
-use Rattle.plan_meaning.specs.Typing.{file_columns, is_column}
-use Rattle.plan_meaning.specs.Values.{Value, AllOf}
-use Rattle.plan_meaning.specs.Frames.{Frame, Column, HasSchema, HaveTypes, HoldsAll, Holds, IsFrame, column, found}
-use Rattle.plan_meaning.specs.Contents.{Contents, Fits, FitsAll, FitsAt, HasFrame, frame_at, same_source, path, frame}
-use Rattle.plan_meaning.proofs.FrameLemmas.{is_type_some, schema_holds}
+use Rattle.plan_meaning.specs.Exprs.{Name}
+use Rattle.plan_meaning.specs.Typing.{file_columns}
+use Rattle.plan_meaning.specs.Frames.{Frame}
+use Rattle.plan_meaning.specs.Contents.{Contents, Fits, FitsAll, FitsAt, frame_at, same_source}
 use Rattle.plan_table.specs.declared.column.Column.{Column as Typed}
 use Rattle.plan_table.specs.declared.source_key.SourceKey.{SourceKey}
 use Rattle.plan_table.specs.declared.source_key.SourceKey.TheVariants as keys
 use Rattle.plan_table.specs.declared.table.Table.{Table}
-use Rattle.plan_table.specs.declared.value.AnyValue.{AnyValue}
-use Rattle.plan_table.specs.declared.value.AnyValue.TheVariants as values
-use Rattle.plan_table.specs.Tables.{IsColumn, IsOf, IsTable, column_of, same_key, table_at, types_of}
-use Rattle.plan_eval.specs.Fitting.{AreFormed, HasColumns, IsMet, Need, TablesFit, needs, needs_by, scan_needs}
-use Rattle.plan_eval.specs.Shown.{columns_shown, contents_of, frame_of, source_of, value_of, values_of}
+use Rattle.plan_table.specs.Tables.{IsTable, column_of, same_key, table_at, types_of}
+use Rattle.plan_eval.specs.Fitting.{HasColumns, IsMet, Need, TablesFit, needs, needs_by, scan_needs}
+use Rattle.plan_eval.specs.Shown.{contents_of, frame_of, source_of}
 
 -- One source
 

@@ -1,5 +1,5 @@
 -- Well-formed tables as frames, and what they hold.
-use Rattle.std.proofs.Common.{◌≡◌, ◌++◌, ℕ, Bool, true, false, length, List, [], ◌∷◌, map, Option, None, Some, option_map, refl, ap, sym, subst, ◌∙◌}
+use Rattle.std.proofs.Common.{ℕ, List, [], ◌∷◌, map, Option, None, Some, option_map, refl, ap, sym, subst, ◌∙◌}
 use Rattle.std.specs.Prelude.{IfSome}
 use Rattle.std.specs.List.{AllByRecursion}
 use Rattle.plan_core.specs.Columns.{Columns, type_of}
@@ -9,11 +9,11 @@ use Rattle.plan_ir.specs.declared.scan.FileInfo.{FileInfo}
 use Rattle.plan_ir.specs.declared.scan.ScanSources.TheVariants.{Paths}
 use Rattle.plan_ir.specs.Plans.{Op, slice, filter, scan, frame_scan, simple_projection, select, hstack, invalid}
 use Rattle.plan_meaning.specs.Exprs.{Name}
-use Rattle.plan_meaning.specs.Typing.{file_columns, is_column}
+use Rattle.plan_meaning.specs.Typing.{file_columns}
 use Rattle.plan_meaning.specs.Values.{Value, AllOf}
 use Rattle.plan_meaning.specs.Values as spec
-use Rattle.plan_meaning.specs.Frames.{HasSchema, HaveTypes, HoldsAll, IsFrame}
-use Rattle.plan_meaning.specs.Contents.{Contents, FitsAt, HasFrame, Source, path, frame}
+use Rattle.plan_meaning.specs.Frames.{HaveTypes, HoldsAll, IsFrame}
+use Rattle.plan_meaning.specs.Contents.{FitsAt, HasFrame, path}
 use Rattle.plan_meaning.proofs.FrameLemmas.{is_type_some, schema_holds, length-map}
 use Rattle.plan_table.specs.declared.column.Column.{Column as Typed}
 use Rattle.plan_table.specs.declared.source_key.SourceKey.{SourceKey}
@@ -22,7 +22,7 @@ use Rattle.plan_table.specs.declared.table.Table.{Table}
 use Rattle.plan_table.specs.declared.value.AnyValue.{AnyValue}
 use Rattle.plan_table.specs.declared.value.AnyValue.TheVariants.{Null, Int64, String, Boolean}
 use Rattle.plan_table.specs.Tables.{IsColumn, IsOf, IsTable, table_at, types_of}
-use Rattle.plan_eval.specs.Fitting.{AreFormed, HasColumns, IsMet, Need, needs_by, scan_needs}
+use Rattle.plan_eval.specs.Fitting.{AreFormed, HasColumns, IsMet, needs_by, scan_needs}
 use Rattle.plan_eval.specs.Shown.{columns_shown, contents_of, frame_of, source_of, value_of, values_of}
 use Rattle.plan_eval.proofs.FitLemmas.{frame-shown}
 

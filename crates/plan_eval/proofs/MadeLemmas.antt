@@ -1,15 +1,15 @@
 -- The types that stored columns have for the expressions of a valid node.
-use Rattle.std.proofs.Common.{◌≡◌, ◌∙◌, All, true, List, [], ◌∷◌, map, Option, Some, is_some, unwrap_or, ap, ap₂, refl, sym, subst}
+use Rattle.std.proofs.Common.{◌≡◌, All, true, List, [], ◌∷◌, map, Option, Some, is_some, unwrap_or, ap, ap₂, refl, sym, subst}
 use Rattle.std.specs.List.{AllByRecursion}
 use Rattle.std.proofs.lemmas.List.Elements.{All-from_recursion}
-use Rattle.plan_core.specs.Columns.{Columns, type_of, with_types}
+use Rattle.plan_core.specs.Columns.{Columns, type_of}
 use Rattle.plan_core.specs.declared.data_type.DataType.{DataType}
 use Rattle.plan_core.specs.declared.data_type.DataType.TheVariants.{Int64}
 use Rattle.plan_core.proofs.SameLemmas.{same_columns-Decides}
 use Rattle.plan_ir.specs.declared.expr.AExpr.{AExpr}
 use Rattle.plan_ir.specs.declared.expr.ExprIR.{ExprIR}
-use Rattle.plan_ir.specs.Plans.{Named, all_named_at, named_at}
-use Rattle.plan_meaning.specs.Exprs.{Name, name_of}
+use Rattle.plan_ir.specs.Plans.{Named, all_named_at}
+use Rattle.plan_meaning.specs.Exprs.{name_of}
 use Rattle.plan_meaning.specs.Typing.{made_column, made_schema, out_names}
 use Rattle.plan_meaning.proofs.CheckParts.{MadeGood}
 use Rattle.plan_meaning.proofs.KeptExprs.{new_distinct}

@@ -1,5 +1,5 @@
 -- From the table that a node gives over those of its inputs, to the table that the plan gives.
-use Rattle.std.proofs.Common.{◌≡◌, ◌∙◌, List, [], ◌∷◌, map, Some, ap, refl, sym, subst}
+use Rattle.std.proofs.Common.{◌≡◌, ◌∙◌, List, [], ◌∷◌, map, Some, ap, sym, subst}
 use Rattle.std.specs.List.{slice_get}
 use Rattle.plan_core.specs.declared.arena.Node.{Node}
 use Rattle.plan_core.specs.Columns.{Columns}
@@ -9,8 +9,8 @@ use Rattle.plan_ir.specs.declared.ir.IR.{IR}
 use Rattle.plan_ir.specs.Parts.{inputs_of, IsPlan}
 use Rattle.plan_ir.specs.Plans.{Op, bare, op_at, plans_at}
 use Rattle.plan_ir.proofs.PlanLemmas.{plan_open}
-use Rattle.plan_meaning.specs.Contents.{Contents, Fits}
-use Rattle.plan_meaning.specs.Frames.{Frame, HasSchema}
+use Rattle.plan_meaning.specs.Contents.{Fits}
+use Rattle.plan_meaning.specs.Frames.{HasSchema}
 use Rattle.plan_meaning.specs.PlanAt.{one_plan, plan_at}
 use Rattle.plan_meaning.specs.Steps.{IsValid, May, MayAll}
 use Rattle.plan_meaning.specs.Typing.{AllHold, AllValid, checks, schema, schema_by, schemas}
@@ -18,7 +18,7 @@ use Rattle.plan_meaning.proofs.Runs.{may_has}
 use Rattle.plan_meaning.proofs.Validity.{bare-valid, one_stands, schemas-bare}
 use Rattle.plan_table.specs.declared.source_key.SourceKey.{SourceKey}
 use Rattle.plan_table.specs.declared.table.Table.{Table}
-use Rattle.plan_table.specs.Tables.{HasRows, types_of}
+use Rattle.plan_table.specs.Tables.{HasRows}
 use Rattle.plan_eval.specs.Given.{GiveAll, Gives, schema_of}
 use Rattle.plan_eval.specs.Shown.{contents_of, frame_of}
 use Rattle.plan_eval.proofs.FormedLemmas.{have-columns}

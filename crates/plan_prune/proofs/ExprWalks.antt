@@ -1,22 +1,14 @@
 -- What walks over expressions find, one after another: their names, the first that isn't scalar, and the columns that they make.
-use Rattle.std.proofs.Common.{◌≡◌, ◌<◌, All, get_or, length, subst, ℕ, zero, suc, ◌+◌, ◌&&◌, Bool, true, false, cond, List, [], ◌∷◌, ◌++◌, take, Option, Some, None, option_map, refl, sym, ap, ◌∙◌, add-one, append-nil}
+use Rattle.std.proofs.Common.{◌≡◌, ℕ, zero, suc, ◌+◌, Bool, true, false, cond, List, [], ◌∷◌, ◌++◌, take, Option, Some, None, option_map, refl, sym, ap, ◌∙◌, add-one, append-nil}
 use Rattle.std.specs.List.{slice_get, filter, cons_option}
-use Rattle.std.proofs.lemmas.List.Elements.{All-get_or, filter-append}
-use Rattle.std.proofs.lemmas.Option.{slice_get-get_or}
+use Rattle.std.proofs.lemmas.List.Elements.{filter-append}
 use Rattle.plan_core.specs.Columns.{Columns, type_of, with_type, with_types}
 use Rattle.plan_core.specs.Names.{AreDistinct, with_name, with_names}
-use Rattle.plan_core.specs.declared.arena.Node.{Node}
 use Rattle.plan_core.specs.declared.data_type.DataType.{DataType}
 use Rattle.plan_ir.specs.declared.expr.AExpr.{AExpr}
-use Rattle.plan_ir.specs.declared.expr.AExpr.TheVariants as exprs
 use Rattle.plan_ir.specs.declared.expr.ExprIR.{ExprIR}
-use Rattle.plan_ir.specs.declared.expr.LiteralValue.{LiteralValue}
-use Rattle.plan_ir.specs.declared.expr.Operator.{Operator}
-use Rattle.plan_ir.specs.Parts.{IsExpr}
 use Rattle.plan_ir.specs.Plans.{expr_at, all_named_at}
-use Rattle.plan_ir.proofs.ExprLemmas.{expr_open}
 use Rattle.plan_meaning.specs.Exprs.{Name, leaves, name_of, is_scalar}
-use Rattle.plan_meaning.specs.Steps.{all_scalar}
 use Rattle.plan_meaning.specs.Asked.{all_leaves}
 use Rattle.plan_prune.specs.Pruned.{typed_names}
 use Rattle.plan_prune.specs.Kept.{many_at, names_at, with_typed}

@@ -1,9 +1,8 @@
 -- Columns that are put one after another.
-use Rattle.std.proofs.Common.{◌≡◌, ◌++◌, ℕ, Bool, true, false, cond, List, [], ◌∷◌, map, refl, ap, sym, subst, append_assoc, ◌∙◌}
+use Rattle.std.proofs.Common.{◌≡◌, ◌++◌, ℕ, Bool, false, cond, List, [], ◌∷◌, refl, ap, sym, subst, append_assoc, ◌∙◌}
 use Rattle.std.specs.List.{AllByRecursion, IsDistinct}
 use Rattle.std.specs.Str.{bytes_eq}
-use Rattle.plan_core.specs.declared.data_type.DataType.{DataType}
-use Rattle.plan_core.specs.Columns.{Columns, HasDistinctNames, names_of}
+use Rattle.plan_core.specs.Columns.{HasDistinctNames, names_of}
 use Rattle.plan_core.proofs.ColumnLemmas.{flip_false}
 use Rattle.plan_table.specs.declared.column.Column.{Column}
 use Rattle.plan_table.specs.Tables.{types_of, with_column}

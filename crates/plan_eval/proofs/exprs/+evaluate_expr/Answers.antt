@@ -1,9 +1,9 @@
-use Rattle.std.proofs.Common.{◌≡◌, ◌∙◌, ap, ap₂, refl, sym, arith, Some}
+use Rattle.std.proofs.Common.{◌∙◌, ap, ap₂, refl, sym, arith, Some}
 use Rattle.plan_ir.specs.Plans.{Expr}
 use Rattle.plan_ir.specs.declared.expr.AExpr.TheVariants.{Column, Literal, Alias, BinaryExpr}
 use Rattle.plan_ir.proofs.ExprLemmas.{expr_down, expr_open}
 use Rattle.plan_meaning.specs.Frames.{column_or}
-use Rattle.plan_meaning.specs.Meaning.{Cell, many, one, operated, spread, val}
+use Rattle.plan_meaning.specs.Meaning.{many, one, operated, spread, val}
 use Rattle.plan_eval.specs.Shown.{frame_of}
 use Rattle.plan_eval.proofs.exprs.+evaluate_expr.Goals as goal
 

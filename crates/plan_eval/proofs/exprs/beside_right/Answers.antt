@@ -1,4 +1,4 @@
-use Rattle.std.proofs.Common.{◌≡◌, ◌∙◌, ap, sym, map, take, List}
+use Rattle.std.proofs.Common.{◌∙◌, ap, sym, map}
 use Rattle.std.proofs.lemmas.List.{take_all}
 use Rattle.std.proofs.lemmas.Simd.{map-map}
 use Rattle.plan_table.specs.declared.value.AnyValue.{AnyValue}

@@ -1,4 +1,4 @@
-use Rattle.std.proofs.Common.{◌≡◌, ◌∙◌, ◌<◌, length, ap, sym, rules, arith}
+use Rattle.std.proofs.Common.{◌∙◌, ap, sym}
 use Rattle.plan_meaning.specs.Meaning.{value_at}
 use Rattle.plan_meaning.specs.Values.{is_true}
 use Rattle.plan_eval.specs.declared.exprs.Values.{Values}

@@ -1,4 +1,4 @@
-use Rattle.std.proofs.Common.{◌≡◌, ◌∙◌, ◌++◌, ◌∷◌, [], List, ℕ, Bool, true, false, cond, ap, sym, append-nil}
+use Rattle.std.proofs.Common.{◌∙◌, ◌++◌, ◌∷◌, [], List, ℕ, Bool, true, false, ap, sym, append-nil}
 use Rattle.plan_meaning.specs.Meaning.{value_at, places_from}
 use Rattle.plan_meaning.specs.Values.{is_true}
 use Rattle.plan_eval.specs.Given.{cell_of}

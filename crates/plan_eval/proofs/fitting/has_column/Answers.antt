@@ -1,4 +1,4 @@
-use Rattle.std.proofs.Common.{◌≡◌, ◌∙◌, Option, Some, option_map, ap, sym, rules}
+use Rattle.std.proofs.Common.{◌≡◌, ◌∙◌, Option, option_map, ap, sym, rules}
 use Rattle.plan_core.specs.declared.data_type.DataType.{DataType}
 use Rattle.plan_table.specs.declared.column.Column.{Column}
 use Rattle.plan_meaning.specs.Exprs.{is_type, same_type}

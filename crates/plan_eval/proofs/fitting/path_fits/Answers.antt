@@ -1,6 +1,5 @@
-use Rattle.std.proofs.Common.{◌≡◌, ◌∙◌, Some, List, ℕ, ap, sym}
+use Rattle.std.proofs.Common.{◌∙◌, List, ℕ, ap}
 use Rattle.plan_meaning.specs.Typing.{file_columns}
-use Rattle.plan_table.specs.declared.source_key.SourceKey.{SourceKey}
 use Rattle.plan_table.specs.declared.source_key.SourceKey.TheVariants.{Path}
 use Rattle.plan_table.specs.Tables.{table_at}
 use Rattle.plan_eval.proofs.FitLemmas.{met-found}

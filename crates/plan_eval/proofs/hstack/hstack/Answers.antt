@@ -1,5 +1,5 @@
-use Rattle.std.proofs.Common.{◌≡◌, ◌∙◌, List, map, [], ◌∷◌, ap, sym, cond, true, rules}
-use Rattle.plan_core.specs.Columns.{Columns, with_types}
+use Rattle.std.proofs.Common.{◌∙◌, List, map, ap, true}
+use Rattle.plan_core.specs.Columns.{with_types}
 use Rattle.plan_core.specs.declared.options.ProjectionOptions.{ProjectionOptions}
 use Rattle.plan_ir.specs.Plans.{all_named_at}
 use Rattle.plan_meaning.specs.Steps.{made}

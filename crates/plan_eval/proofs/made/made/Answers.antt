@@ -1,4 +1,3 @@
-use Rattle.std.proofs.Common.{◌≡◌, ◌∙◌, ap, sym}
 use Rattle.plan_meaning.proofs.ScalarExprs.{stands_here}
 use Rattle.plan_eval.specs.Shown.{columns_shown, frame_of}
 use Rattle.plan_table.specs.Tables.{types_of}

@@ -1,7 +1,6 @@
-use Rattle.std.proofs.Common.{◌≡◌, [], ◌∷◌, All, SFits, w64, sym, subst, rules}
+use Rattle.std.proofs.Common.{[], ◌∷◌, All, SFits, w64, sym, subst, rules}
 use Rattle.std.proofs.Math.Facts.{to_z-of_z}
 use Rattle.std.specs.Prelude.{ℤ, IfOk}
-use Rattle.plan_core.specs.declared.options.ProjectionOptions.{ProjectionOptions}
 use Rattle.plan_ir.specs.declared.expr.ExprIR.{ExprIR}
 use Rattle.plan_ir.specs.declared.ir.IR.{IR}
 use Rattle.plan_ir.specs.Parts.{IsExpr, exprs_of}

@@ -1,5 +1,4 @@
 use Rattle.std.proofs.Common.{◌≡◌, ◌∙◌, ◌∷◌, List, ap, ap₂, sym}
-use Rattle.plan_core.specs.Columns.{Columns}
 use Rattle.plan_core.specs.declared.data_type.DataType.{DataType}
 use Rattle.plan_meaning.specs.Exprs.{Name}
 use Rattle.plan_meaning.specs.Frames.{Column, picked_columns}

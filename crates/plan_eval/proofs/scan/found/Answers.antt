@@ -1,4 +1,4 @@
-use Rattle.std.proofs.Common.{◌≡◌, ◌∙◌, ◌+◌, List, ℕ, Option, None, Some, ap, sym, subst}
+use Rattle.std.proofs.Common.{◌∙◌, ◌+◌, List, ℕ, ap, sym, subst}
 use Rattle.std.specs.Borrow.{Bor}
 use Rattle.std.specs.Option.{option_copied}
 use Rattle.plan_table.specs.declared.table.Table.{Table}

@@ -1,8 +1,4 @@
-use Rattle.std.proofs.Common.{◌≡◌, ◌∙◌, ◌++◌, ◌∷◌, [], ◌+◌, ℕ, List, ap, sym, map, take, get_or, rules, arith}
-use Rattle.std.specs.Borrow.{Bor}
-use Rattle.plan_meaning.specs.Contents.{total_height}
-use Rattle.plan_table.specs.declared.table.Table.{Table}
-use Rattle.plan_eval.specs.Stacks.{shown_tables}
+use Rattle.std.proofs.Common.{◌≡◌, ◌∙◌, ◌+◌, ℕ, ap, sym, rules}
 use Rattle.plan_eval.proofs.StackLemmas.{height-next}
 use Rattle.plan_eval.proofs.stack.height_of.Goals as goal
 

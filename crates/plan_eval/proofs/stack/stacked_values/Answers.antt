@@ -1,4 +1,4 @@
-use Rattle.std.proofs.Common.{◌≡◌, ◌∙◌, ◌++◌, List, ap, sym}
+use Rattle.std.proofs.Common.{◌∙◌, ◌++◌, List, ap, sym}
 use Rattle.plan_meaning.specs.Frames.{column_or}
 use Rattle.plan_meaning.specs.Values.{Value}
 use Rattle.plan_eval.specs.Shown.{frame_of}

@@ -3,10 +3,10 @@ use Rattle.std.specs.Map.{keys_of}
 use Rattle.std.specs.List.{AllByRecursion}
 use Rattle.plan_table.proofs.TableLemmas.{added-last, formed-added, distinct-keys}
 use Rattle.plan_table.proofs.PlaceLemmas.{absent-noted, places-more}
-use Rattle.plan_table.specs.Places.{places_from, places_seen}
+use Rattle.plan_table.specs.Places.{places_from}
 use Rattle.plan_table.specs.declared.source_key.SourceKey.{SourceKey}
 use Rattle.plan_table.specs.declared.table.Table.{Table}
-use Rattle.plan_table.specs.Tables.{IsTable, table_at}
+use Rattle.plan_table.specs.Tables.{IsTable}
 use Rattle.plan_table.proofs.tables.Tables.add.Goals as goal
 
 pub note-requires : goal.note-requires

@@ -1,4 +1,4 @@
-use Rattle.std.proofs.Common.{◌∙◌, refl, sym}
+use Rattle.std.proofs.Common.{◌∙◌, refl}
 use Rattle.plan_table.proofs.TableLemmas.{looked-up, formed-found}
 use Rattle.plan_table.proofs.tables.Tables.get.Goals as goal
 
