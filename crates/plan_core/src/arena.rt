@@ -44,6 +44,15 @@ impl<T> Arena<T> {
         }
     }
 
+    /// An arena without entries that has room for so many. Refuses for want of memory alone.
+    pub fn with_capacity(alloc: Global, capacity: usize) -> Result<Self, AllocError>
+        ensures { IfOk result (λ arena. arena ≡ []) }
+    {
+        Ok(Arena {
+            items: Vec::with_capacity(alloc, capacity)?,
+        })
+    }
+
     /// How many entries there are.
     pub fn len(&self) -> usize
         ensures value { result ≡ length self.now }

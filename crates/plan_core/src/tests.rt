@@ -27,7 +27,7 @@ fn arena_numbers_its_entries(rt: HostRuntime) -> Result<(), Fail> {
 
 #[test]
 fn arena_entries_are_written(rt: HostRuntime) -> Result<(), Fail> {
-    let mut arena: Arena<u64> = Arena::new(rt.alloc());
+    let mut arena: Arena<u64> = Arena::with_capacity(rt.alloc(), 2)?;
     let first = arena.add(7)?;
     let second = arena.add(8)?;
     arena.swap(first, second);

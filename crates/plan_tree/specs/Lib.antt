@@ -3,3 +3,4 @@ pub mod Rose
 pub mod Stands
 pub mod Read
 pub mod Walk
+pub mod Depths

@@ -6,7 +6,7 @@ mod levels;
 mod walking;
 
 pub use entry::Entry;
-pub use levels::levels_of;
+pub use levels::depth_of;
 pub use walking::{Step, Walked, walk};
 
 #[cfg(test)]

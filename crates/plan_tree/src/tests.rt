@@ -1,7 +1,7 @@
 //! Walks over small arenas.
 ghost use Rattle.std.specs.Prelude.{◌≡◌, ◌++◌, OnOk};
 
-use crate::{Entry, Step, Walked, levels_of, walk};
+use crate::{Entry, Step, Walked, depth_of, walk};
 use plan_core::{Arena, Items, Node};
 use std::alloc::{AllocError, Global};
 use std::test::Fail;
@@ -120,18 +120,13 @@ fn stops_at_the_first_fault(rt: HostRuntime) -> Result<(), Fail> {
 #[test]
 fn counts_levels(rt: HostRuntime) -> Result<(), Fail> {
     let arena = forest(rt.alloc())?;
-    let roots = [
-        Step {
-            node: Node(4),
-            mark: (),
-        },
-        Step {
-            node: Node(0),
-            mark: (),
-        },
-    ];
-    let walked = walk(rt.alloc(), &arena, &roots)?;
-    assert!(rt; walked.fault.is_none());
-    assert_eq!(rt; levels_of(rt.alloc(), &arena, &[Node(4), Node(0)])?, 3);
+    assert_eq!(rt; depth_of(rt.alloc(), &arena, Node(0))?, Some(3));
+    assert_eq!(rt; depth_of(rt.alloc(), &arena, Node(4))?, Some(1));
+    for node in [5, 6, 7, 8, 9] {
+        assert!(rt;
+            depth_of(rt.alloc(), &arena, Node(node))?.is_none(),
+            "at {node}"
+        );
+    }
     Ok(())
 }

@@ -1,5 +1,6 @@
 //! Walks over what numbers of an arena reach. They keep a stack of their own, so that no depth exhausts the machine's.
-ghost use Rattle.std.specs.Prelude.{◌≡◌, ◌++◌, ◌↔◌, length, IfOk, OnOk, MatchOption, None, Some, reverse, get_or, true};
+ghost use Rattle.std.specs.Prelude.{◌≡◌, ◌++◌, ◌↔◌, IfOk, IfSome, OnOk, MatchOption, None, Some, nat_eq, reverse, true};
+ghost use Rattle.std.specs.HashSet.{contains, Updates};
 ghost use Rattle.plan_tree.specs.Rose.{labels};
 ghost use Rattle.plan_tree.specs.Stands.{shape, Trees, StandsOnce};
 ghost use Rattle.plan_tree.specs.Walk.{entry_if_new, nodes_of, steps_to, walk_from};
@@ -7,6 +8,7 @@ ghost use Rattle.plan_tree.specs.Walk.{entry_if_new, nodes_of, steps_to, walk_fr
 use crate::entry::Entry;
 use plan_core::{Arena, Items, Node};
 use std::alloc::{AllocError, Global};
+use std::collections::HashSet;
 
 /// A number that a walk comes to, with the mark of the root that it comes from.
 #[derive(Clone, Copy, Debug)]
@@ -26,17 +28,25 @@ pub struct Walked<W> {
     pub fault: Option<Step<W>>,
 }
 
-/// The entry at a number, unless the number is outside the arena or was met before or the entry is bad.
-fn new_entry<'a, T: Entry>(arena: &'a Arena<T>, met: &[bool], node: Node) -> Option<&'a T>
-    requires { length met.now ≡ length arena.now }
-    ensures { let found = entry_if_new (shape T.inputs T.bad) arena.now (get_or met.now node.0 true) node in
-        MatchOption result (found ≡ None) (λ e. found ≡ Some e.now) }
+/// The entry at a number, which is met from here on, unless the number is outside the arena or was met before or the
+/// entry is bad.
+fn new_entry<'a, T: Entry>(
+    arena: &'a Arena<T>,
+    met: &mut HashSet<usize>,
+    node: Node,
+) -> Result<Option<&'a T>, AllocError>
+    ensures found { let found = entry_if_new (shape T.inputs T.bad) arena.now (contains nat_eq met.old node.0) node in
+        IfOk result (λ r. MatchOption r (found ≡ None) (λ e. found ≡ Some e.now)) }
+    ensures met { IfOk result (λ r. IfSome r (λ _. Updates nat_eq met.old met.new node.0 true)) }
 {
-    if node.0 >= met.len() || met[node.0] {
-        return None;
+    if node.0 >= arena.len() {
+        return Ok(None);
     }
     let entry = arena.get(node);
-    if entry.is_bad() { None } else { Some(entry) }
+    if entry.is_bad() || !met.insert(node.0)? {
+        return Ok(None);
+    }
+    Ok(Some(entry))
 }
 
 /// Appends steps, the first one last.
@@ -81,7 +91,8 @@ pub(crate) fn stack_inputs<T: Entry, W: Copy>(
 }
 
 /// Walks over what the roots reach, in order, up to the first number that can't be part of trees. It has no fault
-/// exactly where trees stand over the roots, no number twice. Refuses for want of memory alone.
+/// exactly where trees stand over the roots, no number twice. It takes the time of what is reached, whatever the arena
+/// holds beside. Refuses for want of memory alone.
 pub fn walk<T: Entry, W: Copy>(
     alloc: Global,
     arena: &Arena<T>,
@@ -94,18 +105,17 @@ pub fn walk<T: Entry, W: Copy>(
         → StandsOnce (shape T.inputs T.bad) arena.now (nodes_of roots.now) t
         → w.listed ≡ labels t) }
 {
-    let mut met = vec![in alloc; false; arena.len()]?;
+    let mut met = HashSet::new(alloc);
     let mut listed = Items::new(alloc);
     let mut pending = Items::new(alloc);
     stack_steps(roots, &mut pending)?;
     while let Some(step) = pending.pop() {
-        let Some(entry) = new_entry(arena, met.as_slice(), step.node) else {
+        let Some(entry) = new_entry(arena, &mut met, step.node)? else {
             return Ok(Walked {
                 listed,
                 fault: Some(step),
             });
         };
-        met[step.node.0] = true;
         listed.push(step.node)?;
         stack_inputs(alloc, entry, step.mark, &mut pending)?;
     }
