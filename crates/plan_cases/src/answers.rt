@@ -1,19 +1,20 @@
-//! The answers to a document: of the whole command, and of its reading alone.
+//! The answers to a document: of a whole command, and of its reading alone.
 
 use plan_doc::{ReadError, read_document};
 use plan_stream::{MemorySink, MemorySource};
 use plan_tool::run;
 use std::alloc::{AllocError, Global};
 
-/// Whether the command answers a document with this status, and writes this line and nothing else, or nothing where the
+/// Whether a command answers a document with this status, and writes this line and nothing else, or nothing where the
 /// line is empty.
 pub fn is_answered(
     alloc: Global,
+    command: &str,
     document: &str,
     status: &str,
     line: &str,
 ) -> Result<bool, AllocError> {
-    let words = [String::from_str(alloc, "optimize")?];
+    let words = [String::from_str(alloc, command)?];
     let mut source = MemorySource::new(document.as_bytes(), 4096);
     let mut sink = MemorySink::new(alloc, 100000)?;
     let code = run(alloc, &words, &mut source, &mut sink).code();

@@ -20,15 +20,15 @@ fn judged(right: bool) -> Line {
     if right { Line::Right } else { Line::Wrong }
 }
 
-/// The document is answered so: a status, and a line that may be left out.
-fn is(alloc: Global, words: &Words<'_>, answer: &str) -> Result<bool, AllocError> {
+/// A command answers the document so: a status, and a line that may be left out.
+fn is(alloc: Global, words: &Words<'_>, command: &str, answer: &str) -> Result<bool, AllocError> {
     let (status, line) = answer.split_once(' ').unwrap_or((answer, ""));
     let document = words.full(alloc, "<document>")?;
     let wanted = words.full(alloc, line)?;
-    is_answered(alloc, &document, status, &wanted)
+    is_answered(alloc, command, &document, status, &wanted)
 }
 
-/// The document is refused with a kind, a node and a place, whether pruning is asked or not.
+/// The document is refused with a kind, a node and a place, by `check`, and by `optimize` whether pruning is asked or not.
 fn fault<'a>(alloc: Global, words: &mut Words<'a>, told: &str) -> Result<bool, AllocError> {
     let Some((kind, at)) = told.split_once(' ') else {
         return Ok(false);
@@ -39,9 +39,10 @@ fn fault<'a>(alloc: Global, words: &mut Words<'a>, told: &str) -> Result<bool, A
     let answer = format!(in alloc;
         r#"5 {{"error":{{"kind":"{kind}","node":{node},"place":{place}}}}}"#
     )?;
-    let unpruned = words.set("<flags>", "0") && is(alloc, words, &answer)?;
-    let pruned = words.set("<flags>", "1") && is(alloc, words, &answer)?;
-    Ok(unpruned && pruned)
+    let checked = is(alloc, words, "check", &answer)?;
+    let unpruned = words.set("<flags>", "0") && is(alloc, words, "optimize", &answer)?;
+    let pruned = words.set("<flags>", "1") && is(alloc, words, "optimize", &answer)?;
+    Ok(checked && unpruned && pruned)
 }
 
 /// The document that is given, with a piece replaced where it stands first, reads so.
@@ -71,7 +72,8 @@ pub fn tried<'a>(alloc: Global, words: &mut Words<'a>, line: &'a str) -> Result<
     }
     let (verb, rest) = line.split_once(' ').unwrap_or((line, ""));
     let right = match verb {
-        "is" => is(alloc, words, rest)?,
+        "is" => is(alloc, words, "optimize", rest)?,
+        "check" => is(alloc, words, "check", rest)?,
         "fault" => fault(alloc, words, rest)?,
         "reads" | "form" | "json" => variant(alloc, words, verb, rest)?,
         _ => false,

@@ -9,7 +9,7 @@ use Rattle.serde_json.specs.Data.{Data}
 use Rattle.serde_json.specs.View.{view}
 use Rattle.serde_json.specs.declared.value.Value.{Value}
 use Rattle.serde_json.specs.Find.{get}
-use Rattle.plan_ir.specs.declared.expr.AExpr.{AExpr}
+use Rattle.plan_expr.specs.declared.aexpr.AExpr.{AExpr}
 use Rattle.plan_ir.specs.declared.ir.IR.{IR}
 use Rattle.plan_doc.specs.declared.document.Document.{Document}
 use Rattle.plan_doc.specs.declared.document.ReadError.{ReadError}

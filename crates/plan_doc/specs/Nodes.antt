@@ -8,13 +8,13 @@ use Rattle.plan_core.specs.declared.data_type.PlainType.TheVariants as plains
 use Rattle.plan_core.specs.declared.options.FileScanOptions.{FileScanOptions}
 use Rattle.plan_core.specs.declared.options.ProjectionOptions.{ProjectionOptions}
 use Rattle.plan_core.specs.Columns.{Columns}
-use Rattle.plan_ir.specs.declared.expr.Operator.{Operator}
-use Rattle.plan_ir.specs.declared.expr.Operator.TheVariants as operators
-use Rattle.plan_ir.specs.declared.expr.LiteralValue.{LiteralValue}
-use Rattle.plan_ir.specs.declared.expr.LiteralValue.TheVariants as literals
-use Rattle.plan_ir.specs.declared.expr.AExpr.{AExpr}
-use Rattle.plan_ir.specs.declared.expr.AExpr.TheVariants as exprs
-use Rattle.plan_ir.specs.declared.expr.ExprIR.{ExprIR}
+use Rattle.plan_expr.specs.declared.operator.Operator.{Operator}
+use Rattle.plan_expr.specs.declared.operator.Operator.TheVariants as operators
+use Rattle.plan_expr.specs.declared.literal.LiteralValue.{LiteralValue}
+use Rattle.plan_expr.specs.declared.literal.LiteralValue.TheVariants as literals
+use Rattle.plan_expr.specs.declared.aexpr.AExpr.{AExpr}
+use Rattle.plan_expr.specs.declared.aexpr.AExpr.TheVariants as exprs
+use Rattle.plan_expr.specs.declared.expr_ir.ExprIR.{ExprIR}
 use Rattle.plan_ir.specs.declared.scan.FileScan.{FileScan}
 use Rattle.plan_ir.specs.declared.scan.FileScan.TheVariants as kinds
 use Rattle.plan_ir.specs.declared.scan.ScanSources.{ScanSources}

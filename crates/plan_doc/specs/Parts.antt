@@ -12,9 +12,9 @@ use Rattle.plan_core.specs.declared.data_type.DataType.TheVariants as types
 use Rattle.plan_core.specs.declared.data_type.PlainType.{PlainType}
 use Rattle.plan_core.specs.declared.data_type.PlainType.TheVariants as plains
 use Rattle.plan_core.specs.declared.options.ProjectionOptions.{ProjectionOptions}
-use Rattle.plan_ir.specs.declared.expr.ExprIR.{ExprIR}
-use Rattle.plan_ir.specs.declared.expr.OutputName.{OutputName}
-use Rattle.plan_ir.specs.declared.expr.OutputName.TheVariants as names
+use Rattle.plan_expr.specs.declared.expr_ir.ExprIR.{ExprIR}
+use Rattle.plan_expr.specs.declared.expr_ir.OutputName.{OutputName}
+use Rattle.plan_expr.specs.declared.expr_ir.OutputName.TheVariants as names
 
 infixl 10 ◌>>=◌
 -- a step, and the next one where it gave something

@@ -35,7 +35,7 @@ pub fn arena_of_each<T: Drop, F: Fn(&Value) -> Result<T, Fault>>(
     requires { F.IsAlwaysCallable read }
     ensures { ReadsEach (FnReturnsAt F.Fn read) result entries.now }
 {
-    let mut found = Arena::new(alloc);
+    let mut found = Arena::with_capacity(alloc, entries.len())?;
     for entry in entries {
         match read(entry) {
             Ok(item) => {

@@ -7,7 +7,7 @@ ghost use Rattle.plan_doc.specs.Nodes.{operator_of, column_expr_of, value_of, va
 use crate::fault::Fault;
 use crate::parts::{field, integer, link, name, object, plain_type, text, truth};
 use plan_core::PlainType;
-use plan_ir::{AExpr, LiteralValue, Operator};
+use plan_expr::{AExpr, LiteralValue, Operator};
 use serde_json::Value;
 use std::alloc::Global;
 

@@ -14,7 +14,8 @@ use crate::parts::{
     columns, field, integer, link, names, number, object, options, output, outputs, text, truth,
 };
 use plan_core::{FileScanOptions, Items, ProjectionOptions, Schema};
-use plan_ir::{ExprIR, FileInfo, FileScan, IR, ScanSources};
+use plan_expr::ExprIR;
+use plan_ir::{FileInfo, FileScan, IR, ScanSources};
 use serde_json::Value;
 use std::alloc::Global;
 

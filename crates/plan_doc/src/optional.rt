@@ -9,7 +9,7 @@ use crate::fault::Fault;
 use crate::parts::{columns, names, number, output, slice};
 use crate::tables::tables;
 use plan_core::{Items, PlSmallStr, Schema};
-use plan_ir::ExprIR;
+use plan_expr::ExprIR;
 use plan_table::Tables;
 use serde_json::Value;
 use std::alloc::Global;

@@ -8,7 +8,7 @@ ghost use Rattle.plan_doc.specs.Parts.{entries_of, object_of, name_of, number_of
 use crate::arrays::each;
 use crate::fault::Fault;
 use plan_core::{DataType, Items, Node, PlSmallStr, PlainType, ProjectionOptions, Schema};
-use plan_ir::{ExprIR, OutputName};
+use plan_expr::{ExprIR, OutputName};
 use serde_json::Value;
 use std::alloc::Global;
 

@@ -2,7 +2,8 @@
 
 use plan_core::{Arena, Node, PlSmallStr};
 use plan_doc::{ReadError, read_document};
-use plan_ir::{AExpr, ExprIR, FileScan, IR, Operator, OutputName};
+use plan_expr::{AExpr, ExprIR, Operator, OutputName};
+use plan_ir::{FileScan, IR};
 use std::alloc::{AllocError, Global};
 use std::process::Abort;
 use std::test::Fail;

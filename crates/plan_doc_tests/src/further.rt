@@ -2,7 +2,8 @@
 
 use plan_core::{Arena, DataType, Items, Node, PlSmallStr, PlainType, ProjectionOptions, Schema};
 use plan_doc::read_document;
-use plan_ir::{AExpr, ExprIR, IR, LiteralValue, Operator, OutputName};
+use plan_expr::{AExpr, ExprIR, LiteralValue, Operator, OutputName};
+use plan_ir::IR;
 use std::alloc::{AllocError, Global};
 use std::process::Abort;
 use std::test::Fail;

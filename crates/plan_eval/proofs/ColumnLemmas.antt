@@ -7,9 +7,9 @@ use Rattle.std.proofs.lemmas.List.Sums.{fold-append}
 use Rattle.plan_core.specs.Columns.{Columns, HasDistinctNames, names_of, with_type, with_types}
 use Rattle.plan_core.specs.declared.data_type.DataType.{DataType}
 use Rattle.plan_core.proofs.ColumnLemmas.{flip_false}
-use Rattle.plan_ir.specs.declared.expr.AExpr.{AExpr}
-use Rattle.plan_ir.specs.declared.expr.ExprIR.{ExprIR}
-use Rattle.plan_ir.specs.Plans.{Named, all_named_at, expr_at, named_at}
+use Rattle.plan_expr.specs.declared.aexpr.AExpr.{AExpr}
+use Rattle.plan_expr.specs.declared.expr_ir.ExprIR.{ExprIR}
+use Rattle.plan_expr.specs.Exprs.{Named, all_named_at, expr_at, named_at}
 use Rattle.plan_meaning.specs.Exprs.{Name, name_of}
 use Rattle.plan_meaning.specs.Frames.{Column, Frame}
 use Rattle.plan_meaning.specs.Frames as frames

@@ -6,9 +6,9 @@ use Rattle.plan_core.specs.Columns.{Columns, type_of}
 use Rattle.plan_core.specs.declared.data_type.DataType.{DataType}
 use Rattle.plan_core.specs.declared.data_type.DataType.TheVariants.{Int64}
 use Rattle.plan_core.proofs.SameLemmas.{same_columns-Decides}
-use Rattle.plan_ir.specs.declared.expr.AExpr.{AExpr}
-use Rattle.plan_ir.specs.declared.expr.ExprIR.{ExprIR}
-use Rattle.plan_ir.specs.Plans.{Named, all_named_at}
+use Rattle.plan_expr.specs.declared.aexpr.AExpr.{AExpr}
+use Rattle.plan_expr.specs.declared.expr_ir.ExprIR.{ExprIR}
+use Rattle.plan_expr.specs.Exprs.{Named, all_named_at}
 use Rattle.plan_meaning.specs.Exprs.{name_of}
 use Rattle.plan_meaning.specs.Typing.{made_column, made_schema, out_names}
 use Rattle.plan_meaning.proofs.CheckParts.{MadeGood}

@@ -1,7 +1,7 @@
 //! The values of expressions over the rows of a table.
 ghost use Rattle.std.specs.Prelude.{◌≡◌, IfOk, map, replicate};
-ghost use Rattle.plan_ir.specs.Parts.{IsExpr};
-ghost use Rattle.plan_ir.specs.Plans.{expr_at};
+ghost use Rattle.plan_expr.specs.Operands.{IsExpr};
+ghost use Rattle.plan_expr.specs.Exprs.{expr_at};
 ghost use Rattle.plan_meaning.specs.Frames.{column_or};
 ghost use Rattle.plan_meaning.specs.Meaning.{filled as filled_with, literal_value, operated as operated_of, spread as spread_of, val, value_at, zip_by};
 ghost use Rattle.plan_meaning.specs.Values.{is_true as true_value};
@@ -10,7 +10,7 @@ ghost use Rattle.plan_eval.specs.Shown.{frame_of, value_of, values_of};
 
 use crate::operators::operated;
 use plan_core::{Arena, Items, Node, TryClone};
-use plan_ir::{AExpr, LiteralValue, Operator};
+use plan_expr::{AExpr, LiteralValue, Operator};
 use plan_table::{AnyValue, Table};
 use std::alloc::{AllocError, Global};
 

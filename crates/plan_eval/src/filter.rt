@@ -1,7 +1,8 @@
 //! A filter gives the rows for which its predicate is true.
 ghost use Rattle.std.specs.Prelude.{◌≡◌, List, [], ◌∷◌, IfOk};
-ghost use Rattle.plan_ir.specs.Parts.{IsExpr};
-ghost use Rattle.plan_ir.specs.Plans.{filter as filter_op, named_at};
+ghost use Rattle.plan_expr.specs.Operands.{IsExpr};
+ghost use Rattle.plan_expr.specs.Exprs.{named_at};
+ghost use Rattle.plan_ir.specs.Plans.{filter as filter_op};
 ghost use Rattle.plan_meaning.specs.Steps.{true_rows as true_rows_of};
 ghost use Rattle.plan_table.specs.declared.source_key.SourceKey.{SourceKey};
 ghost use Rattle.plan_table.specs.declared.table.Table.{Table as TableType};
@@ -10,7 +11,7 @@ ghost use Rattle.plan_eval.specs.Given.{cell_of, Gives};
 use crate::exprs::{Values, evaluate_expr, is_true_at};
 use crate::rows::rows_at;
 use plan_core::{Arena, Items};
-use plan_ir::{AExpr, ExprIR};
+use plan_expr::{AExpr, ExprIR};
 use plan_table::Table;
 use std::alloc::{AllocError, Global};
 

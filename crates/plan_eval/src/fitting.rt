@@ -2,7 +2,7 @@
 ghost use Rattle.std.specs.Prelude.{◌≡◌, ◌↔◌, List, [], ◌∷◌, IfSome, IsTrue};
 ghost use Rattle.std.specs.List.{AllByRecursion};
 ghost use Rattle.plan_tree.specs.Stands.{Trees, StandsOnce};
-ghost use Rattle.plan_ir.specs.declared.expr.AExpr.{AExpr};
+ghost use Rattle.plan_expr.specs.declared.aexpr.AExpr.{AExpr};
 ghost use Rattle.plan_ir.specs.declared.ir.IR.{IR as IRType};
 ghost use Rattle.plan_ir.specs.declared.scan.ScanSources.TheVariants.{Paths as PathSources};
 ghost use Rattle.plan_ir.specs.Parts.{IsPlan, plan_shape};

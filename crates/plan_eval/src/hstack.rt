@@ -2,8 +2,9 @@
 //! last.
 ghost use Rattle.std.specs.Prelude.{◌≡◌, List, [], ◌∷◌, All, IfOk};
 ghost use Rattle.plan_core.specs.declared.options.ProjectionOptions.{ProjectionOptions};
-ghost use Rattle.plan_ir.specs.Parts.{IsExpr};
-ghost use Rattle.plan_ir.specs.Plans.{all_named_at, hstack as hstack_op};
+ghost use Rattle.plan_expr.specs.Operands.{IsExpr};
+ghost use Rattle.plan_expr.specs.Exprs.{all_named_at};
+ghost use Rattle.plan_ir.specs.Plans.{hstack as hstack_op};
 ghost use Rattle.plan_meaning.specs.Typing.{AllHold, checks};
 ghost use Rattle.plan_table.specs.declared.source_key.SourceKey.{SourceKey};
 ghost use Rattle.plan_table.specs.declared.table.Table.{Table as TableType};
@@ -11,7 +12,7 @@ ghost use Rattle.plan_eval.specs.Given.{Gives, schema_of};
 
 use crate::made::made;
 use plan_core::{Arena, Schema, TryClone};
-use plan_ir::{AExpr, ExprIR};
+use plan_expr::{AExpr, ExprIR};
 use plan_table::Table;
 use std::alloc::{AllocError, Global};
 

@@ -5,7 +5,7 @@ ghost use Rattle.plan_meaning.specs.Meaning.{operated as operated_of, compared, 
 ghost use Rattle.plan_meaning.specs.Values.{same_value, value_cmp};
 ghost use Rattle.plan_eval.specs.Shown.{value_of};
 
-use plan_ir::Operator;
+use plan_expr::Operator;
 use plan_table::AnyValue;
 use std::cmp::Ordering;
 

@@ -1,7 +1,8 @@
 //! The table that a plan gives over tables of its sources.
 ghost use Rattle.std.specs.Prelude.{◌≡◌, List, [], ◌∷◌, All, IfOk, length};
-ghost use Rattle.plan_ir.specs.declared.expr.AExpr.{AExpr as AExprType};
-ghost use Rattle.plan_ir.specs.Parts.{IsExpr, IsPlan, exprs_of, inputs_of};
+ghost use Rattle.plan_expr.specs.declared.aexpr.AExpr.{AExpr as AExprType};
+ghost use Rattle.plan_expr.specs.Operands.{IsExpr};
+ghost use Rattle.plan_ir.specs.Parts.{IsPlan, exprs_of, inputs_of};
 ghost use Rattle.plan_ir.specs.Plans.{op_at, plans_at};
 ghost use Rattle.plan_meaning.specs.Contents.{Fits};
 ghost use Rattle.plan_meaning.specs.PlanAt.{plan_at};
@@ -22,7 +23,8 @@ use crate::scan::scan;
 use crate::select::select;
 use crate::slice::slice;
 use plan_core::{Arena, Node};
-use plan_ir::{AExpr, IR};
+use plan_expr::AExpr;
+use plan_ir::IR;
 use plan_table::{Table, Tables};
 use std::alloc::{AllocError, Global};
 

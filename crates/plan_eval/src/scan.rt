@@ -2,7 +2,8 @@
 ghost use Rattle.std.specs.Prelude.{◌≡◌, List, [], IfOk};
 ghost use Rattle.plan_core.specs.declared.options.FileScanOptions.{FileScanOptions};
 ghost use Rattle.plan_ir.specs.declared.scan.FileScan.{FileScan};
-ghost use Rattle.plan_ir.specs.Plans.{scan as scan_op, Named};
+ghost use Rattle.plan_expr.specs.Exprs.{Named};
+ghost use Rattle.plan_ir.specs.Plans.{scan as scan_op};
 ghost use Rattle.std.specs.declared.option.Option.{Option as OptionType};
 ghost use Rattle.plan_meaning.specs.Contents.{frames_of};
 ghost use Rattle.plan_eval.specs.Given.{Gives};

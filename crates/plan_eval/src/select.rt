@@ -1,8 +1,9 @@
 //! A selection gives a column for each of its expressions, and no others: one row where all are scalar.
 ghost use Rattle.std.specs.Prelude.{◌≡◌, List, [], ◌∷◌, All, IfOk, if◌then◌else◌};
 ghost use Rattle.plan_core.specs.declared.options.ProjectionOptions.{ProjectionOptions};
-ghost use Rattle.plan_ir.specs.Parts.{IsExpr};
-ghost use Rattle.plan_ir.specs.Plans.{all_named_at, select as select_op};
+ghost use Rattle.plan_expr.specs.Operands.{IsExpr};
+ghost use Rattle.plan_expr.specs.Exprs.{all_named_at};
+ghost use Rattle.plan_ir.specs.Plans.{select as select_op};
 ghost use Rattle.plan_meaning.specs.Steps.{all_scalar as are_scalar};
 ghost use Rattle.plan_meaning.specs.Typing.{AllHold, checks};
 ghost use Rattle.plan_table.specs.declared.source_key.SourceKey.{SourceKey};
@@ -11,7 +12,7 @@ ghost use Rattle.plan_eval.specs.Given.{Gives, schema_of};
 
 use crate::made::made;
 use plan_core::{Arena, Schema};
-use plan_ir::{AExpr, ExprIR};
+use plan_expr::{AExpr, ExprIR};
 use plan_meaning::all_scalar;
 use plan_table::{Columns, Table};
 use std::alloc::{AllocError, Global};

@@ -4,9 +4,8 @@ use crate::{evaluate, fits};
 use plan_core::{
     Arena, DataType, FileScanOptions, Items, Node, PlSmallStr, ProjectionOptions, Schema, TryClone,
 };
-use plan_ir::{
-    AExpr, ExprIR, FileInfo, FileScan, IR, LiteralValue, Operator, OutputName, ScanSources,
-};
+use plan_expr::{AExpr, ExprIR, LiteralValue, Operator, OutputName};
+use plan_ir::{FileInfo, FileScan, IR, ScanSources};
 use plan_meaning::check_plan;
 use plan_table::{AnyValue, Column, Columns, SourceKey, Table, Tables};
 use std::alloc::{AllocError, Global};

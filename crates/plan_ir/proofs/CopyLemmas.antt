@@ -15,17 +15,19 @@ use Rattle.plan_tree.specs.Stands.{Shape, Trees, numbers, Stands, StandsOnce}
 use Rattle.plan_tree.specs.Walk.{nodes_of, steps_to}
 use Rattle.plan_ir.specs.declared.copy.Listed.{Listed}
 use Rattle.plan_ir.specs.declared.copy.PlanCopy.{PlanCopy}
-use Rattle.plan_ir.specs.declared.expr.AExpr.{AExpr}
-use Rattle.plan_ir.specs.declared.expr.AExpr.TheVariants.{Column, Literal, Alias, BinaryExpr}
-use Rattle.plan_ir.specs.declared.expr.ExprIR.{ExprIR}
+use Rattle.plan_expr.specs.declared.aexpr.AExpr.{AExpr}
+use Rattle.plan_expr.specs.declared.aexpr.AExpr.TheVariants.{Column, Literal, Alias, BinaryExpr}
+use Rattle.plan_expr.specs.declared.expr_ir.ExprIR.{ExprIR}
 use Rattle.plan_ir.specs.declared.ir.IR.{IR}
 use Rattle.plan_ir.specs.declared.ir.IR.TheVariants.{Slice, Filter, Scan, DataFrameScan, SimpleProjection, Select, HStack, Invalid}
 use Rattle.plan_ir.specs.Copies.{IsRenumbered, Lists}
 use Rattle.plan_ir.specs.Moved.{entries_at, moved_expr, moved_named, moved_node, new_number}
-use Rattle.plan_ir.specs.Parts.{expr_shape, plan_shape, operands_of, inputs_of, is_invalid, roots_of, roots_in, StandsPlan, IsPlan}
-use Rattle.plan_ir.specs.Plans.{Expr, Named, Op, filter, scan, select, hstack, all_named_at, expr_op, expr_at, exprs_at, named_at, op_at, plans_of, bare}
+use Rattle.plan_expr.specs.Operands.{expr_shape, operands_of}
+use Rattle.plan_ir.specs.Parts.{plan_shape, inputs_of, is_invalid, roots_of, roots_in, StandsPlan, IsPlan}
+use Rattle.plan_expr.specs.Exprs.{Expr, Named, all_named_at, expr_op, expr_at, exprs_at, named_at}
+use Rattle.plan_ir.specs.Plans.{Op, filter, scan, select, hstack, op_at, plans_of, bare}
 use Rattle.plan_ir.proofs.EntryLemmas.{entries_at-labels}
-use Rattle.plan_ir.proofs.ExprLemmas.{exprs_at-is}
+use Rattle.plan_expr.proofs.ExprLemmas.{exprs_at-is}
 use Rattle.plan_ir.proofs.MovedLemmas.{labels-map_roses, map_twice, StandsOnce-moved}
 
 all_append : {A : Type 0} (P : A → Type 0) (xs ys : List A) → AllByRecursion P xs → AllByRecursion P ys → AllByRecursion P (xs ++ ys)

@@ -1,5 +1,4 @@
 -- The lemmas of this crate.
-pub mod ExprLemmas
 pub mod PlanLemmas
 pub mod NumberingLemmas
 pub mod EntryLemmas

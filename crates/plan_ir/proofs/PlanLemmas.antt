@@ -8,9 +8,10 @@ use Rattle.plan_tree.specs.Read.{trees_at}
 use Rattle.plan_tree.proofs.ReadLemmas.{trees_at-is}
 use Rattle.plan_tree.proofs.SplitLemmas.{StandsOnce-split}
 use Rattle.plan_tree.proofs.TreeLemmas.{height_at, height-falls, StandsOnce-nth, opened, nth}
-use Rattle.plan_ir.specs.declared.expr.AExpr.{AExpr}
+use Rattle.plan_expr.specs.declared.aexpr.AExpr.{AExpr}
 use Rattle.plan_ir.specs.declared.ir.IR.{IR}
-use Rattle.plan_ir.specs.Parts.{expr_shape, plan_shape, inputs_of, roots_of, roots_in, IsExpr, IsPlan}
+use Rattle.plan_expr.specs.Operands.{expr_shape, IsExpr}
+use Rattle.plan_ir.specs.Parts.{plan_shape, inputs_of, roots_of, roots_in, IsPlan}
 use Rattle.plan_ir.specs.Plans.{op_at, plans_of, plans_at}
 
 -- the expression numbers of one of some trees, among those of all

@@ -5,11 +5,12 @@ use Rattle.plan_core.specs.declared.arena.Node.{Node}
 use Rattle.plan_tree.specs.Rose.{labels, items}
 use Rattle.plan_tree.specs.Stands.{Shape, Trees, numbers, Stands}
 use Rattle.plan_ir.specs.declared.copy.PlanCopy.{PlanCopy}
-use Rattle.plan_ir.specs.declared.expr.AExpr.{AExpr}
+use Rattle.plan_expr.specs.declared.aexpr.AExpr.{AExpr}
 use Rattle.plan_ir.specs.declared.ir.IR.{IR}
 use Rattle.plan_ir.specs.Copies.{IsRenumbered}
 use Rattle.plan_ir.specs.Moved.{entries_at}
-use Rattle.plan_ir.specs.Parts.{expr_shape, plan_shape, roots_in, IsPlan}
+use Rattle.plan_expr.specs.Operands.{expr_shape}
+use Rattle.plan_ir.specs.Parts.{plan_shape, roots_in, IsPlan}
 use Rattle.plan_ir.proofs.EntryLemmas.{entries_at-labels}
 
 module _ {P : Type 0} where

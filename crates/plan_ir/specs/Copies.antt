@@ -6,7 +6,7 @@ use Rattle.plan_tree.specs.Rose.{labels}
 use Rattle.plan_tree.specs.Stands.{Trees, numbers}
 use Rattle.plan_ir.specs.declared.copy.Listed.{Listed}
 use Rattle.plan_ir.specs.declared.copy.PlanCopy.{PlanCopy}
-use Rattle.plan_ir.specs.declared.expr.AExpr.{AExpr}
+use Rattle.plan_expr.specs.declared.aexpr.AExpr.{AExpr}
 use Rattle.plan_ir.specs.declared.ir.IR.{IR}
 use Rattle.plan_ir.specs.Parts.{StandsPlan}
 use Rattle.plan_ir.specs.Plans.{plans_at, bare}

@@ -2,10 +2,11 @@
 use Rattle.std.specs.Prelude.{List, map, get_or, slice_get}
 use Rattle.std.specs.List.{filter_map}
 use Rattle.plan_core.specs.declared.arena.Node.{Node}
-use Rattle.plan_ir.specs.declared.expr.AExpr.{AExpr}
-use Rattle.plan_ir.specs.declared.expr.ExprIR.{ExprIR}
+use Rattle.plan_expr.specs.declared.aexpr.AExpr.{AExpr}
+use Rattle.plan_expr.specs.declared.expr_ir.ExprIR.{ExprIR}
 use Rattle.plan_ir.specs.declared.ir.IR.{IR}
-use Rattle.plan_ir.specs.Parts.{operands_of, over_operands, inputs_of, exprs_of, over_parts}
+use Rattle.plan_expr.specs.Operands.{operands_of, over_operands}
+use Rattle.plan_ir.specs.Parts.{inputs_of, exprs_of, over_parts}
 
 -- the entries at numbers, in their order
 abbrev pub entries_at : {P : Type 0} → List P → List Node → List P

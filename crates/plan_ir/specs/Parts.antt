@@ -1,28 +1,13 @@
--- The parts of a node and of an expression: inputs, expressions, operands.
+-- The parts of a node: inputs and expressions.
 use Rattle.std.specs.Prelude.{Bool, true, false, List, [], ◌∷◌, ◌++◌, map, get_or, slice_get, Option, Some, None}
 use Rattle.plan_core.specs.declared.arena.Node.{Node}
 use Rattle.plan_tree.specs.Stands.{Shape, Trees, StandsOnce}
 use Rattle.plan_tree.specs.Rose.{rose, no_roses, more}
-use Rattle.plan_ir.specs.declared.expr.AExpr.{AExpr}
-use Rattle.plan_ir.specs.declared.expr.AExpr.TheVariants.{Column, Literal, Alias, BinaryExpr}
-use Rattle.plan_ir.specs.declared.expr.ExprIR.{ExprIR}
+use Rattle.plan_expr.specs.declared.aexpr.AExpr.{AExpr}
+use Rattle.plan_expr.specs.declared.expr_ir.ExprIR.{ExprIR}
+use Rattle.plan_expr.specs.Operands.{expr_shape}
 use Rattle.plan_ir.specs.declared.ir.IR.{IR}
 use Rattle.plan_ir.specs.declared.ir.IR.TheVariants.{Slice, Filter, Scan, DataFrameScan, SimpleProjection, Select, HStack, Invalid}
-
--- the operands of an expression, in walk order
-abbrev pub operands_of : AExpr → List Node
-operands_of (Column name) = []
-operands_of (Literal value) = []
-operands_of (Alias input name) = input ∷ []
-operands_of (BinaryExpr left op right) = left ∷ right ∷ []
-
--- any expression can stand in a tree
-abbrev pub is_bad_expr : AExpr → Bool
-is_bad_expr e = false
-
--- how expressions make trees: their operands in order, and none is bad
-abbrev pub expr_shape : Shape AExpr
-expr_shape = record { inputs = operands_of; bad = is_bad_expr }
 
 -- a value that may be there, as a list
 abbrev pub list_of : {A : Type 0} → Option A → List A
@@ -95,10 +80,6 @@ abbrev pub roots_in : Trees IR → List Node
 roots_in no_roses = []
 roots_in (more (rose n p kids) rest) = roots_of p ++ (roots_in kids ++ roots_in rest)
 
--- a tree of expressions stands at a number
-abbrev pub IsExpr : List AExpr → Node → Type 0
-IsExpr ex n = (t : Trees AExpr) × StandsOnce expr_shape ex (n ∷ []) t
-
 -- a tree of nodes stands at a number, and trees of expressions over the expressions of its nodes; no number stands twice
 pub record StandsPlan (lp : List IR) (ex : List AExpr) (n : Node) (t : Trees IR) (e : Trees AExpr) : Type 0 where
   pub nodes : StandsOnce plan_shape lp (n ∷ []) t
@@ -109,13 +90,6 @@ pub record IsPlan (lp : List IR) (ex : List AExpr) (n : Node) : Type 0 where
   pub nodes : Trees IR
   pub exprs : Trees AExpr
   pub stands : StandsPlan lp ex n nodes exprs
-
--- the expression over other operands
-abbrev pub over_operands : AExpr → List Node → AExpr
-over_operands (Column name) operands = Column name
-over_operands (Literal value) operands = Literal value
-over_operands (Alias input name) operands = Alias (get_or operands 0 input) name
-over_operands (BinaryExpr left op right) operands = BinaryExpr (get_or operands 0 left) op (get_or operands 1 right)
 
 -- the node with other expressions, over other inputs
 abbrev pub over_parts : IR → List ExprIR → List Node → IR

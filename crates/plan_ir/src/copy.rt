@@ -6,10 +6,10 @@ ghost use Rattle.plan_ir.specs.Copies.{IsRenumbered, Lists};
 ghost use Rattle.plan_ir.specs.Moved.{entries_at, moved_expr, moved_named, moved_node, new_number};
 ghost use Rattle.plan_ir.specs.Parts.{exprs_of, roots_of, IsPlan};
 
-use crate::expr::{AExpr, ExprIR};
 use crate::ir::IR;
 use crate::numbering::Numbering;
 use plan_core::{Arena, Items, Node, TryClone};
+use plan_expr::{AExpr, ExprIR};
 use plan_tree::{Entry, Step, walk};
 use std::alloc::{AllocError, Global};
 
@@ -143,7 +143,7 @@ pub(crate) fn moved_exprs(
     requires { All (λ n. n.0 < length ex.now) listed.now }
     ensures { IfOk result (λ copies. copies ≡ map (moved_expr exprs.now) (entries_at ex.now listed.now)) }
 {
-    let mut copies = Arena::new(alloc);
+    let mut copies = Arena::with_capacity(alloc, listed.len())?;
     for node in listed {
         copies.add(move_expr(alloc, ex.get(*node), exprs)?)?;
     }
@@ -161,7 +161,7 @@ fn moved_nodes(
     requires { All (λ n. n.0 < length lp.now) listed.now }
     ensures { IfOk result (λ copies. copies ≡ map (moved_node nodes.now exprs.now) (entries_at lp.now listed.now)) }
 {
-    let mut copies = Arena::new(alloc);
+    let mut copies = Arena::with_capacity(alloc, listed.len())?;
     for node in listed {
         copies.add(move_node(alloc, lp.get(*node), nodes, exprs)?)?;
     }

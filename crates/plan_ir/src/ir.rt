@@ -1,9 +1,9 @@
 //! The nodes of a plan.
 ghost use Rattle.std.specs.Prelude.{◌≡◌, IfOk};
 
-use crate::expr::ExprIR;
 use crate::scan::{FileInfo, FileScan, ScanSources};
 use plan_core::{FileScanOptions, Items, Node, ProjectionOptions, Schema, TryClone};
+use plan_expr::ExprIR;
 use plan_tree::Entry;
 use std::alloc::{AllocError, Global};
 

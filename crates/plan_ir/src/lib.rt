@@ -1,8 +1,8 @@
-//! The nodes and expressions of plans.
+//! The nodes of plans.
 #![tactic(auto)]
 
 mod copy;
-mod expr;
+mod depth;
 mod ir;
 mod moving;
 mod numbering;
@@ -11,7 +11,7 @@ mod reading;
 mod scan;
 
 pub use copy::{PlanCopy, renumbered};
-pub use expr::{AExpr, ExprIR, LiteralValue, Operator, OutputName};
+pub use depth::{expr_depth, expr_roots, plan_depth};
 pub use ir::IR;
 pub use moving::into_renumbered;
 pub use reading::{reads, scan_reads};

@@ -7,10 +7,10 @@ ghost use Rattle.plan_ir.specs.Moved.{entries_at, moved_named, moved_node};
 ghost use Rattle.plan_ir.specs.Parts.{list_of, IsPlan};
 
 use crate::copy::{PlanCopy, list_plan, move_node, moved_exprs};
-use crate::expr::{AExpr, ExprIR};
 use crate::ir::IR;
 use crate::numbering::Numbering;
 use plan_core::{Arena, Node};
+use plan_expr::{AExpr, ExprIR};
 use std::alloc::{AllocError, Global};
 
 /// An expression that a node may have, under its new number.
@@ -72,7 +72,7 @@ fn taken_nodes(
     ensures { IfOk result (λ taken. taken ≡ map (moved_node nodes.now exprs.now) (entries_at lp listed.now)) }
 {
     let mut left = lp;
-    let mut taken = Arena::new(alloc);
+    let mut taken = Arena::with_capacity(alloc, listed.len())?;
     for node in listed {
         let moved = take_node(alloc, left.take(*node), nodes, exprs)?;
         taken.add(moved)?;

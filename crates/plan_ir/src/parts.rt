@@ -1,41 +1,13 @@
-//! The parts of nodes and expressions: inputs, operands, and the expressions of a node.
+//! The parts of nodes: inputs and expressions.
 ghost use Rattle.std.specs.Prelude.{◌≡◌, ◌≤◌, ◌++◌, ◌∷◌, [], length, map, IfOk, IsTrue, OnOk};
-ghost use Rattle.plan_ir.specs.Parts.{exprs_of, inputs_of, list_of, operands_of, over_operands, over_parts};
+ghost use Rattle.plan_ir.specs.Parts.{exprs_of, inputs_of, list_of, over_parts};
 ghost use Rattle.plan_ir.specs.Parts.{is_file_scan, is_frame_scan, is_hstack, is_select};
 
-use crate::expr::{AExpr, ExprIR};
 use crate::ir::IR;
 use plan_core::{Items, Node, TryClone};
+use plan_expr::ExprIR;
 use plan_tree::Entry;
 use std::alloc::{AllocError, Global};
-
-impl Entry for AExpr {
-    ghost use Rattle.plan_ir.specs.Parts.{is_bad_expr, operands_of};
-
-    ghost inputs = { operands_of };
-
-    ghost bad = { is_bad_expr };
-
-    fn is_bad(&self) -> bool {
-        false
-    }
-
-    fn copy_inputs(&self, out: &mut Items<Node>) -> Result<(), AllocError> {
-        match self {
-            AExpr::Column(_) => Ok(()),
-            AExpr::Literal(_) => Ok(()),
-            AExpr::Alias(input, _) => {
-                out.push(*input)?;
-                Ok(())
-            }
-            AExpr::BinaryExpr { left, right, .. } => {
-                out.push(*left)?;
-                out.push(*right)?;
-                Ok(())
-            }
-        }
-    }
-}
 
 impl Entry for IR {
     ghost use Rattle.plan_ir.specs.Parts.{inputs_of, is_invalid};
@@ -225,26 +197,6 @@ impl IR {
                 options: *options,
             }),
             _ => unreachable!(),
-        }
-    }
-}
-
-impl AExpr {
-    /// A copy over other operands, as many as the expression has. Refuses for want of memory alone.
-    pub fn with_operands(&self, alloc: Global, operands: &[Node]) -> Result<AExpr, AllocError>
-        requires { length operands.now ≡ length (operands_of self.now) }
-        ensures operands { IfOk result (λ expr. operands_of expr ≡ operands.now) }
-        ensures expr { IfOk result (λ expr. expr ≡ over_operands self.now operands.now) }
-    {
-        match self {
-            AExpr::Column(name) => Ok(AExpr::Column(name.try_clone(alloc)?)),
-            AExpr::Literal(value) => Ok(AExpr::Literal(value.try_clone(alloc)?)),
-            AExpr::Alias(_, name) => Ok(AExpr::Alias(operands[0], name.try_clone(alloc)?)),
-            AExpr::BinaryExpr { op, .. } => Ok(AExpr::BinaryExpr {
-                left: operands[0],
-                op: *op,
-                right: operands[1],
-            }),
         }
     }
 }

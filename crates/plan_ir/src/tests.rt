@@ -1,13 +1,12 @@
 //! Parts, copies and reads of a small plan: a projection to a over a filter b > 1 over a scan of a, b and c.
 ghost use Rattle.std.specs.Prelude.{◌≡◌, length, IfOk};
-ghost use Rattle.plan_ir.specs.Parts.{inputs_of, operands_of};
+ghost use Rattle.plan_expr.specs.Operands.{operands_of};
+ghost use Rattle.plan_ir.specs.Parts.{inputs_of};
 
 use crate::copy::expr_steps;
-use crate::{
-    AExpr, ExprIR, FileInfo, FileScan, IR, LiteralValue, Operator, OutputName, PlanCopy,
-    ScanSources, reads, renumbered, scan_reads,
-};
+use crate::{FileInfo, FileScan, IR, PlanCopy, ScanSources, reads, renumbered, scan_reads};
 use plan_core::{Arena, DataType, FileScanOptions, Items, Node, PlSmallStr, Schema, TryClone};
+use plan_expr::{AExpr, ExprIR, LiteralValue, Operator, OutputName};
 use plan_tree::{Step, walk};
 use std::alloc::{AllocError, Global};
 use std::test::Fail;

@@ -9,7 +9,7 @@ use Rattle.plan_core.specs.declared.options.FileScanOptions.{FileScanOptions}
 use Rattle.plan_core.specs.Columns.{Columns, type_of, same_columns}
 use Rattle.plan_core.specs.Names.{has}
 use Rattle.plan_ir.specs.declared.scan.FileInfo.{FileInfo}
-use Rattle.plan_ir.specs.Plans.{Named}
+use Rattle.plan_expr.specs.Exprs.{Named}
 use Rattle.plan_core.specs.declared.data_type.DataType.{DataType}
 use Rattle.plan_meaning.specs.Exprs.{Name, leaves, all_known, expr_type, naming, may_be_named}
 use Rattle.plan_meaning.specs.Typing.{Check, each, each_new, names_or, columns_or, file_columns, put_out_checks, scan_name_checks, is_built_scan, scan_column_checks, scan_checks, frame_checks, is_known, is_column, is_empty, number_checks, made_schema, leaf_checks, type_checks, once_checks, stored_checks, naming_checks, made_checks, out_names, AllHold}

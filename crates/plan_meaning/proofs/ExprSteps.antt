@@ -4,13 +4,13 @@ use Rattle.std.specs.List.{slice_get}
 use Rattle.plan_core.specs.declared.arena.Node.{Node}
 use Rattle.plan_core.specs.Columns.{Columns, type_of}
 use Rattle.plan_core.specs.declared.data_type.DataType.{DataType}
-use Rattle.plan_ir.specs.declared.expr.AExpr.{AExpr}
-use Rattle.plan_ir.specs.declared.expr.AExpr.TheVariants.{Column, Literal, Alias, BinaryExpr}
-use Rattle.plan_ir.specs.declared.expr.LiteralValue.{LiteralValue}
-use Rattle.plan_ir.specs.declared.expr.Operator.{Operator}
-use Rattle.plan_ir.specs.Parts.{IsExpr}
-use Rattle.plan_ir.specs.Plans.{Expr, expr_at}
-use Rattle.plan_ir.proofs.ExprLemmas.{expr_open}
+use Rattle.plan_expr.specs.declared.aexpr.AExpr.{AExpr}
+use Rattle.plan_expr.specs.declared.aexpr.AExpr.TheVariants.{Column, Literal, Alias, BinaryExpr}
+use Rattle.plan_expr.specs.declared.literal.LiteralValue.{LiteralValue}
+use Rattle.plan_expr.specs.declared.operator.Operator.{Operator}
+use Rattle.plan_expr.specs.Operands.{IsExpr}
+use Rattle.plan_expr.specs.Exprs.{Expr, expr_at}
+use Rattle.plan_expr.proofs.ExprLemmas.{expr_open}
 use Rattle.plan_meaning.specs.Exprs.{Name, leaves, all_known, expr_type, literal_type, operator_type, by_column, by_literal, by_alias, unnamed, naming, or_naming}
 
 and_true : (b : Bool) → (b && true) ≡ b

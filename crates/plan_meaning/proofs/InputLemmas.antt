@@ -9,7 +9,7 @@ use Rattle.plan_tree.specs.Rose.{Roses, rose, no_roses, more, join}
 use Rattle.plan_tree.specs.Stands.{Trees}
 use Rattle.plan_tree.specs.Read.{tree_at}
 use Rattle.plan_tree.proofs.SplitLemmas.{gather-append}
-use Rattle.plan_ir.specs.declared.expr.AExpr.{AExpr}
+use Rattle.plan_expr.specs.declared.aexpr.AExpr.{AExpr}
 use Rattle.plan_ir.specs.declared.ir.IR.{IR}
 use Rattle.plan_ir.specs.Parts.{plan_shape}
 use Rattle.plan_ir.specs.Plans.{Op, op_at, plans_of, plans_at}

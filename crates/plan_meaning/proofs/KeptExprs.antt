@@ -6,7 +6,7 @@ use Rattle.std.proofs.lemmas.Bool.{both_ways, and_parts, and_from, or_parts, not
 use Rattle.plan_core.specs.Columns.{Columns, type_of}
 use Rattle.plan_core.specs.Names.{has, AreDistinct}
 use Rattle.plan_core.proofs.ColumnLemmas.{flip_false}
-use Rattle.plan_ir.specs.Plans.{Named}
+use Rattle.plan_expr.specs.Exprs.{Named}
 use Rattle.plan_meaning.specs.Exprs.{Name, name_of, leaves, all_known, is_scalar}
 use Rattle.plan_meaning.specs.Typing.{AllHold, each_new, out_names}
 use Rattle.plan_meaning.specs.Steps.{all_scalar}

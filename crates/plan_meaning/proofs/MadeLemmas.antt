@@ -7,14 +7,15 @@ use Rattle.std.proofs.lemmas.List.{length-map}
 use Rattle.plan_core.specs.Columns.{Columns, with_type}
 use Rattle.plan_core.specs.declared.data_type.DataType.TheVariants.{Int64}
 use Rattle.plan_core.specs.declared.error.PolarsError.TheVariants.{SchemaFieldNotFound, SchemaMismatch}
-use Rattle.plan_ir.specs.declared.expr.AExpr.{AExpr}
-use Rattle.plan_ir.specs.declared.expr.ExprIR.{ExprIR}
-use Rattle.plan_ir.specs.declared.expr.OutputName.TheVariants.{None}
+use Rattle.plan_expr.specs.declared.aexpr.AExpr.{AExpr}
+use Rattle.plan_expr.specs.declared.expr_ir.ExprIR.{ExprIR}
+use Rattle.plan_expr.specs.declared.expr_ir.OutputName.TheVariants.{None}
 use Rattle.plan_ir.specs.declared.ir.IR.{IR}
 use Rattle.plan_core.specs.declared.arena.Node.{Node}
-use Rattle.plan_ir.specs.Parts.{exprs_of, IsExpr, IsPlan}
+use Rattle.plan_expr.specs.Operands.{IsExpr}
+use Rattle.plan_ir.specs.Parts.{exprs_of, IsPlan}
 use Rattle.plan_ir.proofs.PlanLemmas.{plan_expr}
-use Rattle.plan_ir.specs.Plans.{Named, named_at, all_named_at, expr_at}
+use Rattle.plan_expr.specs.Exprs.{Named, named_at, all_named_at, expr_at}
 use Rattle.plan_ir.proofs.MovedLemmas.{map_twice}
 use Rattle.plan_meaning.specs.Exprs.{leaves, all_known, expr_type, naming, may_be_named, name_of}
 use Rattle.plan_meaning.specs.Typing.{each, each_new, leaf_checks, type_checks, once_checks, naming_checks, made_schema}

@@ -4,14 +4,14 @@ use Rattle.std.specs.List.{slice_get}
 use Rattle.std.proofs.lemmas.List.Elements.{All-get_or}
 use Rattle.std.proofs.lemmas.Option.{slice_get-get_or}
 use Rattle.plan_core.specs.declared.arena.Node.{Node}
-use Rattle.plan_ir.specs.declared.expr.AExpr.{AExpr}
-use Rattle.plan_ir.specs.declared.expr.AExpr.TheVariants as exprs
-use Rattle.plan_ir.specs.declared.expr.ExprIR.{ExprIR}
-use Rattle.plan_ir.specs.declared.expr.LiteralValue.{LiteralValue}
-use Rattle.plan_ir.specs.declared.expr.Operator.{Operator}
-use Rattle.plan_ir.specs.Parts.{IsExpr}
-use Rattle.plan_ir.specs.Plans.{expr_at, all_named_at}
-use Rattle.plan_ir.proofs.ExprLemmas.{expr_open}
+use Rattle.plan_expr.specs.declared.aexpr.AExpr.{AExpr}
+use Rattle.plan_expr.specs.declared.aexpr.AExpr.TheVariants as exprs
+use Rattle.plan_expr.specs.declared.expr_ir.ExprIR.{ExprIR}
+use Rattle.plan_expr.specs.declared.literal.LiteralValue.{LiteralValue}
+use Rattle.plan_expr.specs.declared.operator.Operator.{Operator}
+use Rattle.plan_expr.specs.Operands.{IsExpr}
+use Rattle.plan_expr.specs.Exprs.{expr_at, all_named_at}
+use Rattle.plan_expr.proofs.ExprLemmas.{expr_open}
 use Rattle.plan_meaning.specs.Exprs.{Name, is_scalar}
 use Rattle.plan_meaning.specs.Steps.{all_scalar}
 

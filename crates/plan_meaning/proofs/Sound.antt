@@ -7,11 +7,11 @@ use Rattle.plan_core.specs.declared.data_type.DataType.{DataType}
 use Rattle.plan_core.specs.declared.data_type.DataType.TheVariants as types
 use Rattle.std.specs.declared.cmp.Ordering.{Ordering}
 use Rattle.plan_tree.specs.Rose.{Roses, rose, no_roses, more}
-use Rattle.plan_ir.specs.Plans.{ExprOp, column as column_of, literal, alias, binary, Expr}
-use Rattle.plan_ir.specs.declared.expr.Operator.{Operator}
-use Rattle.plan_ir.specs.declared.expr.Operator.TheVariants.{Eq, NotEq, Lt, LtEq, Gt, GtEq, EqValidity, NotEqValidity, And, Or, Xor, Plus, Minus, Multiply}
-use Rattle.plan_ir.specs.declared.expr.LiteralValue.{LiteralValue}
-use Rattle.plan_ir.specs.declared.expr.LiteralValue.TheVariants.{Null, Int64, String, Boolean}
+use Rattle.plan_expr.specs.Exprs.{ExprOp, column as column_of, literal, alias, binary, Expr}
+use Rattle.plan_expr.specs.declared.operator.Operator.{Operator}
+use Rattle.plan_expr.specs.declared.operator.Operator.TheVariants.{Eq, NotEq, Lt, LtEq, Gt, GtEq, EqValidity, NotEqValidity, And, Or, Xor, Plus, Minus, Multiply}
+use Rattle.plan_expr.specs.declared.literal.LiteralValue.{LiteralValue}
+use Rattle.plan_expr.specs.declared.literal.LiteralValue.TheVariants.{Null, Int64, String, Boolean}
 use Rattle.plan_meaning.specs.Exprs.{takes, gives, literal_type, operator_type, type_by, expr_type, expr_types, own_scalar, is_scalar, are_scalar}
 use Rattle.plan_meaning.specs.Values.{Value, null, whole, text, truth, IsOf, AllOf}
 use Rattle.plan_meaning.specs.Frames.{Frame, HasSchema}

@@ -10,10 +10,11 @@ use Rattle.plan_tree.specs.declared.walking.Step.{Step}
 use Rattle.plan_tree.specs.Rose.{rose, no_roses, more, labels}
 use Rattle.plan_tree.specs.Stands.{Trees, Stands, StandsOnce}
 use Rattle.plan_tree.specs.Walk.{nodes_of}
-use Rattle.plan_ir.specs.declared.expr.AExpr.{AExpr}
-use Rattle.plan_ir.specs.declared.expr.ExprIR.{ExprIR}
+use Rattle.plan_expr.specs.declared.aexpr.AExpr.{AExpr}
+use Rattle.plan_expr.specs.declared.expr_ir.ExprIR.{ExprIR}
 use Rattle.plan_ir.specs.declared.ir.IR.{IR}
-use Rattle.plan_ir.specs.Parts.{plan_shape, expr_shape, inputs_of, exprs_of, roots_in, IsPlan}
+use Rattle.plan_expr.specs.Operands.{expr_shape}
+use Rattle.plan_ir.specs.Parts.{plan_shape, inputs_of, exprs_of, roots_in, IsPlan}
 use Rattle.plan_meaning.specs.Typing.{at}
 use Rattle.plan_meaning.specs.TreeFaults.{marked, marked_at, marked_exprs}
 
@@ -84,7 +85,3 @@ pub read-any : {A : Type 0} (xs : List A) (i : ℕ) (d e : A) → i < length xs 
 read-any [] i d e lt = absurd (omega arith)
 read-any (x ∷ xs) zero d e lt = refl
 read-any (x ∷ xs) (suc i) d e lt = read-any xs i d e (omega arith)
-
--- the numbers of the expressions that a walk over a plan finds are those of the plan
-pub roots_found : (lp : List IR) (root : Node) (listed : List Node) (steps : List (Step At)) → steps ≡ marked_exprs lp listed → ((t : Trees IR) → StandsOnce plan_shape lp (root ∷ []) t → listed ≡ labels t) → (numbers : List Node) → numbers ≡ nodes_of steps → (t : Trees IR) → StandsOnce plan_shape lp (root ∷ []) t → numbers ≡ roots_in t
-roots_found lp root listed steps is order numbers found t h = found ∙ ap nodes_of (is ∙ ap (marked_exprs lp) (order t h)) ∙ roots-are lp (root ∷ []) t h.stands

@@ -5,7 +5,8 @@ use Rattle.plan_core.specs.declared.data_type.DataType.{DataType}
 use Rattle.plan_core.specs.Columns.{Columns, names_of, type_of}
 use Rattle.plan_core.specs.Names.{has, with_names, AreDistinct}
 use Rattle.plan_tree.specs.Rose.{Roses, rose, no_roses, more}
-use Rattle.plan_ir.specs.Plans.{Op, slice, filter, scan, frame_scan, simple_projection, select, hstack, invalid, Named, Plan}
+use Rattle.plan_expr.specs.Exprs.{Named}
+use Rattle.plan_ir.specs.Plans.{Op, slice, filter, scan, frame_scan, simple_projection, select, hstack, invalid, Plan}
 use Rattle.plan_meaning.specs.Exprs.{Name, leaves, name_of, is_scalar}
 use Rattle.plan_meaning.specs.Typing.{is_empty, names_or, columns_or, file_columns, first_schema, schema_by, schemas}
 use Rattle.plan_meaning.specs.Steps.{all_scalar}

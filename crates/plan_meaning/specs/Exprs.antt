@@ -4,13 +4,13 @@ use Rattle.plan_core.specs.Columns.{Columns, type_of, plain}
 use Rattle.plan_core.specs.declared.data_type.DataType.{DataType}
 use Rattle.plan_core.specs.declared.data_type.DataType.TheVariants as types
 use Rattle.plan_tree.specs.Rose.{Roses, rose, no_roses, more}
-use Rattle.plan_ir.specs.Plans.{ExprOp, column, literal, alias, binary, Expr}
-use Rattle.plan_ir.specs.declared.expr.LiteralValue.{LiteralValue}
-use Rattle.plan_ir.specs.declared.expr.LiteralValue.TheVariants.{Null, Int64, String, Boolean}
-use Rattle.plan_ir.specs.declared.expr.Operator.{Operator}
-use Rattle.plan_ir.specs.declared.expr.Operator.TheVariants.{Eq, NotEq, Lt, LtEq, Gt, GtEq, EqValidity, NotEqValidity, And, Or, Xor, Plus, Minus, Multiply}
-use Rattle.plan_ir.specs.declared.expr.OutputName.{OutputName}
-use Rattle.plan_ir.specs.declared.expr.OutputName.TheVariants as names
+use Rattle.plan_expr.specs.Exprs.{ExprOp, column, literal, alias, binary, Expr}
+use Rattle.plan_expr.specs.declared.literal.LiteralValue.{LiteralValue}
+use Rattle.plan_expr.specs.declared.literal.LiteralValue.TheVariants.{Null, Int64, String, Boolean}
+use Rattle.plan_expr.specs.declared.operator.Operator.{Operator}
+use Rattle.plan_expr.specs.declared.operator.Operator.TheVariants.{Eq, NotEq, Lt, LtEq, Gt, GtEq, EqValidity, NotEqValidity, And, Or, Xor, Plus, Minus, Multiply}
+use Rattle.plan_expr.specs.declared.expr_ir.OutputName.{OutputName}
+use Rattle.plan_expr.specs.declared.expr_ir.OutputName.TheVariants as names
 
 -- the bytes of a name
 abbrev pub Name : Type 0

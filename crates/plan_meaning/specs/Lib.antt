@@ -4,7 +4,6 @@ pub mod Typing
 pub mod Seen
 pub mod TreeFaults
 pub mod Typed
-pub mod Depths
 pub mod Values
 pub mod Frames
 pub mod Meaning

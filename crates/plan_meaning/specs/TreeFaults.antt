@@ -8,10 +8,11 @@ use Rattle.plan_core.specs.declared.error.PolarsError.TheVariants.{ComputeError}
 use Rattle.plan_tree.specs.declared.walking.Step.{Step}
 use Rattle.plan_tree.specs.declared.walking.Walked.{Walked}
 use Rattle.plan_tree.specs.Walk.{walk_from}
-use Rattle.plan_ir.specs.declared.expr.AExpr.{AExpr}
-use Rattle.plan_ir.specs.declared.expr.ExprIR.{ExprIR}
+use Rattle.plan_expr.specs.declared.aexpr.AExpr.{AExpr}
+use Rattle.plan_expr.specs.declared.expr_ir.ExprIR.{ExprIR}
 use Rattle.plan_ir.specs.declared.ir.IR.{IR}
-use Rattle.plan_ir.specs.Parts.{plan_shape, expr_shape, exprs_of}
+use Rattle.plan_expr.specs.Operands.{expr_shape}
+use Rattle.plan_ir.specs.Parts.{plan_shape, exprs_of}
 use Rattle.plan_meaning.specs.Typing.{at, or_fault}
 
 -- the numbers of expressions, each with the place of its node where it stands; the first stands at a place

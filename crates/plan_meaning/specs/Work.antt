@@ -2,7 +2,8 @@
 use Rattle.std.specs.Prelude.{ℕ, ◌+◌, Bool, true, false, not, List, [], ◌∷◌, length}
 use Rattle.std.specs.List.{filter as only_where}
 use Rattle.plan_tree.specs.Rose.{Roses, rose, no_roses, more}
-use Rattle.plan_ir.specs.Plans.{ExprOp, column, literal, alias, binary, Expr, Op, slice, filter, scan, frame_scan, simple_projection, select, hstack, invalid, Named, Plan}
+use Rattle.plan_expr.specs.Exprs.{ExprOp, column, literal, alias, binary, Expr, Named}
+use Rattle.plan_ir.specs.Plans.{Op, slice, filter, scan, frame_scan, simple_projection, select, hstack, invalid, Plan}
 use Rattle.plan_meaning.specs.Typing.{schemas}
 use Rattle.plan_meaning.specs.Relating.{Asked, all}
 use Rattle.plan_meaning.specs.Asked.{kept_exprs, selected_exprs, asks, first_asked, rest_asked}

@@ -1,13 +1,13 @@
 //! Expressions over some columns: whether they are found, the type, and the output name.
 ghost use Rattle.std.specs.Prelude.{◌≡◌, All};
-ghost use Rattle.plan_ir.specs.Parts.{IsExpr};
-ghost use Rattle.plan_ir.specs.Plans.{all_named_at, expr_at};
+ghost use Rattle.plan_expr.specs.Operands.{IsExpr};
+ghost use Rattle.plan_expr.specs.Exprs.{all_named_at, expr_at};
 ghost use Rattle.plan_meaning.specs.Exprs.{all_known, leaves, expr_type as type_of_expr, literal_type as type_of_literal, takes as is_taken, gives as is_given, operator_type as type_of_operator, naming, may_be_named as may_be, name_of, is_scalar as scalar_expr};
 ghost use Rattle.plan_meaning.specs.Steps.{all_scalar as are_scalar};
 ghost use Rattle.plan_meaning.specs.Seen.{naming_seen};
 
 use plan_core::{Arena, DataType, Node, Schema};
-use plan_ir::{AExpr, ExprIR, LiteralValue, Operator, OutputName};
+use plan_expr::{AExpr, ExprIR, LiteralValue, Operator, OutputName};
 
 /// Whether each column of the expression is one of the schema's.
 pub fn reads_only(node: Node, ex: &Arena<AExpr>, schema: &Schema) -> bool

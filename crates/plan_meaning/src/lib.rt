@@ -2,7 +2,6 @@
 #![tactic(auto)]
 
 mod check;
-mod depth;
 mod exprs;
 pub mod laws;
 mod plan;
@@ -11,7 +10,6 @@ mod tests;
 mod tree;
 
 pub use check::{check_filter, check_frame_scan, check_made, check_projection, check_scan};
-pub use depth::{Depth, depth_of};
 pub use exprs::{
     Naming, all_scalar, decided_name, expr_type, is_scalar, may_be_named, output_name, reads_only,
 };

@@ -1,6 +1,7 @@
 //! The schema of a plan, or its first fault.
 ghost use Rattle.std.specs.Prelude.{◌≡◌, [], ◌∷◌, All, IfOk, None, length};
-ghost use Rattle.plan_ir.specs.Parts.{exprs_of, inputs_of, IsExpr, IsPlan};
+ghost use Rattle.plan_expr.specs.Operands.{IsExpr};
+ghost use Rattle.plan_ir.specs.Parts.{exprs_of, inputs_of, IsPlan};
 ghost use Rattle.plan_ir.specs.Plans.{op_at, plans_at};
 ghost use Rattle.plan_meaning.specs.PlanAt.{plan_at};
 ghost use Rattle.plan_meaning.specs.Steps.{IsValid};
@@ -13,7 +14,8 @@ use crate::check::{
 };
 use crate::tree::check_tree;
 use plan_core::{Arena, Items, Node, PolarsError, PolarsResult, Schema};
-use plan_ir::{AExpr, IR};
+use plan_expr::AExpr;
+use plan_ir::IR;
 use plan_tree::Entry;
 use std::alloc::Global;
 

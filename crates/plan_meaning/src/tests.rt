@@ -3,9 +3,8 @@ use super::*;
 use plan_core::{
     Arena, At, DataType, FileScanOptions, Items, Node, PlSmallStr, PolarsError, Schema, TryClone,
 };
-use plan_ir::{
-    AExpr, ExprIR, FileInfo, FileScan, IR, LiteralValue, Operator, OutputName, ScanSources,
-};
+use plan_expr::{AExpr, ExprIR, LiteralValue, Operator, OutputName};
+use plan_ir::{FileInfo, FileScan, IR, ScanSources, expr_depth, plan_depth};
 use std::alloc::{AllocError, Global};
 use std::test::Fail;
 
@@ -83,8 +82,8 @@ fn a_plan_has_a_schema_and_a_depth(rt: HostRuntime) -> Result<(), Fail> {
     let ex = exprs(alloc, 2)?;
     let schema = check_plan(alloc, Node(0), &lp, &ex)?;
     assert!(rt; schema == numbers(alloc, &["a"])?);
-    let depth = depth_of(alloc, Node(0), &lp, &ex)?;
-    assert_eq!(rt; depth, Depth { plan: 3, exprs: 2 });
+    assert_eq!(rt; plan_depth(alloc, Node(0), &lp)?, Some(3));
+    assert_eq!(rt; expr_depth(alloc, Node(0), &ex)?, Some(2));
     Ok(())
 }
 
@@ -103,6 +102,10 @@ fn a_bad_number_has_a_place(rt: HostRuntime) -> Result<(), Fail> {
         let ex = exprs(alloc, right)?;
         let answer = check_tree(alloc, Node(0), &lp, &ex).err();
         assert_eq!(rt; answer, fault, "of {input} and {right}");
+        let levels = plan_depth(alloc, Node(0), &lp)?;
+        assert_eq!(rt; levels.is_some(), input == 2, "of {input}");
+        let levels = expr_depth(alloc, Node(0), &ex)?;
+        assert_eq!(rt; levels.is_some(), right == 2, "of {right}");
     }
     Ok(())
 }

@@ -6,7 +6,8 @@ ghost use Rattle.plan_meaning.specs.TreeFaults.{marked, marked_at, marked_exprs 
 
 use crate::check::at;
 use plan_core::{Arena, At, Items, Node, PolarsError, PolarsResult};
-use plan_ir::{AExpr, ExprIR, IR};
+use plan_expr::{AExpr, ExprIR};
+use plan_ir::IR;
 use plan_tree::{Step, walk};
 use std::alloc::{AllocError, Global};
 
@@ -40,7 +41,7 @@ fn mark_node(
 }
 
 /// The numbers of the expressions of nodes, node by node, each with its place.
-pub fn marked_exprs(
+fn marked_exprs(
     alloc: Global,
     nodes: &[Node],
     lp: &Arena<IR>,

@@ -5,13 +5,14 @@ use Rattle.plan_core.specs.declared.data_type.DataType.TheVariants as types
 use Rattle.plan_core.specs.declared.options.FileScanOptions.{FileScanOptions}
 use Rattle.plan_core.specs.Columns.{Columns}
 use Rattle.plan_tree.specs.Rose.{rose, no_roses, more}
-use Rattle.plan_ir.specs.declared.expr.LiteralValue.TheVariants as literals
-use Rattle.plan_ir.specs.declared.expr.Operator.TheVariants.{Gt}
-use Rattle.plan_ir.specs.declared.expr.OutputName.TheVariants.{ColumnLhs}
+use Rattle.plan_expr.specs.declared.literal.LiteralValue.TheVariants as literals
+use Rattle.plan_expr.specs.declared.operator.Operator.TheVariants.{Gt}
+use Rattle.plan_expr.specs.declared.expr_ir.OutputName.TheVariants.{ColumnLhs}
 use Rattle.plan_ir.specs.declared.scan.FileInfo.{FileInfo}
 use Rattle.plan_ir.specs.declared.scan.FileScan.TheVariants.{Parquet}
 use Rattle.plan_ir.specs.declared.scan.ScanSources.TheVariants.{Paths}
-use Rattle.plan_ir.specs.Plans.{ExprOp, column, literal, binary, Expr, Op, filter, scan, simple_projection, Named, Plan}
+use Rattle.plan_expr.specs.Exprs.{ExprOp, column, literal, binary, Expr, Named}
+use Rattle.plan_ir.specs.Plans.{Op, filter, scan, simple_projection, Plan}
 use Rattle.plan_meaning.specs.Values.{Value, whole, text}
 use Rattle.plan_meaning.specs.Frames.{Frame, cut}
 use Rattle.plan_meaning.specs.Contents.{Contents, path, stack, frames_of}

@@ -5,9 +5,9 @@ use Rattle.std.proofs.lemmas.List.Elements.{filter-append}
 use Rattle.plan_core.specs.Columns.{Columns, type_of, with_type, with_types}
 use Rattle.plan_core.specs.Names.{AreDistinct, with_name, with_names}
 use Rattle.plan_core.specs.declared.data_type.DataType.{DataType}
-use Rattle.plan_ir.specs.declared.expr.AExpr.{AExpr}
-use Rattle.plan_ir.specs.declared.expr.ExprIR.{ExprIR}
-use Rattle.plan_ir.specs.Plans.{expr_at, all_named_at}
+use Rattle.plan_expr.specs.declared.aexpr.AExpr.{AExpr}
+use Rattle.plan_expr.specs.declared.expr_ir.ExprIR.{ExprIR}
+use Rattle.plan_expr.specs.Exprs.{expr_at, all_named_at}
 use Rattle.plan_meaning.specs.Exprs.{Name, leaves, name_of, is_scalar}
 use Rattle.plan_meaning.specs.Asked.{all_leaves}
 use Rattle.plan_prune.specs.Pruned.{typed_names}

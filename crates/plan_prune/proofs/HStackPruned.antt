@@ -7,12 +7,13 @@ use Rattle.plan_core.specs.Columns.{Columns}
 use Rattle.plan_core.specs.declared.arena.Node.{Node}
 use Rattle.plan_core.specs.declared.options.ProjectionOptions.{ProjectionOptions}
 use Rattle.plan_tree.specs.Stands.{Trees, StandsOnce}
-use Rattle.plan_ir.specs.declared.expr.AExpr.{AExpr}
-use Rattle.plan_ir.specs.declared.expr.ExprIR.{ExprIR}
+use Rattle.plan_expr.specs.declared.aexpr.AExpr.{AExpr}
+use Rattle.plan_expr.specs.declared.expr_ir.ExprIR.{ExprIR}
 use Rattle.plan_ir.specs.declared.ir.IR.{IR}
 use Rattle.plan_ir.specs.declared.ir.IR.TheVariants.{HStack, Invalid}
 use Rattle.plan_ir.specs.Parts.{plan_shape}
-use Rattle.plan_ir.specs.Plans.{plans_at, bare, all_named_at}
+use Rattle.plan_expr.specs.Exprs.{all_named_at}
+use Rattle.plan_ir.specs.Plans.{plans_at, bare}
 use Rattle.plan_meaning.specs.Exprs.{Name}
 use Rattle.plan_meaning.specs.Typing.{first_schema}
 use Rattle.plan_prune.specs.Stored.{stored_all}

@@ -6,10 +6,11 @@ use Rattle.plan_core.specs.declared.options.FileScanOptions.{FileScanOptions}
 use Rattle.plan_core.specs.declared.options.ProjectionOptions.{ProjectionOptions}
 use Rattle.plan_core.specs.Columns.{Columns}
 use Rattle.plan_tree.specs.Rose.{rose, no_roses, more}
-use Rattle.plan_ir.specs.declared.expr.LiteralValue.TheVariants as literals
-use Rattle.plan_ir.specs.declared.expr.Operator.TheVariants.{Plus}
-use Rattle.plan_ir.specs.declared.expr.OutputName.TheVariants.{Alias, ColumnLhs}
-use Rattle.plan_ir.specs.Plans.{column, literal, alias, binary, simple_projection, select, hstack, Named, Plan}
+use Rattle.plan_expr.specs.declared.literal.LiteralValue.TheVariants as literals
+use Rattle.plan_expr.specs.declared.operator.Operator.TheVariants.{Plus}
+use Rattle.plan_expr.specs.declared.expr_ir.OutputName.TheVariants.{Alias, ColumnLhs}
+use Rattle.plan_expr.specs.Exprs.{column, literal, alias, binary, Named}
+use Rattle.plan_ir.specs.Plans.{simple_projection, select, hstack, Plan}
 use Rattle.plan_meaning.specs.Exprs.{Name}
 use Rattle.plan_meaning.specs.Relating.{names}
 use Rattle.plan_meaning.specs.Asked.{sites_of}

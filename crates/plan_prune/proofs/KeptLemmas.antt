@@ -4,17 +4,18 @@ use Rattle.std.specs.List.{slice_get, slice_set}
 use Rattle.std.proofs.lemmas.List.Elements.{All-filter}
 use Rattle.std.proofs.lemmas.Option.{slice_get-get_or, slice_get-map}
 use Rattle.plan_tree.proofs.TreeLemmas.{nth, StandsOnce-nth}
-use Rattle.plan_ir.specs.Parts.{expr_shape, IsExpr}
+use Rattle.plan_expr.specs.Operands.{expr_shape, IsExpr}
 use Rattle.plan_core.specs.Columns.{Columns}
 use Rattle.plan_core.specs.declared.options.ProjectionOptions.{ProjectionOptions}
 use Rattle.plan_tree.specs.Rose.{Roses, rose}
 use Rattle.plan_core.specs.declared.arena.Node.{Node}
 use Rattle.plan_core.specs.Names.{has}
-use Rattle.plan_ir.specs.declared.expr.AExpr.{AExpr}
-use Rattle.plan_ir.specs.declared.expr.ExprIR.{ExprIR}
+use Rattle.plan_expr.specs.declared.aexpr.AExpr.{AExpr}
+use Rattle.plan_expr.specs.declared.expr_ir.ExprIR.{ExprIR}
 use Rattle.plan_ir.specs.declared.ir.IR.{IR}
 use Rattle.plan_ir.specs.declared.ir.IR.TheVariants.{HStack}
-use Rattle.plan_ir.specs.Plans.{Op, select, hstack, Named, expr_at, named_at, all_named_at}
+use Rattle.plan_expr.specs.Exprs.{Named, expr_at, named_at, all_named_at}
+use Rattle.plan_ir.specs.Plans.{Op, select, hstack}
 use Rattle.plan_meaning.specs.Exprs.{Name, name_of, is_scalar}
 use Rattle.plan_meaning.specs.Steps.{all_scalar}
 use Rattle.plan_meaning.specs.Relating.{all, names}

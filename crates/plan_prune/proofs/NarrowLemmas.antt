@@ -3,7 +3,8 @@ use Rattle.std.proofs.Common.{◌≡◌, ℕ, ℤ, Bool, true, ◌&&◌, List, [
 use Rattle.plan_core.specs.declared.data_type.DataType.{DataType}
 use Rattle.plan_core.specs.Columns.{Columns, type_of}
 use Rattle.plan_core.specs.Names.{has, with_names}
-use Rattle.plan_ir.specs.Plans.{Op, slice, filter, Named, Expr}
+use Rattle.plan_expr.specs.Exprs.{Named, Expr}
+use Rattle.plan_ir.specs.Plans.{Op, slice, filter}
 use Rattle.plan_meaning.specs.Exprs.{Name, leaves, all_known, is_type}
 use Rattle.plan_meaning.specs.Typing.{checks, AllHold}
 use Rattle.plan_meaning.specs.Frames.{Frame, HasSchema, rows_at, Agree}

@@ -5,8 +5,8 @@ use Rattle.plan_tree.specs.Rose.{join}
 use Rattle.plan_tree.specs.Stands.{Trees, Reaches, Apart}
 use Rattle.plan_tree.proofs.Frames.{join-left, join-right, Reaches-join}
 use Rattle.plan_tree.proofs.SplitLemmas.{StandsOnce-split, StandsOnce-join}
-use Rattle.plan_ir.specs.declared.expr.AExpr.{AExpr}
-use Rattle.plan_ir.specs.Parts.{expr_shape}
+use Rattle.plan_expr.specs.declared.aexpr.AExpr.{AExpr}
+use Rattle.plan_expr.specs.Operands.{expr_shape}
 use Rattle.plan_prune.specs.Prunes.{StandExprs, TakePlace}
 
 module _ (ex : List AExpr) where

@@ -10,19 +10,21 @@ use Rattle.plan_tree.specs.Stands.{Trees, Reaches, Stands, StandsOnce, Keeps, Re
 use Rattle.plan_tree.proofs.TreeLemmas.{opened, nth, height_at, Stands-nth, Stands-unique}
 use Rattle.plan_tree.proofs.ReadLemmas.{trees_at-is}
 use Rattle.plan_tree.proofs.Frames.{Rewrites-refl, Rewrites-back, Rewrites-above, StandsOnce-set, StandsOnce-first, descend, Keeps-trans, Keeps-set, Keeps-append, slice_get-append_last}
-use Rattle.plan_ir.specs.declared.expr.AExpr.{AExpr}
-use Rattle.plan_ir.specs.declared.expr.AExpr.TheVariants as exprs
-use Rattle.plan_ir.specs.declared.expr.ExprIR.{ExprIR}
-use Rattle.plan_ir.specs.declared.expr.Operator.{Operator}
-use Rattle.plan_ir.specs.declared.expr.LiteralValue.{LiteralValue}
+use Rattle.plan_expr.specs.declared.aexpr.AExpr.{AExpr}
+use Rattle.plan_expr.specs.declared.aexpr.AExpr.TheVariants as exprs
+use Rattle.plan_expr.specs.declared.expr_ir.ExprIR.{ExprIR}
+use Rattle.plan_expr.specs.declared.operator.Operator.{Operator}
+use Rattle.plan_expr.specs.declared.literal.LiteralValue.{LiteralValue}
 use Rattle.plan_ir.specs.declared.ir.IR.{IR}
 use Rattle.plan_ir.specs.declared.ir.IR.TheVariants as nodes
 use Rattle.plan_ir.specs.declared.scan.FileInfo.{FileInfo}
 use Rattle.plan_ir.specs.declared.scan.FileScan.{FileScan}
 use Rattle.plan_ir.specs.declared.scan.ScanSources.{ScanSources}
-use Rattle.plan_ir.specs.Parts.{plan_shape, inputs_of, is_invalid, roots_of, roots_in, IsExpr, IsPlan}
-use Rattle.plan_ir.specs.Plans.{Op, op_at, plans_of, plans_at, bare, expr_at, Expr}
-use Rattle.plan_ir.proofs.ExprLemmas.{expr_open}
+use Rattle.plan_expr.specs.Operands.{IsExpr}
+use Rattle.plan_ir.specs.Parts.{plan_shape, inputs_of, is_invalid, roots_of, roots_in, IsPlan}
+use Rattle.plan_expr.specs.Exprs.{expr_at, Expr}
+use Rattle.plan_ir.specs.Plans.{Op, op_at, plans_of, plans_at, bare}
+use Rattle.plan_expr.proofs.ExprLemmas.{expr_open}
 use Rattle.plan_ir.proofs.PlanLemmas.{plan_down}
 use Rattle.plan_core.specs.Names.{with_names, with_name}
 use Rattle.plan_meaning.specs.Exprs.{Name, leaves}

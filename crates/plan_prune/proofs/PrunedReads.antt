@@ -7,7 +7,8 @@ use Rattle.plan_core.specs.Names.{has}
 use Rattle.plan_core.specs.declared.options.ProjectionOptions.{ProjectionOptions}
 use Rattle.plan_meaning.proofs.NameSets.{has_cons, has_first, has_later}
 use Rattle.plan_tree.specs.Rose.{Roses, rose, no_roses, more, size}
-use Rattle.plan_ir.specs.Plans.{Op, slice, filter, scan, frame_scan, simple_projection, select, hstack, invalid, Named, Plan}
+use Rattle.plan_expr.specs.Exprs.{Named}
+use Rattle.plan_ir.specs.Plans.{Op, slice, filter, scan, frame_scan, simple_projection, select, hstack, invalid, Plan}
 use Rattle.plan_meaning.specs.Typing.{schemas, checks, AllHold, AllValid}
 use Rattle.plan_meaning.specs.PlanAt.{one_plan}
 use Rattle.plan_meaning.specs.Steps.{IsValid}

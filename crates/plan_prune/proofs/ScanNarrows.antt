@@ -13,7 +13,8 @@ use Rattle.plan_core.proofs.SameLemmas.{same_columns-Decides}
 use Rattle.plan_ir.specs.declared.scan.FileInfo.{FileInfo}
 use Rattle.plan_ir.specs.declared.scan.FileScan.{FileScan}
 use Rattle.plan_ir.specs.declared.scan.ScanSources.{ScanSources}
-use Rattle.plan_ir.specs.Plans.{scan, simple_projection, Named}
+use Rattle.plan_expr.specs.Exprs.{Named}
+use Rattle.plan_ir.specs.Plans.{scan, simple_projection}
 use Rattle.plan_meaning.specs.Exprs.{is_type}
 use Rattle.plan_meaning.specs.Values.{Value, null}
 use Rattle.plan_meaning.specs.Typing.{is_empty, is_known, is_column, each, each_new, columns_or, file_columns, has_columns, put_out_checks, scan_name_checks, is_built_scan, checks, AllHold}

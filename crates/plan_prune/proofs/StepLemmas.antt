@@ -6,11 +6,12 @@ use Rattle.plan_core.specs.Names.{with_names}
 use Rattle.plan_tree.specs.Rose.{no_roses}
 use Rattle.plan_tree.specs.Stands.{Trees, StandsOnce}
 use Rattle.plan_tree.proofs.TreeLemmas.{opened}
-use Rattle.plan_ir.specs.declared.expr.AExpr.{AExpr}
+use Rattle.plan_expr.specs.declared.aexpr.AExpr.{AExpr}
 use Rattle.plan_ir.specs.declared.ir.IR.{IR}
 use Rattle.plan_ir.specs.declared.ir.IR.TheVariants.{Slice, Filter, Scan, DataFrameScan, SimpleProjection, Select, HStack, Invalid}
 use Rattle.plan_ir.specs.Parts.{plan_shape, inputs_of}
-use Rattle.plan_ir.specs.Plans.{bare, plans_at, Named}
+use Rattle.plan_expr.specs.Exprs.{Named}
+use Rattle.plan_ir.specs.Plans.{bare, plans_at}
 use Rattle.plan_meaning.specs.Exprs.{Name}
 use Rattle.plan_meaning.specs.Asked.{all_leaves}
 use Rattle.plan_prune.specs.declared.push_down.step.Step.TheVariants.{Leaf, Over}

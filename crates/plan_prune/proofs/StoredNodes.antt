@@ -7,7 +7,7 @@ use Rattle.plan_tree.specs.Stands.{Trees, StandsOnce}
 use Rattle.plan_tree.specs.Read.{trees_at}
 use Rattle.plan_tree.proofs.ReadLemmas.{trees_at-is}
 use Rattle.plan_tree.proofs.TreeLemmas.{opened}
-use Rattle.plan_ir.specs.declared.expr.AExpr.{AExpr}
+use Rattle.plan_expr.specs.declared.aexpr.AExpr.{AExpr}
 use Rattle.plan_ir.specs.declared.ir.IR.{IR}
 use Rattle.plan_ir.specs.Parts.{plan_shape, inputs_of}
 use Rattle.plan_ir.specs.Plans.{op_at, plans_of, plans_at, bare}

@@ -4,11 +4,11 @@ use Rattle.plan_core.specs.declared.arena.Node.{Node}
 use Rattle.plan_core.specs.declared.options.ProjectionOptions.{ProjectionOptions}
 use Rattle.plan_core.specs.Columns.{Columns, with_types}
 use Rattle.plan_core.specs.Names.{has}
-use Rattle.plan_ir.specs.declared.expr.AExpr.{AExpr}
-use Rattle.plan_ir.specs.declared.expr.ExprIR.{ExprIR}
+use Rattle.plan_expr.specs.declared.aexpr.AExpr.{AExpr}
+use Rattle.plan_expr.specs.declared.expr_ir.ExprIR.{ExprIR}
 use Rattle.plan_ir.specs.declared.ir.IR.{IR}
 use Rattle.plan_ir.specs.declared.ir.IR.TheVariants.{HStack, Invalid}
-use Rattle.plan_ir.specs.Plans.{Named, expr_at, all_named_at}
+use Rattle.plan_expr.specs.Exprs.{Named, expr_at, all_named_at}
 use Rattle.plan_meaning.specs.Exprs.{Name, name_of, is_scalar}
 use Rattle.plan_meaning.specs.Steps.{all_scalar}
 use Rattle.plan_prune.specs.Pruned.{typed_names, added_names}

@@ -4,11 +4,12 @@ use Rattle.plan_core.specs.declared.arena.Node.{Node}
 use Rattle.plan_core.specs.declared.options.ProjectionOptions.{ProjectionOptions}
 use Rattle.plan_core.specs.Columns.{Columns, names_of}
 use Rattle.plan_core.specs.Names.{with_names}
-use Rattle.plan_ir.specs.declared.expr.AExpr.{AExpr}
-use Rattle.plan_ir.specs.declared.expr.ExprIR.{ExprIR}
+use Rattle.plan_expr.specs.declared.aexpr.AExpr.{AExpr}
+use Rattle.plan_expr.specs.declared.expr_ir.ExprIR.{ExprIR}
 use Rattle.plan_ir.specs.declared.ir.IR.{IR}
 use Rattle.plan_ir.specs.declared.ir.IR.TheVariants.{Slice, Filter, Scan, DataFrameScan, SimpleProjection, Select, HStack, Invalid}
-use Rattle.plan_ir.specs.Plans.{bare, plans_at, expr_at, all_named_at}
+use Rattle.plan_expr.specs.Exprs.{expr_at, all_named_at}
+use Rattle.plan_ir.specs.Plans.{bare, plans_at}
 use Rattle.plan_meaning.specs.Exprs.{Name, leaves}
 use Rattle.plan_meaning.specs.Typing.{first_schema}
 use Rattle.plan_meaning.specs.Asked.{all_leaves}

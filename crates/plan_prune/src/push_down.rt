@@ -27,7 +27,8 @@ mod stored;
 
 use crate::push_down::step::Step;
 use plan_core::{Arena, Names, Node};
-use plan_ir::{AExpr, IR};
+use plan_expr::AExpr;
+use plan_ir::IR;
 use std::alloc::{AllocError, Global};
 
 /// Prunes plans to the columns that they need.

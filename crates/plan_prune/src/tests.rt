@@ -3,9 +3,8 @@ use crate::ProjectionPushDown;
 use plan_core::{
     Arena, DataType, FileScanOptions, Items, Node, PlSmallStr, ProjectionOptions, Schema, TryClone,
 };
-use plan_ir::{
-    AExpr, ExprIR, FileInfo, FileScan, IR, LiteralValue, Operator, OutputName, ScanSources,
-};
+use plan_expr::{AExpr, ExprIR, LiteralValue, Operator, OutputName};
+use plan_ir::{FileInfo, FileScan, IR, ScanSources};
 use plan_meaning::{check_plan, output_name};
 use std::alloc::{AllocError, Global};
 use std::process::Abort;

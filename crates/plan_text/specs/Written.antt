@@ -1,4 +1,4 @@
--- The JSON values of plans, listings and errors, and their texts: members in the byte order of their keys.
+-- The JSON values of plans, listings, errors and schemas, and their texts: members in the byte order of their keys.
 use Rattle.std.specs.Prelude.{ℕ, ℤ, List, [], ◌∷◌, ◌++◌, map, Option, Some, None, codes}
 use Rattle.serde_json.specs.Data as json
 use Rattle.serde_json.specs.Data.{Data, unsigned, number, boolean, string, array, object, no_items, item, no_members, member}
@@ -12,13 +12,13 @@ use Rattle.plan_core.specs.declared.error.PolarsError.{PolarsError}
 use Rattle.plan_core.specs.declared.options.FileScanOptions.{FileScanOptions}
 use Rattle.plan_core.specs.declared.options.ProjectionOptions.{ProjectionOptions}
 use Rattle.plan_core.specs.declared.options.RowIndex.{RowIndex}
-use Rattle.plan_ir.specs.declared.expr.AExpr.{AExpr}
-use Rattle.plan_ir.specs.declared.expr.AExpr.TheVariants as exprs
-use Rattle.plan_ir.specs.declared.expr.ExprIR.{ExprIR}
-use Rattle.plan_ir.specs.declared.expr.LiteralValue.{LiteralValue}
-use Rattle.plan_ir.specs.declared.expr.LiteralValue.TheVariants as literals
-use Rattle.plan_ir.specs.declared.expr.OutputName.{OutputName}
-use Rattle.plan_ir.specs.declared.expr.OutputName.TheVariants as names
+use Rattle.plan_expr.specs.declared.aexpr.AExpr.{AExpr}
+use Rattle.plan_expr.specs.declared.aexpr.AExpr.TheVariants as exprs
+use Rattle.plan_expr.specs.declared.expr_ir.ExprIR.{ExprIR}
+use Rattle.plan_expr.specs.declared.literal.LiteralValue.{LiteralValue}
+use Rattle.plan_expr.specs.declared.literal.LiteralValue.TheVariants as literals
+use Rattle.plan_expr.specs.declared.expr_ir.OutputName.{OutputName}
+use Rattle.plan_expr.specs.declared.expr_ir.OutputName.TheVariants as names
 use Rattle.plan_ir.specs.declared.ir.IR.{IR}
 use Rattle.plan_ir.specs.declared.ir.IR.TheVariants as nodes
 use Rattle.plan_ir.specs.declared.scan.FileInfo.{FileInfo}
@@ -204,6 +204,10 @@ listing_data lp ex root reads rows = object (member (codes "plan") (plan_data lp
 unfoldable pub fault_data : PolarsError → Data
 fault_data e = object (member (codes "error") (object (member (codes "kind") (string (fault_text e)) (member (codes "node") (nullable_data link_data (place_of e).node) (member (codes "place") (number (unsigned (place_of e).place)) no_members)))) no_members)
 
+-- the columns that a plan gives
+unfoldable pub schema_data : Columns → Data
+schema_data cs = object (member (codes "schema") (columns_data cs) no_members)
+
 -- the value's text, and a line feed
 abbrev pub line_of : Data → List ℕ
 line_of d = compact_text d ++ 10 ∷ []
@@ -219,3 +223,7 @@ listing_text lp ex root reads rows = line_of (listing_data lp ex root reads rows
 -- the text of an error
 unfoldable pub error_text : PolarsError → List ℕ
 error_text e = line_of (fault_data e)
+
+-- the text of a schema
+unfoldable pub schema_text : Columns → List ℕ
+schema_text cs = line_of (schema_data cs)

@@ -3,7 +3,8 @@ ghost use Rattle.std.specs.Prelude.{◌≡◌};
 ghost use Rattle.plan_text.specs.Kinds.{type_text, plain_text, literal_text, operator_text, format_text, fault_text, place_of};
 
 use plan_core::{At, DataType, PlainType, PolarsError};
-use plan_ir::{FileScan, LiteralValue, Operator};
+use plan_expr::{LiteralValue, Operator};
+use plan_ir::FileScan;
 
 /// The name of a type in a document: `Int64`, `String` or `Boolean`.
 pub fn type_name(data_type: DataType) -> &'static str

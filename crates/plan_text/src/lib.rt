@@ -1,4 +1,4 @@
-//! The texts of plans, listings and errors.
+//! The texts of plans, listings, errors and schemas.
 #![tactic(auto)]
 
 mod kinds;
@@ -11,4 +11,4 @@ mod plan;
 mod rows;
 mod texts;
 
-pub use texts::{write_fault, write_listing, write_plan};
+pub use texts::{write_fault, write_listing, write_plan, write_schema};

@@ -13,7 +13,8 @@ use crate::pieces::{Piece, with_comma, with_key, with_names, with_object, with_v
 use crate::plan::{exprs, node as node_value};
 use crate::rows::with_rows;
 use plan_core::{Arena, FileScanOptions, Items, Node, PlSmallStr, Schema};
-use plan_ir::{ExprIR, FileInfo, FileScan, IR, PlanCopy, ScanSources};
+use plan_expr::ExprIR;
+use plan_ir::{FileInfo, FileScan, IR, PlanCopy, ScanSources};
 use plan_table::Table;
 use serde_json::Value;
 use std::alloc::{AllocError, Global};

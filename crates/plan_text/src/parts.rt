@@ -7,7 +7,8 @@ ghost use Rattle.plan_text.specs.Written.{columns_data, names_data, list_data, l
 use crate::kinds::type_name;
 use crate::lists::each;
 use plan_core::{DataType, Items, Node, PlSmallStr, ProjectionOptions, RowIndex, Schema};
-use plan_ir::{ExprIR, LiteralValue, OutputName, ScanSources};
+use plan_expr::{ExprIR, LiteralValue, OutputName};
+use plan_ir::ScanSources;
 use serde_json::{Value, json};
 use std::alloc::{AllocError, Global};
 

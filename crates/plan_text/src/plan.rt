@@ -12,7 +12,8 @@ use crate::parts::{
     optional_output, optional_row_index, optional_slice, options, output, outputs, sources,
 };
 use plan_core::{Arena, FileScanOptions, Items, Node, ProjectionOptions, Schema};
-use plan_ir::{AExpr, ExprIR, FileInfo, FileScan, IR, PlanCopy, ScanSources};
+use plan_expr::{AExpr, ExprIR};
+use plan_ir::{FileInfo, FileScan, IR, PlanCopy, ScanSources};
 use serde_json::{Value, json};
 use std::alloc::{AllocError, Global};
 

@@ -3,13 +3,14 @@ ghost use Rattle.std.specs.Prelude.{◌≡◌, IfOk, Some, false, option_copied,
 ghost use Rattle.serde_json.specs.Read.{read};
 ghost use Rattle.serde_json.specs.View.{view};
 ghost use Rattle.serde_json.specs.Written.{has_float};
-ghost use Rattle.plan_text.specs.Written.{fault_data, line_of, plan_data, plan_text, listing_text, error_text};
+ghost use Rattle.plan_text.specs.Written.{fault_data, line_of, plan_data, plan_text, listing_text, error_text, schema_text};
 
 use crate::kinds::{fault_name, place};
 use crate::listing::listing_bytes;
 use crate::parts::optional_link;
+use crate::pieces::{with_columns, with_key};
 use crate::plan::plan as plan_value;
-use plan_core::{Items, PlSmallStr, PolarsError};
+use plan_core::{Items, PlSmallStr, PolarsError, Schema};
 use plan_ir::PlanCopy;
 use plan_table::Table;
 use serde_json::{Value, json};
@@ -88,4 +89,18 @@ pub fn write_fault(alloc: Global, error: &PolarsError) -> Result<String, AllocEr
 {
     let value = fault(alloc, error)?;
     line(alloc, &value)
+}
+
+/// The text of a schema, with a line feed: the object of a `schema`, which lists its columns in
+/// order, each with its name and its type. It fails only where memory is wanting.
+#[tactic(auto, unfolding(crate::specs::Written::schema_data, crate::specs::Written::schema_text))]
+pub fn write_schema(alloc: Global, schema: &Schema) -> Result<String, AllocError>
+    ensures { IfOk result (λ text. string_bytes text ≡ schema_text schema.now) }
+{
+    let mut bytes = Vec::new(alloc);
+    bytes.push(b'{')?;
+    let mut bytes = with_columns(with_key(bytes, false, "schema")?, schema)?;
+    bytes.push(b'}')?;
+    bytes.push(b'\n')?;
+    text_of(bytes)
 }

@@ -4,10 +4,8 @@ use plan_core::{
     Arena, DataType, FileScanOptions, Items, Node, PlSmallStr, PlainType, ProjectionOptions,
     RowIndex, Schema,
 };
-use plan_ir::{
-    AExpr, ExprIR, FileInfo, FileScan, IR, LiteralValue, Operator, OutputName, PlanCopy,
-    ScanSources,
-};
+use plan_expr::{AExpr, ExprIR, LiteralValue, Operator, OutputName};
+use plan_ir::{FileInfo, FileScan, IR, PlanCopy, ScanSources};
 use std::alloc::{AllocError, Global};
 
 fn name(alloc: Global, text: &str) -> Result<PlSmallStr, AllocError> {
@@ -22,7 +20,7 @@ pub fn names(alloc: Global, texts: &[&str]) -> Result<Items<PlSmallStr>, AllocEr
     Ok(list)
 }
 
-fn schema(alloc: Global, columns: &[(&str, DataType)]) -> Result<Schema, AllocError> {
+pub fn schema(alloc: Global, columns: &[(&str, DataType)]) -> Result<Schema, AllocError> {
     let mut schema = Schema::new(alloc);
     for (column, data_type) in columns {
         let _ = schema.with_column(name(alloc, column)?, *data_type)?;

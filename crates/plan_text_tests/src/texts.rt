@@ -1,9 +1,9 @@
 //! Whole texts, as they must be written.
 
-use crate::plans::{all_operators, full_plan, more_plan, names, simple_plan};
-use plan_core::{At, Node, PolarsError};
+use crate::plans::{all_operators, full_plan, more_plan, names, schema, simple_plan};
+use plan_core::{At, DataType, Node, PolarsError};
 use plan_ir::PlanCopy;
-use plan_text::{write_fault, write_listing, write_plan};
+use plan_text::{write_fault, write_listing, write_plan, write_schema};
 use std::alloc::{AllocError, Global};
 use std::process::Abort;
 
@@ -78,5 +78,24 @@ fn writes_faults(rt: HostRuntime) -> Result<(), AllocError> {
         text.as_str(),
         "{\"error\":{\"kind\":\"ComputeError\",\"node\":1,\"place\":0}}\n"
     );
+    Ok(())
+}
+
+// Two columns, one whose name has what a JSON text escapes, and none.
+#[test]
+fn writes_schemas(rt: HostRuntime) -> Result<(), AllocError> {
+    let alloc = rt.alloc();
+    let two = schema(alloc, &[("a", DataType::Int64), ("b", DataType::String)])?;
+    assert_eq!(rt;
+        write_schema(alloc, &two)?.as_str(),
+        "{\"schema\":[[\"a\",\"Int64\"],[\"b\",\"String\"]]}\n"
+    );
+    let escaped = schema(alloc, &[("\"é\n\\\u{1}", DataType::Boolean)])?;
+    assert_eq!(rt;
+        write_schema(alloc, &escaped)?.as_str(),
+        "{\"schema\":[[\"\\\"é\\n\\\\\\u0001\",\"Boolean\"]]}\n"
+    );
+    let none = schema(alloc, &[])?;
+    assert_eq!(rt; write_schema(alloc, &none)?.as_str(), "{\"schema\":[]}\n");
     Ok(())
 }

@@ -1,3 +1,5 @@
 -- The lemmas of this crate.
-mod CheckLemmas
 mod AnswerLemmas
+mod CheckLemmas
+mod CommandLemmas
+mod VerdictLemmas

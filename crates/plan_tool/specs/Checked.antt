@@ -3,7 +3,7 @@ use Rattle.std.specs.Prelude.{◌≡◌, ◌⊎◌, List, Some, None, Result, Ok
 use Rattle.plan_core.specs.declared.arena.Node.{Node}
 use Rattle.plan_core.specs.declared.error.PolarsError.{PolarsError}
 use Rattle.plan_core.specs.Columns.{Columns}
-use Rattle.plan_ir.specs.declared.expr.AExpr.{AExpr}
+use Rattle.plan_expr.specs.declared.aexpr.AExpr.{AExpr}
 use Rattle.plan_ir.specs.declared.ir.IR.{IR}
 use Rattle.plan_meaning.specs.TreeFaults.{tree_fault}
 use Rattle.plan_meaning.specs.Typed.{typed}
@@ -12,8 +12,7 @@ use Rattle.plan_tool.specs.declared.stop.Stop.TheVariants as stops
 use Rattle.plan_tool.specs.Limits.{IsShallow, IsDeep}
 
 -- the numbers lead to a plan that isn't too deep, and its nodes have no fault: it has these columns
-pub record IsChecked (lp : List IR) (ex : List AExpr) (root : Node) : Type 0 where
-  pub columns : Columns
+pub record IsChecked (lp : List IR) (ex : List AExpr) (root : Node) (columns : Columns) : Type 0 where
   pub typed : typed lp ex root ≡ Ok columns
   pub shallow : IsShallow lp ex root
 
@@ -27,12 +26,22 @@ pub record IsTooDeep (lp : List IR) (ex : List AExpr) (root : Node) : Type 0 whe
   pub numbers : tree_fault lp ex root ≡ None
   pub deep : IsDeep lp ex root
 
--- what the checks say: all hold, or the first that fails
-abbrev pub Checks : Result (Unit {0}) Stop → List IR → List AExpr → Node → Type 0
-Checks (Ok x) lp ex root = IsChecked lp ex root
+-- what the checks say: all hold, and the plan has these columns; or the first that fails
+abbrev pub Checks : Result Columns Stop → List IR → List AExpr → Node → Type 0
+Checks (Ok columns) lp ex root = IsChecked lp ex root columns
 Checks (Err stops.NotJson) lp ex root = ⊥
 Checks (Err stops.Form) lp ex root = ⊥
 Checks (Err stops.Limit) lp ex root = IsTooDeep lp ex root
 Checks (Err stops.Unfit) lp ex root = ⊥
 Checks (Err (stops.Fault fault)) lp ex root = IsRefused lp ex root fault
 Checks (Err stops.OutOfMemory) lp ex root = Unit {0}
+
+-- what the check of levels says: there are not too many, or there are
+abbrev pub LevelsChecked : Result (Unit {0}) Stop → List IR → List AExpr → Node → Type 0
+LevelsChecked (Ok x) lp ex root = IsShallow lp ex root
+LevelsChecked (Err stops.NotJson) lp ex root = ⊥
+LevelsChecked (Err stops.Form) lp ex root = ⊥
+LevelsChecked (Err stops.Limit) lp ex root = IsDeep lp ex root
+LevelsChecked (Err stops.Unfit) lp ex root = ⊥
+LevelsChecked (Err (stops.Fault fault)) lp ex root = ⊥
+LevelsChecked (Err stops.OutOfMemory) lp ex root = Unit {0}

@@ -1,15 +1,12 @@
--- What is listed for a document, and what the program says of bytes.
-use Rattle.std.specs.Prelude.{◌≡◌, ◌≤◌, ◌+◌, ℕ, true, false, List, [], ◌∷◌, Option, Result, Ok, Err, String, string_bytes, if◌then◌else◌}
-use Rattle.std.specs.declared.alloc.Global.{Global}
+-- What is listed for a document.
+use Rattle.std.specs.Prelude.{◌≡◌, ◌≤◌, ◌+◌, ℕ, true, false, List, [], ◌∷◌, Option, if◌then◌else◌}
 use Rattle.plan_core.specs.declared.arena.Node.{Node}
-use Rattle.plan_core.specs.declared.error.PolarsError.{PolarsError}
 use Rattle.plan_core.specs.declared.flags.OptFlags.{OptFlags}
 use Rattle.plan_core.specs.Flags.{bits_of, has_bits}
 use Rattle.plan_tree.specs.Rose.{Roses}
 use Rattle.plan_doc.specs.declared.document.Document.{Document}
-use Rattle.plan_doc.specs.Document.{doc_of, not_json, form, document}
 use Rattle.plan_ir.specs.declared.copy.PlanCopy.{PlanCopy}
-use Rattle.plan_ir.specs.declared.expr.AExpr.{AExpr}
+use Rattle.plan_expr.specs.declared.aexpr.AExpr.{AExpr}
 use Rattle.plan_ir.specs.declared.ir.IR.{IR}
 use Rattle.plan_ir.specs.Copies.{IsRenumbered}
 use Rattle.plan_ir.specs.Plans.{Op, Plan, bare, plans_at}
@@ -23,10 +20,7 @@ use Rattle.plan_meaning.specs.Work.{made, kept}
 use Rattle.plan_prune.specs.Reads.{ReadWithin, tops}
 use Rattle.plan_table.specs.declared.table.Table.{Table}
 use Rattle.plan_text.specs.Written.{listing_text}
-use Rattle.plan_tool.specs.declared.stop.Stop.{Stop}
-use Rattle.plan_tool.specs.declared.stop.Stop.TheVariants as stops
-use Rattle.plan_tool.specs.Checked.{IsChecked, IsRefused, IsTooDeep}
-use Rattle.plan_tool.specs.Rows.{AreRows, DontFit, Fit}
+use Rattle.plan_tool.specs.Rows.{AreRows}
 
 -- the bit of projection pushdown
 abbrev pub pushdown_bit : ℕ
@@ -59,58 +53,3 @@ pub record IsListing (d : Document) (text : List ℕ) : Type 0 where
   pub answered_rows : AreRows d.tables (plan_at nodes d.ex d.root) rows
   pub given_rows : AreRows d.tables (plan_at d.lp d.ex d.root) rows
   pub lists : IsListOf nodes d.ex d.root rows text
-
--- the plan of a document has no fault, and its tables don't fit it
-pub record IsUnfit (d : Document) : Type 0 where
-  pub checked : IsChecked d.lp d.ex d.root
-  pub unfit : DontFit d.tables (plans_at d.lp d.ex (d.root ∷ []))
-
--- the plan of a document has no fault, its tables fit, and the text is its listing
-pub record Answers (d : Document) (text : List ℕ) : Type 0 where
-  pub checked : IsChecked d.lp d.ex d.root
-  pub fit : Fit d.tables (plans_at d.lp d.ex (d.root ∷ []))
-  pub listed : IsListing d text
-
--- the text that is listed for a document, or why there is none
-abbrev pub SaysOfDocument : Result (String Global) Stop → Document → Type 0
-SaysOfDocument (Ok text) d = Answers d (string_bytes text)
-SaysOfDocument (Err stops.NotJson) d = ⊥
-SaysOfDocument (Err stops.Form) d = ⊥
-SaysOfDocument (Err stops.Limit) d = IsTooDeep d.lp d.ex d.root
-SaysOfDocument (Err stops.Unfit) d = IsUnfit d
-SaysOfDocument (Err (stops.Fault fault)) d = IsRefused d.lp d.ex d.root fault
-SaysOfDocument (Err stops.OutOfMemory) d = Unit {0}
-
--- the bytes are a document, and the text is the listing of its plan
-pub record Lists (bytes text : List ℕ) : Type 0 where
-  pub asked : Document
-  pub read : doc_of bytes ≡ document asked
-  pub answers : Answers asked text
-
--- the bytes are a document whose plan is refused with this fault
-pub record Refuses (bytes : List ℕ) (fault : PolarsError) : Type 0 where
-  pub asked : Document
-  pub read : doc_of bytes ≡ document asked
-  pub refused : IsRefused asked.lp asked.ex asked.root fault
-
--- the bytes are a document whose plan is too deep
-pub record TooDeep (bytes : List ℕ) : Type 0 where
-  pub asked : Document
-  pub read : doc_of bytes ≡ document asked
-  pub deep : IsTooDeep asked.lp asked.ex asked.root
-
--- the bytes are a document whose tables don't fit its plan
-pub record Unfits (bytes : List ℕ) : Type 0 where
-  pub asked : Document
-  pub read : doc_of bytes ≡ document asked
-  pub unfit : IsUnfit asked
-
--- the text that is listed for bytes, or why there is none
-abbrev pub SaysOf : Result (String Global) Stop → List ℕ → Type 0
-SaysOf (Ok text) bytes = Lists bytes (string_bytes text)
-SaysOf (Err stops.NotJson) bytes = doc_of bytes ≡ not_json
-SaysOf (Err stops.Form) bytes = doc_of bytes ≡ form
-SaysOf (Err stops.Limit) bytes = TooDeep bytes
-SaysOf (Err stops.Unfit) bytes = Unfits bytes
-SaysOf (Err (stops.Fault fault)) bytes = Refuses bytes fault
-SaysOf (Err stops.OutOfMemory) bytes = Unit {0}

@@ -1,14 +1,15 @@
-//! The checks on the plan of a document: its numbers, its depth, and then its nodes.
-ghost use Rattle.std.specs.Prelude.{◌≡◌, IfOk};
+//! The checks on the plan of a document: its numbers, its levels, and then its nodes.
+ghost use Rattle.std.specs.Prelude.{◌≡◌, ◌<◌, ◌↔◌, ℕ, IfOk, IsTrue, Some};
 ghost use Rattle.plan_ir.specs.Parts.{IsPlan};
 ghost use Rattle.plan_meaning.specs.PlanAt.{plan_at};
 ghost use Rattle.plan_meaning.specs.Steps.{IsValid};
-ghost use Rattle.plan_tool.specs.Checked.{Checks};
+ghost use Rattle.plan_tool.specs.Checked.{Checks, LevelsChecked};
 
 use crate::stop::Stop;
-use plan_core::{Arena, Node};
-use plan_ir::{AExpr, IR};
-use plan_meaning::{check_nodes, check_tree, depth_of};
+use plan_core::{Arena, Node, Schema};
+use plan_expr::AExpr;
+use plan_ir::{IR, expr_depth, expr_roots, plan_depth};
+use plan_meaning::{check_nodes, check_tree};
 use std::alloc::Global;
 
 /// A plan has at most so many levels.
@@ -17,18 +18,41 @@ const PLAN_LEVELS: usize = 256;
 /// An expression has at most so many levels.
 const EXPR_LEVELS: usize = 128;
 
-/// Checks the plan at `root`: the numbers that it reaches, its depth, and its nodes. The first check that fails says
-/// how the program stops.
-pub fn check(alloc: Global, root: Node, lp: &Arena<IR>, ex: &Arena<AExpr>) -> Result<(), Stop>
+/// Whether there are levels, and more than a limit.
+fn is_deeper(levels: Option<usize>, limit: usize) -> bool
+    ensures { IsTrue result ↔ ((d : ℕ) × (levels ≡ Some d) × (limit < d)) }
+{
+    match levels {
+        Some(levels) => levels > limit,
+        None => false,
+    }
+}
+
+/// Checks the levels of the plan at `root`, and those of its expressions.
+fn check_levels(alloc: Global, root: Node, lp: &Arena<IR>, ex: &Arena<AExpr>) -> Result<(), Stop>
+    requires { IsPlan lp.now ex.now root }
+    ensures { LevelsChecked result lp.now ex.now root }
+{
+    if is_deeper(plan_depth(alloc, root, lp)?, PLAN_LEVELS) {
+        return Err(Stop::Limit);
+    }
+    let roots = expr_roots(alloc, root, lp)?;
+    for node in roots.as_slice() {
+        if is_deeper(expr_depth(alloc, *node, ex)?, EXPR_LEVELS) {
+            return Err(Stop::Limit);
+        }
+    }
+    Ok(())
+}
+
+/// The columns of the plan at `root`, after the checks of the numbers that it reaches, of its levels, and of its nodes.
+/// The first check that fails says how the program stops.
+pub fn check(alloc: Global, root: Node, lp: &Arena<IR>, ex: &Arena<AExpr>) -> Result<Schema, Stop>
     ensures checks { Checks result lp.now ex.now root }
     ensures stands { IfOk result (λ _. IsPlan lp.now ex.now root) }
     ensures valid { IfOk result (λ _. IsValid (plan_at lp.now ex.now root)) }
 {
     check_tree(alloc, root, lp, ex)?;
-    let depth = depth_of(alloc, root, lp, ex)?;
-    if depth.plan > PLAN_LEVELS || depth.exprs > EXPR_LEVELS {
-        return Err(Stop::Limit);
-    }
-    let _schema = check_nodes(alloc, root, lp, ex)?;
-    Ok(())
+    check_levels(alloc, root, lp, ex)?;
+    Ok(check_nodes(alloc, root, lp, ex)?)
 }

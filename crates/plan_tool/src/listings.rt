@@ -1,17 +1,20 @@
-//! From the bytes of a document to the text that lists its plan.
+//! From a document to the text that lists its optimised plan.
 ghost use Rattle.std.specs.Prelude.{◌≡◌, [], ◌∷◌, IfOk, option_copied, string_bytes};
 ghost use Rattle.plan_ir.specs.Parts.{IsPlan};
 ghost use Rattle.plan_ir.specs.Plans.{bare, plans_at};
 ghost use Rattle.plan_meaning.specs.PlanAt.{plan_at};
 ghost use Rattle.plan_meaning.specs.Steps.{IsValid};
-ghost use Rattle.plan_tool.specs.Listings.{answered, IsAnswer, IsListOf, SaysOf, SaysOfDocument};
+ghost use Rattle.plan_tool.specs.declared.command.Command.TheVariants.{Optimize};
+ghost use Rattle.plan_tool.specs.Answers.{SaysOfDocument};
+ghost use Rattle.plan_tool.specs.Listings.{answered, IsAnswer, IsListOf};
 
 use crate::check::check;
 use crate::rows::{check_tables, rows_of};
 use crate::stop::Stop;
 use plan_core::{Arena, Node, OptFlags};
-use plan_doc::{Document, read_document};
-use plan_ir::{AExpr, IR, into_renumbered, scan_reads};
+use plan_doc::Document;
+use plan_expr::AExpr;
+use plan_ir::{IR, into_renumbered, scan_reads};
 use plan_prune::ProjectionPushDown;
 use plan_table::Table;
 use plan_text::write_listing;
@@ -57,8 +60,8 @@ fn list(
 }
 
 /// The text that lists the optimised plan of a document, or why there is none.
-fn answer(alloc: Global, document: Document) -> Result<String, Stop>
-    ensures { SaysOfDocument result document }
+pub fn listing(alloc: Global, document: Document) -> Result<String, Stop>
+    ensures { SaysOfDocument Optimize result document }
 {
     let Document {
         root,
@@ -69,18 +72,9 @@ fn answer(alloc: Global, document: Document) -> Result<String, Stop>
         tables,
     } = document;
     let _ = shared;
-    check(alloc, root, &lp, &ex)?;
+    let _ = check(alloc, root, &lp, &ex)?;
     check_tables(root, &lp, &tables)?;
     let lp = optimized(alloc, root, flags, lp, &ex)?;
     let rows = rows_of(alloc, root, &lp, &ex, &tables)?;
     Ok(list(alloc, root, lp, ex, rows.as_ref())?)
-}
-
-/// The text that lists the optimised plan of the document that the bytes stand for, or why there is none.
-#[tactic(auto, using(crate::proofs::AnswerLemmas::said))]
-pub fn listing(alloc: Global, bytes: &[u8]) -> Result<String, Stop>
-    ensures { SaysOf result bytes.now }
-{
-    let document = read_document(alloc, bytes)?;
-    answer(alloc, document)
 }

@@ -1,6 +1,6 @@
 //! The tables of a document: whether they fit its plan, and the rows that a plan gives over them.
 ghost use Rattle.std.specs.Prelude.{◌≡◌, List, [], ◌∷◌, IfOk, IfSome};
-ghost use Rattle.plan_ir.specs.declared.expr.AExpr.{AExpr as AExprType};
+ghost use Rattle.plan_expr.specs.declared.aexpr.AExpr.{AExpr as AExprType};
 ghost use Rattle.plan_ir.specs.Parts.{IsPlan};
 ghost use Rattle.plan_ir.specs.Plans.{plans_at};
 ghost use Rattle.plan_meaning.specs.Contents.{Fits};
@@ -12,7 +12,8 @@ ghost use Rattle.plan_tool.specs.Rows.{AreRows, FitChecked};
 use crate::stop::Stop;
 use plan_core::{Arena, Node};
 use plan_eval::{evaluate, fits};
-use plan_ir::{AExpr, IR};
+use plan_expr::AExpr;
+use plan_ir::IR;
 use plan_table::{Table, Tables};
 use std::alloc::{AllocError, Global};
 

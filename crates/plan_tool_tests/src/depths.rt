@@ -1,6 +1,7 @@
 //! How many levels a plan and its expressions may have.
 
 use crate::streams::answer;
+use plan_stream::MemorySink;
 use std::alloc::Global;
 use std::process::Abort;
 use std::test::Fail;
@@ -24,7 +25,7 @@ fn document(alloc: Global, nodes: &str, exprs: &str, flags: u32) -> Result<Strin
     Ok(text)
 }
 
-// The plan is answered by a status and a text, whatever its flags.
+// The plan is answered by a status and a text, whatever the command and the flags.
 fn case(
     rt: &impl Abort,
     alloc: Global,
@@ -35,9 +36,11 @@ fn case(
 ) -> Result<(), Fail> {
     for flags in [0, 1] {
         let given = document(alloc, nodes, exprs, flags)?;
-        let (code, sink) = answer(alloc, &["optimize"], given.as_bytes(), 4096, 100000)?;
-        assert_eq!(rt; code, status, "of {given}");
-        assert_eq!(rt; sink.bytes(), text.as_bytes(), "of {given}");
+        for word in ["optimize", "check"] {
+            let (code, sink) = answer(alloc, &[word], given.as_bytes(), 4096, 100000)?;
+            assert_eq!(rt; code, status, "{word} of {given}");
+            assert_eq!(rt; sink.bytes(), text.as_bytes(), "{word} of {given}");
+        }
     }
     Ok(())
 }
@@ -161,5 +164,66 @@ fn a_plan_has_a_largest_depth(rt: HostRuntime) -> Result<(), Fail> {
         assert_eq!(rt; code, status, "of {filters}");
         assert_eq!(rt; sink.bytes().is_empty(), status == 7, "of {filters}");
     }
+    Ok(())
+}
+
+// The status of a plan, the same by both commands, and what the last wrote.
+fn status_of(
+    rt: &impl Abort,
+    alloc: Global,
+    nodes: &str,
+    exprs: &str,
+) -> Result<(u8, MemorySink), Fail> {
+    let given = document(alloc, nodes, exprs, 1)?;
+    let (listed, _) = answer(alloc, &["optimize"], given.as_bytes(), 4096, 100000)?;
+    let (code, sink) = answer(alloc, &["check"], given.as_bytes(), 4096, 100000)?;
+    assert_eq!(rt; code, listed);
+    Ok((code, sink))
+}
+
+#[test]
+fn plans_and_expressions_at_their_limits_are_answered(rt: HostRuntime) -> Result<(), Fail> {
+    let alloc = rt.alloc();
+    let column = r#"{"name":"d","op":"Column"}"#;
+    let filter = r#"{"op":"Filter","input":1,"predicate":[0,"alias","e"]},"#;
+    let filtered = format!(in alloc; "{filter}{FRAME}")?;
+    for (levels, status) in [(128, 0), (129, 7)] {
+        let exprs = aliases(alloc, levels - 1, column)?;
+        let (code, _) = status_of(&rt, alloc, &filtered, &exprs)?;
+        assert_eq!(rt; code, status, "of {levels}");
+    }
+    for (levels, status) in [(256, 0), (257, 7)] {
+        let nodes = slices(alloc, levels - 1, SCAN)?;
+        let (code, _) = status_of(&rt, alloc, &nodes, "")?;
+        assert_eq!(rt; code, status, "of {levels}");
+    }
+    Ok(())
+}
+
+#[test]
+fn a_deep_chain_is_too_deep(rt: HostRuntime) -> Result<(), Fail> {
+    let alloc = rt.alloc();
+    let nodes = slices(alloc, 100000, FRAME)?;
+    let given = document(alloc, &nodes, "", 1)?;
+    let (code, sink) = answer(alloc, &["check"], given.as_bytes(), 4096, 100)?;
+    assert_eq!(rt; (code, sink.bytes().len()), (7, 0));
+    Ok(())
+}
+
+#[test]
+fn a_ring_is_no_tree(rt: HostRuntime) -> Result<(), Fail> {
+    let alloc = rt.alloc();
+    let fault = b"{\"error\":{\"kind\":\"ComputeError\",\"node\":0,\"place\":0}}\n";
+    let last = r#"{"op":"Slice","input":0,"offset":0,"len":1}"#;
+    let ring = slices(alloc, 99999, last)?;
+    let given = document(alloc, &ring, "", 1)?;
+    let (code, sink) = answer(alloc, &["check"], given.as_bytes(), 4096, 100)?;
+    assert_eq!(rt; code, 5);
+    assert_eq!(rt; sink.bytes(), fault.as_slice());
+    let alone = r#"{"op":"Filter","input":0,"predicate":[0,"alias","e"]}"#;
+    let column = r#"{"name":"d","op":"Column"}"#;
+    let (code, sink) = status_of(&rt, alloc, alone, column)?;
+    assert_eq!(rt; code, 5);
+    assert_eq!(rt; sink.bytes(), fault.as_slice());
     Ok(())
 }

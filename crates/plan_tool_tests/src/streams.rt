@@ -32,11 +32,29 @@ pub fn answer(
 
 #[test]
 fn other_words_are_no_command(rt: HostRuntime) -> Result<(), Fail> {
-    for words in [[].as_slice(), &["check"], &["optimize", "x"]] {
+    for words in [
+        [].as_slice(),
+        &[""],
+        &["checks"],
+        &["Optimize"],
+        &["optimize", "x"],
+        &["check", "optimize"],
+    ] {
         let (code, sink) = answer(rt.alloc(), words, GOOD.as_bytes(), 4096, 100000)?;
         assert_eq!(rt; code, 2);
         assert_eq!(rt; sink.bytes().len(), 0);
     }
+    Ok(())
+}
+
+#[test]
+fn a_schema_is_written_by_check(rt: HostRuntime) -> Result<(), Fail> {
+    let (code, sink) = answer(rt.alloc(), &["check"], GOOD.as_bytes(), 100, 100)?;
+    assert_eq!(rt; code, 0);
+    assert_eq!(rt;
+        sink.bytes(),
+        b"{\"schema\":[[\"a\",\"Int64\"]]}\n".as_slice()
+    );
     Ok(())
 }
 

@@ -1,7 +1,8 @@
 //! A filter: its predicate reads columns of the input, is Boolean, and is named as it may be.
 ghost use Rattle.std.specs.Prelude.{◌≡◌, [], ◌∷◌};
-ghost use Rattle.plan_ir.specs.Parts.{IsExpr};
-ghost use Rattle.plan_ir.specs.Plans.{filter, named_at};
+ghost use Rattle.plan_expr.specs.Operands.{IsExpr};
+ghost use Rattle.plan_expr.specs.Exprs.{named_at};
+ghost use Rattle.plan_ir.specs.Plans.{filter};
 ghost use Rattle.plan_meaning.specs.Exprs.{is_type};
 ghost use Rattle.plan_core.specs.declared.data_type.DataType.TheVariants.{Boolean};
 ghost use Rattle.plan_meaning.specs.Typing.{filter_checks, first_fault, Says};
@@ -10,7 +11,7 @@ ghost use Rattle.plan_meaning.specs.Typed.{IsNodeTyped};
 use crate::check::place::at;
 use crate::exprs::{expr_type, may_be_named, reads_only};
 use plan_core::{Arena, DataType, Node, PolarsError, PolarsResult, Schema};
-use plan_ir::{AExpr, ExprIR};
+use plan_expr::{AExpr, ExprIR};
 
 /// Whether the type is Boolean.
 fn is_boolean(dtype: Option<DataType>) -> bool

@@ -3,8 +3,9 @@
 //! as it may be.
 ghost use Rattle.std.specs.Prelude.{◌≡◌, [], ◌∷◌, All, IfOk};
 ghost use Rattle.plan_core.specs.declared.options.ProjectionOptions.{ProjectionOptions};
-ghost use Rattle.plan_ir.specs.Parts.{IsExpr};
-ghost use Rattle.plan_ir.specs.Plans.{all_named_at, hstack, select};
+ghost use Rattle.plan_expr.specs.Operands.{IsExpr};
+ghost use Rattle.plan_expr.specs.Exprs.{all_named_at};
+ghost use Rattle.plan_ir.specs.Plans.{hstack, select};
 ghost use Rattle.plan_meaning.specs.Typing.{leaf_checks, type_checks, once_checks, naming_checks, made_schema as schema_made, first_fault, Says, IsMade};
 ghost use Rattle.plan_meaning.specs.Typed.{IsNodeTyped};
 
@@ -14,7 +15,7 @@ use crate::exprs::{expr_type, may_be_named, output_name, reads_only};
 use plan_core::{
     Arena, DataType, Names, Node, PlSmallStr, PolarsError, PolarsResult, Schema, TryClone,
 };
-use plan_ir::{AExpr, ExprIR};
+use plan_expr::{AExpr, ExprIR};
 use std::alloc::{AllocError, Global};
 
 /// Each expression reads columns of the schema; the first expression stands at place 1.

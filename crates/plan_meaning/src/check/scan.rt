@@ -2,7 +2,8 @@
 //! columns are those of the files.
 ghost use Rattle.std.specs.Prelude.{◌≡◌, ◌+◌, ◌&&◌, [], ◌∷◌, length, suc, option_map, IfOk, Some, None};
 ghost use Rattle.plan_core.specs.Names.{with_names};
-ghost use Rattle.plan_ir.specs.Plans.{named_at, scan};
+ghost use Rattle.plan_expr.specs.Exprs.{named_at};
+ghost use Rattle.plan_ir.specs.Plans.{scan};
 ghost use Rattle.plan_ir.specs.declared.scan.FileScan.{FileScan};
 ghost use Rattle.plan_ir.specs.declared.scan.ScanSources.{ScanSources};
 ghost use Rattle.plan_meaning.specs.Typing.{columns_or, file_columns, names_or, is_none, each_new, put_out_checks, scan_checks, scan_column_checks, scan_name_checks, first_fault, Says};
@@ -17,7 +18,8 @@ use plan_core::{
     Arena, FileScanOptions, Items, Names, Node, PlSmallStr, PolarsError, PolarsResult, Schema,
     TryClone,
 };
-use plan_ir::{AExpr, ExprIR, FileInfo};
+use plan_expr::{AExpr, ExprIR};
+use plan_ir::FileInfo;
 use std::alloc::{AllocError, Global};
 
 /// Whether nothing is asked of the scan that isn't built: no predicate, slice, row index or path column.

@@ -3,8 +3,8 @@
 //! Asked nothing, it asks nothing.
 ghost use Rattle.std.specs.Prelude.{◌≡◌, IfOk};
 ghost use Rattle.plan_ir.specs.declared.ir.IR.TheVariants.{Filter};
-ghost use Rattle.plan_ir.specs.Parts.{IsExpr};
-ghost use Rattle.plan_ir.specs.Plans.{expr_at};
+ghost use Rattle.plan_expr.specs.Operands.{IsExpr};
+ghost use Rattle.plan_expr.specs.Exprs.{expr_at};
 ghost use Rattle.plan_meaning.specs.Exprs.{leaves};
 ghost use Rattle.plan_prune.specs.declared.push_down.step.Step.TheVariants.{Over};
 ghost use Rattle.plan_prune.specs.Pruned.{asked_with};
@@ -12,7 +12,8 @@ ghost use Rattle.plan_prune.specs.Pruned.{asked_with};
 use crate::push_down::exprs::add_names;
 use crate::push_down::step::Step;
 use plan_core::{Arena, Names, Node};
-use plan_ir::{AExpr, ExprIR, IR};
+use plan_expr::{AExpr, ExprIR};
+use plan_ir::IR;
 use std::alloc::AllocError;
 
 /// What a filter asks its input: the asked names, and then the other names that the predicate reads; no names stand for

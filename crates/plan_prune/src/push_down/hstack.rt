@@ -6,10 +6,12 @@ ghost use Rattle.std.specs.Prelude.{◌≡◌, ◌<◌, ◌≤◌, All, List, []
 ghost use Rattle.plan_core.specs.Columns.{names_of};
 ghost use Rattle.plan_core.specs.Names.{has};
 ghost use Rattle.plan_tree.specs.Stands.{Trees, StandsOnce};
-ghost use Rattle.plan_ir.specs.declared.expr.AExpr.{AExpr};
+ghost use Rattle.plan_expr.specs.declared.aexpr.AExpr.{AExpr};
 ghost use Rattle.plan_ir.specs.declared.ir.IR.{IR};
-ghost use Rattle.plan_ir.specs.Parts.{plan_shape, IsExpr};
-ghost use Rattle.plan_ir.specs.Plans.{all_named_at, bare, plans_at};
+ghost use Rattle.plan_expr.specs.Operands.{IsExpr};
+ghost use Rattle.plan_ir.specs.Parts.{plan_shape};
+ghost use Rattle.plan_expr.specs.Exprs.{all_named_at};
+ghost use Rattle.plan_ir.specs.Plans.{bare, plans_at};
 ghost use Rattle.plan_meaning.specs.Typing.{first_schema};
 ghost use Rattle.plan_prune.specs.Kept.{asks_after, stacked_at, with_stacked};
 ghost use Rattle.plan_prune.specs.Prunes.{StandExprs};
@@ -20,7 +22,8 @@ use crate::push_down::exprs::{add_all_names, asked_exprs, with_typed};
 use crate::push_down::step::Step;
 use crate::push_down::stored::stored;
 use plan_core::{Arena, Items, Names, Node, ProjectionOptions, Schema, TryClone};
-use plan_ir::{AExpr, ExprIR, IR};
+use plan_expr::{AExpr, ExprIR};
+use plan_ir::IR;
 use std::alloc::{AllocError, Global};
 
 /// The expressions that an addition keeps.

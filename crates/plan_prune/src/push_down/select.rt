@@ -3,8 +3,8 @@
 //! Asked nothing, it stays as it is. It asks its input the names that its kept expressions read, each once.
 ghost use Rattle.std.specs.Prelude.{◌≡◌, ◌++◌, [], ◌∷◌, All, IfOk, OnOk, map};
 ghost use Rattle.plan_core.specs.Names.{with_names};
-ghost use Rattle.plan_ir.specs.Parts.{IsExpr};
-ghost use Rattle.plan_ir.specs.Plans.{all_named_at};
+ghost use Rattle.plan_expr.specs.Operands.{IsExpr};
+ghost use Rattle.plan_expr.specs.Exprs.{all_named_at};
 ghost use Rattle.plan_meaning.specs.Asked.{all_leaves};
 ghost use Rattle.plan_prune.specs.Prunes.{StandExprs};
 ghost use Rattle.plan_prune.specs.Steps.{selected_step};
@@ -13,7 +13,8 @@ ghost use Rattle.plan_prune.specs.Kept.{many_at, selected_at, names_at, is_some_
 use crate::push_down::exprs::{add_all_names, asked_exprs, with_typed};
 use crate::push_down::step::Step;
 use plan_core::{Arena, Items, Names, Node, ProjectionOptions, Schema, TryClone};
-use plan_ir::{AExpr, ExprIR, IR};
+use plan_expr::{AExpr, ExprIR};
+use plan_ir::IR;
 use plan_meaning::{all_scalar, is_scalar};
 use std::alloc::{AllocError, Global};
 

@@ -1,7 +1,7 @@
 //! What pruning does at a node before its input is pruned, and after: each node kind has its own rule, and these two find it.
 ghost use Rattle.std.specs.Prelude.{◌≡◌, ◌<◌, ◌≤◌, List, IfOk, OnOk, length};
 ghost use Rattle.plan_tree.specs.Stands.{Trees, StandsOnce};
-ghost use Rattle.plan_ir.specs.declared.expr.AExpr.{AExpr};
+ghost use Rattle.plan_expr.specs.declared.aexpr.AExpr.{AExpr};
 ghost use Rattle.plan_ir.specs.declared.ir.IR.{IR};
 ghost use Rattle.plan_ir.specs.Parts.{inputs_of, plan_shape, roots_of};
 ghost use Rattle.plan_prune.specs.Prunes.{StandExprs};
@@ -9,7 +9,8 @@ ghost use Rattle.plan_prune.specs.Steps.{put_back, step_of};
 
 use crate::push_down::{filter, frame_scan, hstack, projection, scan, select, slice};
 use plan_core::{Arena, Names, Node};
-use plan_ir::{AExpr, IR};
+use plan_expr::AExpr;
+use plan_ir::IR;
 use std::alloc::{AllocError, Global};
 
 /// What is to be done at a node that was taken.

@@ -1,7 +1,7 @@
 //! The columns that the plan at a number says it has: those that its node stores, else those of its input.
 ghost use Rattle.std.specs.Prelude.{◌≡◌, List, [], ◌∷◌};
 ghost use Rattle.plan_tree.specs.Stands.{Trees, StandsOnce};
-ghost use Rattle.plan_ir.specs.declared.expr.AExpr.{AExpr};
+ghost use Rattle.plan_expr.specs.declared.aexpr.AExpr.{AExpr};
 ghost use Rattle.plan_ir.specs.declared.ir.IR.{IR};
 ghost use Rattle.plan_ir.specs.Parts.{plan_shape};
 ghost use Rattle.plan_ir.specs.Plans.{bare, plans_at};

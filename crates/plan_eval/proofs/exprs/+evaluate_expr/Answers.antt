@@ -1,7 +1,7 @@
 use Rattle.std.proofs.Common.{◌∙◌, ap, ap₂, refl, sym, arith, Some}
-use Rattle.plan_ir.specs.Plans.{Expr}
-use Rattle.plan_ir.specs.declared.expr.AExpr.TheVariants.{Column, Literal, Alias, BinaryExpr}
-use Rattle.plan_ir.proofs.ExprLemmas.{expr_down, expr_open}
+use Rattle.plan_expr.specs.Exprs.{Expr}
+use Rattle.plan_expr.specs.declared.aexpr.AExpr.TheVariants.{Column, Literal, Alias, BinaryExpr}
+use Rattle.plan_expr.proofs.ExprLemmas.{expr_down, expr_open}
 use Rattle.plan_meaning.specs.Frames.{column_or}
 use Rattle.plan_meaning.specs.Meaning.{many, one, operated, spread, val}
 use Rattle.plan_eval.specs.Shown.{frame_of}

@@ -1,6 +1,6 @@
 use Rattle.std.proofs.Common.{◌≡◌, map, take}
 use Rattle.plan_core.specs.Columns.{with_types}
-use Rattle.plan_ir.specs.Plans.{all_named_at}
+use Rattle.plan_expr.specs.Exprs.{all_named_at}
 use Rattle.plan_meaning.specs.Frames.{with_columns}
 use Rattle.plan_meaning.specs.Steps.{made_columns}
 use Rattle.plan_table.specs.Tables.{types_of}

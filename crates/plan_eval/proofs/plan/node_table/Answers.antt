@@ -1,9 +1,10 @@
 use Rattle.std.proofs.Common.{[], ◌∷◌, All, SFits, w64, sym, subst, rules}
 use Rattle.std.proofs.Math.Facts.{to_z-of_z}
 use Rattle.std.specs.Prelude.{ℤ, IfOk}
-use Rattle.plan_ir.specs.declared.expr.ExprIR.{ExprIR}
+use Rattle.plan_expr.specs.declared.expr_ir.ExprIR.{ExprIR}
 use Rattle.plan_ir.specs.declared.ir.IR.{IR}
-use Rattle.plan_ir.specs.Parts.{IsExpr, exprs_of}
+use Rattle.plan_expr.specs.Operands.{IsExpr}
+use Rattle.plan_ir.specs.Parts.{exprs_of}
 use Rattle.plan_ir.specs.Plans.{op_at, slice}
 use Rattle.plan_eval.specs.Given.{Gives}
 use Rattle.plan_eval.proofs.plan.node_table.Goals as goal

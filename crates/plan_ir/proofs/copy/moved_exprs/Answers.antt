@@ -1,5 +1,5 @@
 use Rattle.std.proofs.Common.{◌∙◌, ◌++◌, ◌∷◌, [], ap₂, sym, List}
-use Rattle.plan_ir.specs.declared.expr.AExpr.{AExpr}
+use Rattle.plan_expr.specs.declared.aexpr.AExpr.{AExpr}
 use Rattle.plan_ir.specs.Moved.{moved_expr}
 use Rattle.plan_ir.proofs.EntryLemmas.{map-entries_at-more}
 use Rattle.plan_ir.proofs.copy.moved_exprs.Goals as goal

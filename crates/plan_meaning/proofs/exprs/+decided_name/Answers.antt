@@ -1,7 +1,7 @@
 use Rattle.std.proofs.Common.{◌≡◌, ◌∙◌, ap, refl, arith, Some}
-use Rattle.plan_ir.specs.declared.expr.AExpr.TheVariants.{BinaryExpr}
-use Rattle.plan_ir.proofs.ExprLemmas.{expr_down}
-use Rattle.plan_ir.specs.Plans.{expr_at}
+use Rattle.plan_expr.specs.declared.aexpr.AExpr.TheVariants.{BinaryExpr}
+use Rattle.plan_expr.proofs.ExprLemmas.{expr_down}
+use Rattle.plan_expr.specs.Exprs.{expr_at}
 use Rattle.plan_meaning.specs.Exprs.{Naming, or_naming, unnamed, naming}
 use Rattle.plan_meaning.specs.Seen.{naming_seen}
 use Rattle.plan_meaning.specs.declared.exprs.Naming.{Naming as Found}

@@ -1,6 +1,6 @@
 use Rattle.std.proofs.Common.{◌≡◌, ◌∙◌, ap, ap₂, refl, arith, rules, Some}
-use Rattle.plan_ir.specs.declared.expr.AExpr.TheVariants.{Alias, BinaryExpr}
-use Rattle.plan_ir.proofs.ExprLemmas.{expr_down}
+use Rattle.plan_expr.specs.declared.aexpr.AExpr.TheVariants.{Alias, BinaryExpr}
+use Rattle.plan_expr.proofs.ExprLemmas.{expr_down}
 use Rattle.plan_meaning.specs.Exprs.{operator_type}
 use Rattle.plan_meaning.proofs.ExprSteps.{type-column, type-literal, type-alias, type-binary}
 use Rattle.plan_meaning.proofs.exprs.+expr_type.Goals as goal

@@ -1,7 +1,7 @@
 use Rattle.std.proofs.Common.{◌≡◌, ◌∙◌, ◌&&◌, ap, refl, sym, arith, rules, Some, Bool, true, false}
-use Rattle.plan_ir.specs.declared.expr.AExpr.TheVariants.{Alias, BinaryExpr}
-use Rattle.plan_ir.proofs.ExprLemmas.{expr_down}
-use Rattle.plan_ir.specs.Plans.{expr_at}
+use Rattle.plan_expr.specs.declared.aexpr.AExpr.TheVariants.{Alias, BinaryExpr}
+use Rattle.plan_expr.proofs.ExprLemmas.{expr_down}
+use Rattle.plan_expr.specs.Exprs.{expr_at}
 use Rattle.plan_meaning.specs.Exprs.{leaves, all_known}
 use Rattle.plan_meaning.proofs.ExprSteps.{known-column, known-literal, known-alias, known-binary}
 use Rattle.plan_meaning.proofs.exprs.+reads_only.Goals as goal

@@ -1,5 +1,5 @@
 use Rattle.plan_tree.proofs.TreeLemmas.{height_at}
-use Rattle.plan_ir.specs.Parts.{expr_shape}
+use Rattle.plan_expr.specs.Operands.{expr_shape}
 use Rattle.plan_meaning.proofs.exprs.+reads_only.Given as goal
 
 abbrev pub decreases-reads_only : goal.decreases-reads_only

@@ -1,5 +1,5 @@
 use Rattle.std.proofs.Common.{◌≡◌, take, true}
-use Rattle.plan_ir.specs.Plans.{all_named_at}
+use Rattle.plan_expr.specs.Exprs.{all_named_at}
 use Rattle.plan_meaning.specs.Steps.{all_scalar}
 use Rattle.plan_meaning.proofs.exprs.all_scalar.Given as goal
 

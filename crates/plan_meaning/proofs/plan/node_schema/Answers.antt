@@ -1,6 +1,7 @@
 use Rattle.std.proofs.Common.{◌∙◌, All, List, ap, sym, subst}
-use Rattle.plan_ir.specs.declared.expr.ExprIR.{ExprIR}
-use Rattle.plan_ir.specs.Parts.{exprs_of, IsExpr}
+use Rattle.plan_expr.specs.declared.expr_ir.ExprIR.{ExprIR}
+use Rattle.plan_expr.specs.Operands.{IsExpr}
+use Rattle.plan_ir.specs.Parts.{exprs_of}
 use Rattle.plan_meaning.proofs.plan.node_schema.Goals as goal
 
 pub select_schema-requires : goal.select_schema-requires

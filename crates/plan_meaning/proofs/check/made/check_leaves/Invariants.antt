@@ -1,5 +1,5 @@
 use Rattle.plan_core.specs.declared.error.PolarsError.TheVariants.{SchemaFieldNotFound}
-use Rattle.plan_ir.specs.Plans.{expr_at}
+use Rattle.plan_expr.specs.Exprs.{expr_at}
 use Rattle.plan_meaning.specs.Exprs.{leaves, all_known}
 use Rattle.plan_meaning.proofs.CheckLemmas.{Left}
 use Rattle.plan_meaning.proofs.check.made.check_leaves.Given as goal

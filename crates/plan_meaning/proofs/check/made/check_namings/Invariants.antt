@@ -1,5 +1,5 @@
 use Rattle.plan_core.specs.declared.error.PolarsError.TheVariants.{SchemaMismatch}
-use Rattle.plan_ir.specs.Plans.{expr_at}
+use Rattle.plan_expr.specs.Exprs.{expr_at}
 use Rattle.plan_meaning.specs.Exprs.{naming, may_be_named}
 use Rattle.plan_meaning.proofs.CheckLemmas.{Left}
 use Rattle.plan_meaning.proofs.check.made.check_namings.Given as goal

@@ -1,6 +1,6 @@
 use Rattle.std.proofs.Common.{is_some}
 use Rattle.plan_core.specs.declared.error.PolarsError.TheVariants.{SchemaMismatch}
-use Rattle.plan_ir.specs.Plans.{expr_at}
+use Rattle.plan_expr.specs.Exprs.{expr_at}
 use Rattle.plan_meaning.specs.Exprs.{expr_type}
 use Rattle.plan_meaning.proofs.CheckLemmas.{Left}
 use Rattle.plan_meaning.proofs.check.made.check_types.Given as goal

@@ -2,7 +2,7 @@ use Rattle.std.proofs.Common.{◌≡◌, ◌∙◌, ap, ap₂, unwrap_or, Option
 use Rattle.plan_core.specs.Columns.{Columns, with_type}
 use Rattle.plan_core.specs.declared.data_type.DataType.{DataType}
 use Rattle.plan_core.specs.declared.data_type.DataType.TheVariants.{Int64}
-use Rattle.plan_ir.specs.Plans.{expr_at}
+use Rattle.plan_expr.specs.Exprs.{expr_at}
 use Rattle.plan_meaning.specs.Exprs.{Name, name_of, expr_type}
 use Rattle.plan_meaning.proofs.MadeLemmas.{stands_here, item_here, made-next}
 use Rattle.plan_meaning.proofs.check.made.made_schema.Goals as goal

@@ -1,5 +1,5 @@
 use Rattle.std.proofs.Common.{◌≡◌, take}
-use Rattle.plan_ir.specs.Plans.{all_named_at}
+use Rattle.plan_expr.specs.Exprs.{all_named_at}
 use Rattle.plan_meaning.specs.Typing.{made_schema}
 use Rattle.plan_meaning.proofs.check.made.made_schema.Given as goal
 

@@ -1,8 +1,8 @@
 use Rattle.std.proofs.Common.{◌∙◌, ap, refl, arith, Some, List, [], ◌∷◌}
 use Rattle.plan_core.specs.Names.{with_names}
-use Rattle.plan_ir.specs.declared.expr.AExpr.TheVariants.{Alias, BinaryExpr}
-use Rattle.plan_ir.specs.Plans.{expr_at}
-use Rattle.plan_ir.proofs.ExprLemmas.{expr_down}
+use Rattle.plan_expr.specs.declared.aexpr.AExpr.TheVariants.{Alias, BinaryExpr}
+use Rattle.plan_expr.specs.Exprs.{expr_at}
+use Rattle.plan_expr.proofs.ExprLemmas.{expr_down}
 use Rattle.plan_meaning.specs.Exprs.{Name, leaves}
 use Rattle.plan_prune.proofs.PruneLemmas.{adds-column, adds-literal, adds-alias, adds-binary}
 use Rattle.plan_prune.proofs.push_down.exprs.+add_names.Goals as goal

@@ -1,5 +1,5 @@
 use Rattle.plan_tree.proofs.TreeLemmas.{height_at}
-use Rattle.plan_ir.specs.Parts.{expr_shape}
+use Rattle.plan_expr.specs.Operands.{expr_shape}
 use Rattle.plan_prune.proofs.push_down.exprs.+add_names.Given as goal
 
 abbrev pub decreases-add_names : goal.decreases-add_names

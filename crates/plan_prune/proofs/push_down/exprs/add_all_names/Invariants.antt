@@ -1,6 +1,6 @@
 use Rattle.std.proofs.Common.{◌≡◌, take}
 use Rattle.plan_core.specs.Names.{with_names}
-use Rattle.plan_ir.specs.Plans.{all_named_at}
+use Rattle.plan_expr.specs.Exprs.{all_named_at}
 use Rattle.plan_meaning.specs.Asked.{all_leaves}
 use Rattle.plan_prune.proofs.push_down.exprs.add_all_names.Given as goal
 

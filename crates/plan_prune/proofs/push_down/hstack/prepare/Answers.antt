@@ -1,8 +1,8 @@
 use Rattle.std.proofs.Common.{◌∙◌, ap, ap₂, sym, subst, All, List}
-use Rattle.plan_ir.specs.declared.expr.ExprIR.{ExprIR}
+use Rattle.plan_expr.specs.declared.expr_ir.ExprIR.{ExprIR}
 use Rattle.plan_ir.specs.declared.ir.IR.TheVariants.{HStack}
-use Rattle.plan_ir.specs.Parts.{IsExpr}
-use Rattle.plan_ir.specs.Plans.{all_named_at}
+use Rattle.plan_expr.specs.Operands.{IsExpr}
+use Rattle.plan_expr.specs.Exprs.{all_named_at}
 use Rattle.plan_meaning.specs.Exprs.{Name}
 use Rattle.plan_prune.specs.declared.push_down.step.Step.TheVariants.{Over}
 use Rattle.plan_prune.specs.Kept.{asks_after, stacked_at}

@@ -1,6 +1,6 @@
 use Rattle.std.proofs.Common.{◌∙◌, ap, arith, List, [], ◌∷◌}
 use Rattle.plan_core.specs.Columns.{Columns}
-use Rattle.plan_ir.specs.declared.expr.ExprIR.{ExprIR}
+use Rattle.plan_expr.specs.declared.expr_ir.ExprIR.{ExprIR}
 use Rattle.plan_ir.specs.Plans.{bare, plans_at}
 use Rattle.plan_meaning.specs.Typing.{first_schema}
 use Rattle.plan_prune.specs.Stored.{stored_all}

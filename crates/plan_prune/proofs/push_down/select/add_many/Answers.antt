@@ -1,5 +1,5 @@
 use Rattle.std.proofs.Common.{◌∙◌, sym, ap, ap₂, List, ◌∷◌, ◌++◌, []}
-use Rattle.plan_ir.specs.declared.expr.ExprIR.{ExprIR}
+use Rattle.plan_expr.specs.declared.expr_ir.ExprIR.{ExprIR}
 use Rattle.plan_meaning.proofs.ScalarExprs.{stands_here, item_here}
 use Rattle.plan_prune.proofs.ExprWalks.{many-next, many-found}
 use Rattle.plan_prune.proofs.push_down.select.add_many.Goals as goal

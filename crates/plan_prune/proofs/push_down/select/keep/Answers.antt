@@ -1,6 +1,6 @@
 use Rattle.std.proofs.Common.{◌≡◌, ◌∙◌, ap, sym, All, List, subst}
-use Rattle.plan_ir.specs.declared.expr.ExprIR.{ExprIR}
-use Rattle.plan_ir.specs.Parts.{IsExpr}
+use Rattle.plan_expr.specs.declared.expr_ir.ExprIR.{ExprIR}
+use Rattle.plan_expr.specs.Operands.{IsExpr}
 use Rattle.plan_prune.specs.Kept.{asked_exprs}
 use Rattle.plan_prune.proofs.KeptLemmas.{asked_stand}
 use Rattle.plan_prune.proofs.push_down.select.keep.Goals as goal

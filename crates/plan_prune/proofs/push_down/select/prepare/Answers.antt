@@ -1,6 +1,6 @@
 use Rattle.std.proofs.Common.{sym, subst, All, List}
-use Rattle.plan_ir.specs.declared.expr.ExprIR.{ExprIR}
-use Rattle.plan_ir.specs.Parts.{IsExpr}
+use Rattle.plan_expr.specs.declared.expr_ir.ExprIR.{ExprIR}
+use Rattle.plan_expr.specs.Operands.{IsExpr}
 use Rattle.plan_prune.proofs.KeptLemmas.{each_stands, selected_stand}
 use Rattle.plan_prune.proofs.push_down.select.prepare.Goals as goal
 

@@ -1,5 +1,5 @@
 use Rattle.std.proofs.Common.{◌≡◌, sym, subst, List, OnOk}
-use Rattle.plan_ir.specs.declared.expr.AExpr.{AExpr}
+use Rattle.plan_expr.specs.declared.aexpr.AExpr.{AExpr}
 use Rattle.plan_ir.specs.declared.ir.IR.{IR}
 use Rattle.plan_prune.specs.Steps.{put_back}
 use Rattle.plan_prune.proofs.push_down.step.put.Goals as goal
