@@ -99,6 +99,10 @@ fn levels_of_nodes_come_after_numbers_and_before_other_faults(rt: HostRuntime) -
     refused(&rt, alloc, &nodes, "", "SchemaMismatch", 255, 0)?;
     let nodes = slices(alloc, 256, bad)?;
     case(&rt, alloc, &nodes, "", 7, "")?;
+    let filter = r#"{"op":"Filter","input":257,"predicate":[0,"alias","e"]},"#;
+    let filtered = format!(in alloc; "{filter}{FRAME}")?;
+    let nodes = slices(alloc, 256, &filtered)?;
+    case(&rt, alloc, &nodes, r#"{"name":"z","op":"Column"}"#, 7, "")?;
     let nodes = slices(alloc, 256, r#"{"op":"Invalid"}"#)?;
     refused(&rt, alloc, &nodes, "", "ComputeError", 256, 0)
 }

@@ -18,11 +18,17 @@ fn levels_of<T: Entry>(alloc: Global, arena: &Arena<T>, roots: &[Node]) -> Resul
         → d ≡ levels t) }
 {
     let mut deepest: usize = 0;
+    let mut inputs = Items::new(alloc);
     let mut pending = Items::new(alloc);
     stack_numbers(roots, 1, &mut pending)?;
     while let Some(step) = pending.pop() {
         deepest = deepest.max(step.mark);
-        stack_inputs(alloc, arena.get(step.node), step.mark + 1, &mut pending)?;
+        stack_inputs(
+            arena.get(step.node),
+            step.mark + 1,
+            &mut inputs,
+            &mut pending,
+        )?;
     }
     Ok(deepest)
 }

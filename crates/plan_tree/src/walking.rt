@@ -1,5 +1,5 @@
 //! Walks over what numbers of an arena reach. They keep a stack of their own, so that no depth exhausts the machine's.
-ghost use Rattle.std.specs.Prelude.{◌≡◌, ◌++◌, ◌↔◌, IfOk, IfSome, OnOk, MatchOption, None, Some, nat_eq, reverse, true};
+ghost use Rattle.std.specs.Prelude.{◌≡◌, ◌++◌, ◌↔◌, [], IfOk, IfSome, OnOk, MatchOption, None, Some, nat_eq, reverse, true};
 ghost use Rattle.std.specs.HashSet.{contains, Updates};
 ghost use Rattle.plan_tree.specs.Rose.{labels};
 ghost use Rattle.plan_tree.specs.Stands.{shape, Trees, StandsOnce};
@@ -76,18 +76,23 @@ pub(crate) fn stack_numbers<W: Copy>(
     Ok(())
 }
 
-/// Appends steps to the inputs of an entry, the first one last.
+/// Appends steps to the inputs of an entry, the first one last. `inputs` is room that is used over and over; nothing is
+/// in it before and after.
 pub(crate) fn stack_inputs<T: Entry, W: Copy>(
-    alloc: Global,
     entry: &T,
     mark: W,
+    inputs: &mut Items<Node>,
     pending: &mut Items<Step<W>>,
 ) -> Result<(), AllocError>
-    ensures { OnOk result (pending.new ≡ pending.old ++ reverse (steps_to mark (T.inputs entry.now))) }
+    requires { inputs.old ≡ [] }
+    ensures stacked { OnOk result (pending.new ≡ pending.old ++ reverse (steps_to mark (T.inputs entry.now))) }
+    ensures emptied { OnOk result (inputs.new ≡ []) }
 {
-    let mut inputs = Items::new(alloc);
-    entry.copy_inputs(&mut inputs)?;
-    stack_numbers(inputs.as_slice(), mark, pending)
+    entry.copy_inputs(inputs)?;
+    while let Some(node) = inputs.pop() {
+        pending.push(Step { node, mark })?;
+    }
+    Ok(())
 }
 
 /// Walks over what the roots reach, in order, up to the first number that can't be part of trees. It has no fault
@@ -107,6 +112,7 @@ pub fn walk<T: Entry, W: Copy>(
 {
     let mut met = HashSet::new(alloc);
     let mut listed = Items::new(alloc);
+    let mut inputs = Items::new(alloc);
     let mut pending = Items::new(alloc);
     stack_steps(roots, &mut pending)?;
     while let Some(step) = pending.pop() {
@@ -117,7 +123,7 @@ pub fn walk<T: Entry, W: Copy>(
             });
         };
         listed.push(step.node)?;
-        stack_inputs(alloc, entry, step.mark, &mut pending)?;
+        stack_inputs(entry, step.mark, &mut inputs, &mut pending)?;
     }
     Ok(Walked {
         listed,

@@ -7,22 +7,22 @@ use Rattle.plan_tree.specs.Stands.{shape}
 use Rattle.plan_tree.proofs.levels.levels_of.Goals as goal
 
 pub loop-step-init : goal.loop-step-init
-loop-step-init g c = rw (c.in_ok-stack_numbers.ensures, c.new-pending.ensures) (Deep-init (shape g.T.Entry.inputs g.T.Entry.bad) c.args.arena.now c.args.roots.now c.requires)
+loop-step-init g c = (rw (c.in_ok-stack_numbers.ensures, c.new-pending.ensures) (Deep-init (shape g.T.Entry.inputs g.T.Entry.bad) c.args.arena.now c.args.roots.now c.requires), c.new-inputs.ensures)
 
 pub get-requires : goal.get-requires
-get-requires g c = (on_top (shape g.T.Entry.inputs g.T.Entry.bad) c.args.arena.now c.args.roots.now c.loop-step.deepest c.in-Some.step c.loop-step.pending c.pop.new.self c.in-Some.ensures c.loop-step.invariant).0
+get-requires g c = (on_top (shape g.T.Entry.inputs g.T.Entry.bad) c.args.arena.now c.args.roots.now c.loop-step.deepest c.in-Some.step c.loop-step.pending c.pop.new.self c.in-Some.ensures c.loop-step.invariant.0).0
 
 pub overflow_add-step : goal.overflow_add-step
 overflow_add-step g c =
-    let low = on_top (shape g.T.Entry.inputs g.T.Entry.bad) c.args.arena.now c.args.roots.now c.loop-step.deepest c.in-Some.step c.loop-step.pending c.pop.new.self c.in-Some.ensures c.loop-step.invariant in
+    let low = on_top (shape g.T.Entry.inputs g.T.Entry.bad) c.args.arena.now c.args.roots.now c.loop-step.deepest c.in-Some.step c.loop-step.pending c.pop.new.self c.in-Some.ensures c.loop-step.invariant.0 in
     let fits = levels-fit (shape g.T.Entry.inputs g.T.Entry.bad) c.args.arena.now c.args.roots.now c.requires in
     omega (arith, c.get.ensures.small, low.1, fits)
 
 pub loop-step-smaller : goal.loop-step-smaller
-loop-step-smaller g c = (turn (shape g.T.Entry.inputs g.T.Entry.bad) c.args.arena.now c.args.roots.now c.loop-step.deepest c.in-Some.step c.loop-step.pending c.pop.new.self c.stack_inputs.new.pending c.get.result.now c.in-Some.ensures c.loop-step.invariant c.get.ensures.entry c.in_ok-stack_inputs.ensures).falls
+loop-step-smaller g c = (turn (shape g.T.Entry.inputs g.T.Entry.bad) c.args.arena.now c.args.roots.now c.loop-step.deepest c.in-Some.step c.loop-step.pending c.pop.new.self c.stack_inputs.new.pending c.get.result.now c.in-Some.ensures c.loop-step.invariant.0 c.get.ensures.entry c.in_ok-stack_inputs.ensures.stacked).falls
 
 pub loop-step-preserved : goal.loop-step-preserved
-loop-step-preserved g c = rw c.max-deepest.ensures (turn (shape g.T.Entry.inputs g.T.Entry.bad) c.args.arena.now c.args.roots.now c.loop-step.deepest c.in-Some.step c.loop-step.pending c.pop.new.self c.stack_inputs.new.pending c.get.result.now c.in-Some.ensures c.loop-step.invariant c.get.ensures.entry c.in_ok-stack_inputs.ensures).next
+loop-step-preserved g c = (rw c.max-deepest.ensures (turn (shape g.T.Entry.inputs g.T.Entry.bad) c.args.arena.now c.args.roots.now c.loop-step.deepest c.in-Some.step c.loop-step.pending c.pop.new.self c.stack_inputs.new.pending c.get.result.now c.in-Some.ensures c.loop-step.invariant.0 c.get.ensures.entry c.in_ok-stack_inputs.ensures.stacked).next, c.in_ok-stack_inputs.ensures.emptied)
 
 pub returns : goal.returns
-returns g c = λ t h. Deep-end (shape g.T.Entry.inputs g.T.Entry.bad) c.args.arena.now c.args.roots.now c.loop-step.deepest (rw c.in_default.ensures.0 at c.loop-step.invariant) ∙ ap levels (trees_at-is (shape g.T.Entry.inputs g.T.Entry.bad) c.args.arena.now c.args.roots.now t h)
+returns g c = λ t h. Deep-end (shape g.T.Entry.inputs g.T.Entry.bad) c.args.arena.now c.args.roots.now c.loop-step.deepest (rw c.in_default.ensures.0 at c.loop-step.invariant.0) ∙ ap levels (trees_at-is (shape g.T.Entry.inputs g.T.Entry.bad) c.args.arena.now c.args.roots.now t h)
