@@ -10,7 +10,8 @@ use Rattle.plan_core.proofs.ColumnLemmas.{flip_false}
 use Rattle.plan_expr.specs.declared.aexpr.AExpr.{AExpr}
 use Rattle.plan_expr.specs.declared.expr_ir.ExprIR.{ExprIR}
 use Rattle.plan_expr.specs.Exprs.{Named, all_named_at, expr_at, named_at}
-use Rattle.plan_meaning.specs.Exprs.{Name, name_of}
+use Rattle.plan_expr.specs.Leaves.{Name}
+use Rattle.plan_expr.specs.Naming.{name_of}
 use Rattle.plan_meaning.specs.Frames.{Column, Frame}
 use Rattle.plan_meaning.specs.Frames as frames
 use Rattle.plan_meaning.specs.Meaning.{filled, val}

@@ -16,7 +16,7 @@ use Rattle.plan_ir.specs.Parts.{inputs_of, IsPlan}
 use Rattle.plan_ir.specs.Plans.{Op, bare, op_at, plans_at}
 use Rattle.plan_ir.proofs.PlanLemmas.{plan_open}
 use Rattle.plan_meaning.specs.PlanAt.{one_plan}
-use Rattle.plan_meaning.specs.Exprs.{Name}
+use Rattle.plan_expr.specs.Leaves.{Name}
 use Rattle.plan_meaning.specs.Typing.{file_columns}
 use Rattle.plan_meaning.specs.Frames.{Frame}
 use Rattle.plan_meaning.specs.Contents.{Contents, Fits, FitsAll, FitsAt, frame_at, same_source}

@@ -8,7 +8,7 @@ use Rattle.plan_core.specs.declared.data_type.DataType.TheVariants as types
 use Rattle.plan_ir.specs.declared.scan.FileInfo.{FileInfo}
 use Rattle.plan_ir.specs.declared.scan.ScanSources.TheVariants.{Paths}
 use Rattle.plan_ir.specs.Plans.{Op, slice, filter, scan, frame_scan, simple_projection, select, hstack, invalid}
-use Rattle.plan_meaning.specs.Exprs.{Name}
+use Rattle.plan_expr.specs.Leaves.{Name}
 use Rattle.plan_meaning.specs.Typing.{file_columns}
 use Rattle.plan_meaning.specs.Values.{Value, AllOf}
 use Rattle.plan_meaning.specs.Values as spec

@@ -9,7 +9,7 @@ use Rattle.plan_core.proofs.SameLemmas.{same_columns-Decides}
 use Rattle.plan_expr.specs.declared.aexpr.AExpr.{AExpr}
 use Rattle.plan_expr.specs.declared.expr_ir.ExprIR.{ExprIR}
 use Rattle.plan_expr.specs.Exprs.{Named, all_named_at}
-use Rattle.plan_meaning.specs.Exprs.{name_of}
+use Rattle.plan_expr.specs.Naming.{name_of}
 use Rattle.plan_meaning.specs.Typing.{made_column, made_schema, out_names}
 use Rattle.plan_meaning.proofs.CheckParts.{MadeGood}
 use Rattle.plan_meaning.proofs.KeptExprs.{new_distinct}

@@ -7,7 +7,7 @@ use Rattle.plan_table.specs.declared.value.AnyValue.{AnyValue}
 use Rattle.plan_table.specs.declared.column.Column.{Column as Typed}
 use Rattle.plan_table.specs.declared.table.Table.{Table}
 use Rattle.plan_table.specs.Tables.{column_of}
-use Rattle.plan_meaning.specs.Exprs.{Name}
+use Rattle.plan_expr.specs.Leaves.{Name}
 use Rattle.plan_meaning.specs.Values.{Value, null}
 use Rattle.plan_meaning.specs.Frames.{column_or, found}
 use Rattle.plan_eval.specs.Shown.{value_of, values_of, columns_shown, frame_of}

@@ -3,7 +3,7 @@ use Rattle.std.proofs.Common.{◌≡◌, ◌++◌, ◌+◌, ◌<◌, length, tak
 use Rattle.std.specs.Borrow.{Bor}
 use Rattle.std.proofs.lemmas.List.{map-append, take_more}
 use Rattle.plan_table.specs.declared.table.Table.{Table}
-use Rattle.plan_meaning.specs.Exprs.{Name}
+use Rattle.plan_expr.specs.Leaves.{Name}
 use Rattle.plan_meaning.specs.Values.{Value}
 use Rattle.plan_meaning.specs.Frames.{Frame, Column, column_or, cut, table_columns}
 use Rattle.plan_meaning.specs.Contents.{stack, stacked, total_height, frame_or, no_frame, path}

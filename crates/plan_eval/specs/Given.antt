@@ -4,7 +4,7 @@ use Rattle.plan_core.specs.Columns.{Columns, type_of}
 use Rattle.plan_core.specs.declared.data_type.DataType.{DataType}
 use Rattle.plan_core.specs.declared.data_type.DataType.TheVariants.{Int64}
 use Rattle.plan_expr.specs.declared.expr_ir.ExprIR.{ExprIR}
-use Rattle.plan_meaning.specs.Exprs.{name_of}
+use Rattle.plan_expr.specs.Naming.{name_of}
 use Rattle.plan_tree.specs.Rose.{Roses}
 use Rattle.plan_ir.specs.Plans.{Op, bare}
 use Rattle.plan_meaning.specs.Meaning.{Cell, one, many}

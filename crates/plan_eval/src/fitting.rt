@@ -137,7 +137,7 @@ fn are_met(node: Node, lp: &Arena<IR>, tables: &Tables) -> bool
 /// each frame that is handed in by number one with the columns of its scan, of their types. Further columns and tables may
 /// be there. It takes no memory.
 pub fn fits(root: Node, lp: &Arena<IR>, tables: &Tables) -> bool
-    requires { (t : Trees IRType) × StandsOnce plan_shape lp.now (root ∷ []) t }
+    requires { (ex : List AExpr) × IsPlan lp.now ex root }
     ensures fits { (ex : List AExpr) → IsPlan lp.now ex root → IsTrue result ↔ TablesFit tables.now (plans_at lp.now ex (root ∷ [])) }
     ensures frames { (ex : List AExpr) → IsPlan lp.now ex root → IsTrue result → Fits (contents_of tables.now) (plan_at lp.now ex root) }
 {

@@ -3,7 +3,7 @@ ghost use Rattle.std.specs.Prelude.{◌≡◌, All, IfOk, is_some, map, true};
 ghost use Rattle.plan_core.specs.Columns.{type_of, with_types};
 ghost use Rattle.plan_expr.specs.Operands.{IsExpr};
 ghost use Rattle.plan_expr.specs.Exprs.{all_named_at, expr_at};
-ghost use Rattle.plan_meaning.specs.Exprs.{name_of};
+ghost use Rattle.plan_expr.specs.Naming.{name_of};
 ghost use Rattle.plan_meaning.specs.Meaning.{filled as filled_with, val};
 ghost use Rattle.plan_meaning.specs.Steps.{made as made_of};
 ghost use Rattle.plan_table.specs.Tables.{types_of};
@@ -12,8 +12,7 @@ ghost use Rattle.plan_eval.specs.Shown.{column_shown, columns_shown, frame_of};
 
 use crate::exprs::{evaluate_expr, filled};
 use plan_core::{Arena, DataType, PlSmallStr, Schema};
-use plan_expr::{AExpr, ExprIR};
-use plan_meaning::output_name;
+use plan_expr::{AExpr, ExprIR, output_name};
 use plan_table::{Column, Columns, Table};
 use std::alloc::{AllocError, Global};
 

@@ -1,3 +1,8 @@
 -- The definitions that contracts cite.
 pub mod Operands
 pub mod Exprs
+pub mod Leaves
+pub mod Naming
+pub mod Scalars
+pub mod Walks
+pub mod Refusals

@@ -1,5 +1,5 @@
 //! Expressions, in an arena of their own.
-ghost use Rattle.std.specs.Prelude.{◌≡◌, length, IfOk};
+ghost use Rattle.std.specs.Prelude.{◌≡◌, length, slice_get, IfOk};
 ghost use Rattle.plan_expr.specs.Operands.{operands_of, over_operands};
 
 use crate::literal::LiteralValue;
@@ -74,6 +74,18 @@ impl Entry for AExpr {
 }
 
 impl AExpr {
+    /// The operand of a place, counted from 0 in walk order, if there are so many.
+    pub fn operand(&self, place: usize) -> Option<Node>
+        ensures { result ≡ slice_get (operands_of self.now) place }
+    {
+        match (self, place) {
+            (AExpr::Alias(input, _), 0) => Some(*input),
+            (AExpr::BinaryExpr { left, .. }, 0) => Some(*left),
+            (AExpr::BinaryExpr { right, .. }, 1) => Some(*right),
+            _ => None,
+        }
+    }
+
     /// A copy over other operands, as many as the expression has. Refuses for want of memory alone.
     pub fn with_operands(&self, alloc: Global, operands: &[Node]) -> Result<AExpr, AllocError>
         requires { length operands.now ≡ length (operands_of self.now) }

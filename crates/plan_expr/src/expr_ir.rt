@@ -1,7 +1,15 @@
 //! Expressions with the names under which they are put out.
-ghost use Rattle.std.specs.Prelude.{◌≡◌, IfOk};
+ghost use Rattle.std.specs.Prelude.{◌≡◌, ◌↔◌, Some, IfOk, IfErr, IfSome, IfNone, IsTrue};
+ghost use Rattle.plan_expr.specs.declared.expr_ir.OutputName.TheVariants.{None as Unnamed, Alias as Aliased};
+ghost use Rattle.plan_expr.specs.Exprs.{expr_at};
+ghost use Rattle.plan_expr.specs.Leaves.{Name};
+ghost use Rattle.plan_expr.specs.Naming.{name_of, naming, own_output_name};
+ghost use Rattle.plan_expr.specs.Operands.{IsExpr};
+ghost use Rattle.plan_expr.specs.Refusals.{RefusesNone};
 
-use plan_core::{Node, PlSmallStr, TryClone};
+use crate::aexpr::AExpr;
+use crate::names::{Naming, decided_name};
+use plan_core::{Arena, Node, PlSmallStr, PolarsResult, TryClone};
 use std::alloc::{AllocError, Global};
 
 /// The name under which an expression is put out, and where it comes from.
@@ -46,6 +54,66 @@ impl ExprIR {
         ensures name { result.output_name ≡ output_name }
     {
         ExprIR { node, output_name }
+    }
+
+    /// The expression at a number, under the name that it gives itself: that of its first column or alias in walk order,
+    /// or `literal` where a literal comes before them. It is a computation fault where nothing in it gives a name.
+    pub fn from_node(alloc: Global, node: Node, ex: &Arena<AExpr>) -> PolarsResult<ExprIR>
+        requires { IsExpr ex.now node }
+        ensures node { IfOk result (λ e. e.node ≡ node) }
+        ensures name { IfOk result (λ e. own_output_name (naming (expr_at ex.now node)) ≡ Some e.output_name) }
+        ensures fault { IfErr result (RefusesNone (own_output_name (naming (expr_at ex.now node)))) }
+    {
+        let output_name = match decided_name(node, ex) {
+            Naming::Column(name) => OutputName::ColumnLhs(PlSmallStr::new(alloc, name)?),
+            Naming::Literal => OutputName::LiteralLhs(PlSmallStr::new(alloc, "literal")?),
+            Naming::Alias(name) => OutputName::Alias(PlSmallStr::new(alloc, name)?),
+        };
+        Ok(ExprIR { node, output_name })
+    }
+
+    /// The number of the expression.
+    pub fn node(&self) -> Node
+        ensures { result ≡ self.now.node }
+    {
+        self.node
+    }
+
+    /// The name under which the expression is put out, and where it comes from.
+    pub fn output_name_inner(&self) -> &OutputName
+        ensures { result.now ≡ self.now.output_name }
+    {
+        &self.output_name
+    }
+
+    /// The name under which the expression is put out, which has one.
+    pub fn output_name(&self) -> &PlSmallStr
+        requires { self.now.output_name ≡ Unnamed → ⊥ }
+        ensures { result.now ≡ name_of self.now.output_name }
+    {
+        match &self.output_name {
+            OutputName::LiteralLhs(name) | OutputName::ColumnLhs(name) | OutputName::Alias(name) =>
+                name,
+            OutputName::None => unreachable!(),
+        }
+    }
+
+    /// Whether the expression has a name that was given.
+    pub fn has_alias(&self) -> bool
+        ensures { IsTrue result ↔ ((name : Name) × (self.now.output_name ≡ Aliased name)) }
+    {
+        matches!(self.output_name, OutputName::Alias(_))
+    }
+
+    /// The name that was given, if there is one.
+    pub fn get_alias(&self) -> Option<&PlSmallStr>
+        ensures given { IfSome result (λ name. self.now.output_name ≡ Aliased name.now) }
+        ensures none { IfNone result ((name : Name) → self.now.output_name ≡ Aliased name → ⊥) }
+    {
+        match &self.output_name {
+            OutputName::Alias(name) => Some(name),
+            _ => None,
+        }
     }
 }
 

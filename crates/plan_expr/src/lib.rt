@@ -3,10 +3,25 @@
 
 mod aexpr;
 mod expr_ir;
+mod find;
+mod iterator;
+mod leaves;
 mod literal;
+mod names;
 mod operator;
+mod scalar;
+#[cfg(test)]
+mod tests;
 
 pub use aexpr::AExpr;
 pub use expr_ir::{ExprIR, OutputName};
+pub use find::{has_aexpr, has_aexpr_literal};
+pub use iterator::{AExprIter, ArenaExprIter};
+pub use leaves::{
+    AExprLeafNames, aexpr_to_leaf_name, aexpr_to_leaf_names, aexpr_to_leaf_names_iter,
+    column_node_to_name,
+};
 pub use literal::LiteralValue;
+pub use names::{Naming, aexpr_output_name, decided_name, may_be_named, output_name};
 pub use operator::Operator;
+pub use scalar::is_scalar;

@@ -8,7 +8,7 @@ use Rattle.plan_core.specs.declared.error.PolarsError.TheVariants.{Duplicate}
 use Rattle.plan_core.specs.Names.{has}
 use Rattle.plan_core.specs.Columns.{Columns}
 use Rattle.plan_core.specs.declared.data_type.DataType.{DataType}
-use Rattle.plan_meaning.specs.Exprs.{Name}
+use Rattle.plan_expr.specs.Leaves.{Name}
 use Rattle.plan_meaning.specs.Typing.{Check, check, each, each_new, all_read, has_columns, first_fault, or_fault, at}
 
 -- the items from a place on

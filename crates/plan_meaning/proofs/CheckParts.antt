@@ -11,7 +11,9 @@ use Rattle.plan_core.specs.Names.{has}
 use Rattle.plan_ir.specs.declared.scan.FileInfo.{FileInfo}
 use Rattle.plan_expr.specs.Exprs.{Named}
 use Rattle.plan_core.specs.declared.data_type.DataType.{DataType}
-use Rattle.plan_meaning.specs.Exprs.{Name, leaves, all_known, expr_type, naming, may_be_named}
+use Rattle.plan_expr.specs.Leaves.{Name, leaves}
+use Rattle.plan_expr.specs.Naming.{naming, may_be_named}
+use Rattle.plan_meaning.specs.Exprs.{all_known, expr_type}
 use Rattle.plan_meaning.specs.Typing.{Check, each, each_new, names_or, columns_or, file_columns, put_out_checks, scan_name_checks, is_built_scan, scan_column_checks, scan_checks, frame_checks, is_known, is_column, is_empty, number_checks, made_schema, leaf_checks, type_checks, once_checks, stored_checks, naming_checks, made_checks, out_names, AllHold}
 use Rattle.plan_meaning.proofs.NameSets.{has_cons, has_first, has_later}
 

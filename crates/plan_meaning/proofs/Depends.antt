@@ -5,7 +5,8 @@ use Rattle.plan_core.specs.Columns.{Columns, type_of}
 use Rattle.plan_core.specs.declared.data_type.DataType.{DataType}
 use Rattle.plan_tree.specs.Rose.{Roses, rose, no_roses, more}
 use Rattle.plan_expr.specs.Exprs.{ExprOp, column as column_of, literal, alias, binary, Expr}
-use Rattle.plan_meaning.specs.Exprs.{Name, own_leaves, leaves, leaves_all, type_by, expr_type, expr_types}
+use Rattle.plan_expr.specs.Leaves.{Name, own_leaves, leaves, leaves_all}
+use Rattle.plan_meaning.specs.Exprs.{type_by, expr_type, expr_types}
 use Rattle.plan_meaning.specs.Frames.{Frame, Agree}
 use Rattle.plan_meaning.specs.Meaning.{many, Meaning, spread, operated, meaning, val, vals}
 use Rattle.plan_meaning.proofs.NameSets.{has_first, has_front, has_back}

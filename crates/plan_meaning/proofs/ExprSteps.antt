@@ -1,5 +1,5 @@
 -- What the checker's walk over an expression finds at each kind of expression.
-use Rattle.std.proofs.Common.{◌≡◌, Bool, true, false, ◌&&◌, List, [], ◌∷◌, ◌++◌, Option, Some, is_some, refl, sym, ap, ◌∙◌, codes, append-nil}
+use Rattle.std.proofs.Common.{◌≡◌, Bool, true, false, ◌&&◌, List, [], ◌∷◌, ◌++◌, Option, Some, is_some, refl, sym, ap, ◌∙◌, append-nil}
 use Rattle.std.specs.List.{slice_get}
 use Rattle.plan_core.specs.declared.arena.Node.{Node}
 use Rattle.plan_core.specs.Columns.{Columns, type_of}
@@ -11,7 +11,8 @@ use Rattle.plan_expr.specs.declared.operator.Operator.{Operator}
 use Rattle.plan_expr.specs.Operands.{IsExpr}
 use Rattle.plan_expr.specs.Exprs.{Expr, expr_at}
 use Rattle.plan_expr.proofs.ExprLemmas.{expr_open}
-use Rattle.plan_meaning.specs.Exprs.{Name, leaves, all_known, expr_type, literal_type, operator_type, by_column, by_literal, by_alias, unnamed, naming, or_naming}
+use Rattle.plan_expr.specs.Leaves.{Name, leaves}
+use Rattle.plan_meaning.specs.Exprs.{all_known, expr_type, literal_type, operator_type}
 
 and_true : (b : Bool) → (b && true) ≡ b
 and_true true = refl
@@ -53,15 +54,3 @@ module _ (ex : List AExpr) (n : Node) (h : IsExpr ex n) where
 
   pub type-binary : (l r : Node) (o : Operator) (s : Columns) → slice_get ex n.0 ≡ Some (BinaryExpr l o r) → operator_type o (expr_type (expr_at ex l) s) (expr_type (expr_at ex r) s) ≡ expr_type (expr_at ex n) s
   type-binary l r o s e = ap (λ (x : Expr). expr_type x s) (sym (expr_open ex n (BinaryExpr l o r) h e))
-
-  pub naming-column : (name : Name) → slice_get ex n.0 ≡ Some (Column name) → by_column name ≡ naming (expr_at ex n)
-  naming-column name e = ap naming (sym (expr_open ex n (Column name) h e))
-
-  pub naming-literal : (v : LiteralValue) → slice_get ex n.0 ≡ Some (Literal v) → by_literal (codes "literal") ≡ naming (expr_at ex n)
-  naming-literal v e = ap naming (sym (expr_open ex n (Literal v) h e))
-
-  pub naming-alias : (i : Node) (name : Name) → slice_get ex n.0 ≡ Some (Alias i name) → by_alias name ≡ naming (expr_at ex n)
-  naming-alias i name e = ap naming (sym (expr_open ex n (Alias i name) h e))
-
-  pub naming-binary : (l r : Node) (o : Operator) → slice_get ex n.0 ≡ Some (BinaryExpr l o r) → or_naming (naming (expr_at ex l)) (or_naming (naming (expr_at ex r)) unnamed) ≡ naming (expr_at ex n)
-  naming-binary l r o e = ap naming (sym (expr_open ex n (BinaryExpr l o r) h e))

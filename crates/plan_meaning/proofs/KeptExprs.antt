@@ -7,7 +7,10 @@ use Rattle.plan_core.specs.Columns.{Columns, type_of}
 use Rattle.plan_core.specs.Names.{has, AreDistinct}
 use Rattle.plan_core.proofs.ColumnLemmas.{flip_false}
 use Rattle.plan_expr.specs.Exprs.{Named}
-use Rattle.plan_meaning.specs.Exprs.{Name, name_of, leaves, all_known, is_scalar}
+use Rattle.plan_expr.specs.Leaves.{Name, leaves}
+use Rattle.plan_expr.specs.Naming.{name_of}
+use Rattle.plan_expr.specs.Scalars.{is_scalar}
+use Rattle.plan_meaning.specs.Exprs.{all_known}
 use Rattle.plan_meaning.specs.Typing.{AllHold, each_new, out_names}
 use Rattle.plan_meaning.specs.Steps.{all_scalar}
 use Rattle.plan_meaning.specs.Relating.{Asked, all}

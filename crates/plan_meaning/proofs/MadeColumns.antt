@@ -8,7 +8,9 @@ use Rattle.plan_core.specs.declared.data_type.DataType.{DataType}
 use Rattle.plan_core.specs.Columns.{Columns, names_of, type_of, with_type, with_types}
 use Rattle.plan_core.specs.Names.{has, AreDistinct}
 use Rattle.plan_expr.specs.Exprs.{Named}
-use Rattle.plan_meaning.specs.Exprs.{Name, name_of, is_scalar}
+use Rattle.plan_expr.specs.Leaves.{Name}
+use Rattle.plan_expr.specs.Naming.{name_of}
+use Rattle.plan_expr.specs.Scalars.{is_scalar}
 use Rattle.plan_meaning.specs.Typing.{AllHold, each_new, out_names, made_column, made_schema}
 use Rattle.plan_meaning.specs.Frames.{Frame, Column, HaveTypes, found, with_column, with_columns}
 use Rattle.plan_meaning.specs.Meaning.{val, filled}

@@ -17,7 +17,9 @@ use Rattle.plan_ir.specs.Parts.{exprs_of, IsPlan}
 use Rattle.plan_ir.proofs.PlanLemmas.{plan_expr}
 use Rattle.plan_expr.specs.Exprs.{Named, named_at, all_named_at, expr_at}
 use Rattle.plan_ir.proofs.MovedLemmas.{map_twice}
-use Rattle.plan_meaning.specs.Exprs.{leaves, all_known, expr_type, naming, may_be_named, name_of}
+use Rattle.plan_expr.specs.Leaves.{leaves}
+use Rattle.plan_expr.specs.Naming.{naming, may_be_named, name_of}
+use Rattle.plan_meaning.specs.Exprs.{all_known, expr_type}
 use Rattle.plan_meaning.specs.Typing.{each, each_new, leaf_checks, type_checks, once_checks, naming_checks, made_schema}
 use Rattle.plan_meaning.proofs.CheckLemmas.{each-map}
 

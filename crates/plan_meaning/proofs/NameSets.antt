@@ -8,7 +8,7 @@ use Rattle.plan_core.specs.Names.{has, with_name, with_names, AreDistinct}
 use Rattle.plan_core.specs.Columns.{Columns, names_of, type_of}
 use Rattle.plan_core.specs.declared.data_type.DataType.{DataType}
 use Rattle.plan_core.proofs.ColumnLemmas.{flip_false}
-use Rattle.plan_meaning.specs.Exprs.{Name}
+use Rattle.plan_expr.specs.Leaves.{Name}
 
 pub named : (a b : Name) → bytes_eq a b ≡ true → a ≡ b
 named a b e = (bytes_eq-Decides a b).0 e

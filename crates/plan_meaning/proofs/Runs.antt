@@ -9,7 +9,10 @@ use Rattle.plan_tree.specs.Rose.{Roses, rose, no_roses, more}
 use Rattle.plan_expr.specs.Exprs.{Named}
 use Rattle.plan_ir.specs.Plans.{Op, slice, filter, scan, frame_scan, simple_projection, select, hstack, Plan}
 use Rattle.plan_core.specs.declared.data_type.DataType.TheVariants as types
-use Rattle.plan_meaning.specs.Exprs.{Name, name_of, expr_type, is_scalar}
+use Rattle.plan_expr.specs.Leaves.{Name}
+use Rattle.plan_expr.specs.Naming.{name_of}
+use Rattle.plan_expr.specs.Scalars.{is_scalar}
+use Rattle.plan_meaning.specs.Exprs.{expr_type}
 use Rattle.plan_meaning.specs.Typing.{each, is_known, is_column, columns_or, file_columns, has_columns, put_out_checks, made_schema, schema_by, schema, schemas, checks, AllHold, AllValid}
 use Rattle.plan_meaning.specs.Frames.{Frame, Column, HaveTypes, HasSchema, Holds, HoldsAll, with_columns, cut}
 use Rattle.plan_meaning.specs.Meaning.{val, filled}

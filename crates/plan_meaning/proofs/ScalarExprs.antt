@@ -1,23 +1,14 @@
--- Whether expressions are scalar, kind by kind and one after another.
+-- Whether expressions are scalar, one after another.
 use Rattle.std.proofs.Common.{◌≡◌, ◌<◌, All, get_or, length, subst, ℕ, zero, suc, ◌+◌, ◌&&◌, Bool, true, false, List, [], ◌∷◌, take, Some, refl, sym, ap, ◌∙◌, add-one}
 use Rattle.std.specs.List.{slice_get}
 use Rattle.std.proofs.lemmas.List.Elements.{All-get_or}
 use Rattle.std.proofs.lemmas.Option.{slice_get-get_or}
-use Rattle.plan_core.specs.declared.arena.Node.{Node}
 use Rattle.plan_expr.specs.declared.aexpr.AExpr.{AExpr}
-use Rattle.plan_expr.specs.declared.aexpr.AExpr.TheVariants as exprs
 use Rattle.plan_expr.specs.declared.expr_ir.ExprIR.{ExprIR}
-use Rattle.plan_expr.specs.declared.literal.LiteralValue.{LiteralValue}
-use Rattle.plan_expr.specs.declared.operator.Operator.{Operator}
 use Rattle.plan_expr.specs.Operands.{IsExpr}
 use Rattle.plan_expr.specs.Exprs.{expr_at, all_named_at}
-use Rattle.plan_expr.proofs.ExprLemmas.{expr_open}
-use Rattle.plan_meaning.specs.Exprs.{Name, is_scalar}
+use Rattle.plan_expr.specs.Scalars.{is_scalar}
 use Rattle.plan_meaning.specs.Steps.{all_scalar}
-
-and_true : (b : Bool) → (b && true) ≡ b
-and_true true = refl
-and_true false = refl
 
 -- the item in a place
 pub item_here : {A : Type 0} (xs : List A) (i : ℕ) (x : A) → i < length xs → x ≡ get_or xs i x → slice_get xs i ≡ Some x
@@ -26,21 +17,6 @@ item_here xs i x lt is = slice_get-get_or xs i x lt ∙ ap (λ y. Some y) (sym i
 -- each expression stands
 pub stands_here : (ex : List AExpr) (es : List ExprIR) (i : ℕ) (e : ExprIR) → All (λ (x : ExprIR). IsExpr ex x.node) es → i < length es → e ≡ get_or es i e → IsExpr ex e.node
 stands_here ex es i e h lt is = subst (λ (x : ExprIR). IsExpr ex x.node) (sym is) (All-get_or (λ (x : ExprIR). IsExpr ex x.node) es i e lt h)
-
--- whether an expression is scalar, kind by kind
-module _ (ex : List AExpr) (n : Node) (h : IsExpr ex n) where
-  pub scalar-column : (a : Name) → slice_get ex n.0 ≡ Some (exprs.Column a) → false ≡ is_scalar (expr_at ex n)
-  scalar-column a e = ap is_scalar (sym (expr_open ex n (exprs.Column a) h e))
-
-  pub scalar-literal : (v : LiteralValue) → slice_get ex n.0 ≡ Some (exprs.Literal v) → true ≡ is_scalar (expr_at ex n)
-  scalar-literal v e = ap is_scalar (sym (expr_open ex n (exprs.Literal v) h e))
-
-  pub scalar-alias : (i : Node) (a : Name) → slice_get ex n.0 ≡ Some (exprs.Alias i a) → is_scalar (expr_at ex i) ≡ is_scalar (expr_at ex n)
-  scalar-alias i a e = sym (and_true (is_scalar (expr_at ex i))) ∙ ap is_scalar (sym (expr_open ex n (exprs.Alias i a) h e))
-
-  pub scalar-binary : (l r : Node) (o : Operator) → slice_get ex n.0 ≡ Some (exprs.BinaryExpr l o r) → (is_scalar (expr_at ex l) && is_scalar (expr_at ex r)) ≡ is_scalar (expr_at ex n)
-  scalar-binary l r o e =
-      ap (λ (b : Bool). is_scalar (expr_at ex l) && b) (sym (and_true (is_scalar (expr_at ex r)))) ∙ ap is_scalar (sym (expr_open ex n (exprs.BinaryExpr l o r) h e))
 
 -- expressions one after another
 module _ (ex : List AExpr) where

@@ -5,7 +5,7 @@ use Rattle.std.specs.Str.{bytes_eq}
 use Rattle.plan_core.specs.declared.data_type.DataType.{DataType}
 use Rattle.plan_core.specs.Columns.{Columns, HasDistinctNames}
 use Rattle.plan_core.specs.Names.{has}
-use Rattle.plan_meaning.specs.Exprs.{Name}
+use Rattle.plan_expr.specs.Leaves.{Name}
 use Rattle.plan_meaning.specs.Values.{Value, null, AllOf}
 
 -- a column: its name, and its values from the first row on

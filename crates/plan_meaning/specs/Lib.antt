@@ -1,7 +1,6 @@
 -- The definitions that contracts cite.
 pub mod Exprs
 pub mod Typing
-pub mod Seen
 pub mod TreeFaults
 pub mod Typed
 pub mod Values

@@ -5,7 +5,8 @@ use Rattle.plan_core.specs.Columns.{names_of}
 use Rattle.plan_tree.specs.Rose.{Roses, rose, no_roses, more}
 use Rattle.plan_expr.specs.Exprs.{Named, Expr}
 use Rattle.plan_ir.specs.Plans.{Op, slice, filter, scan, frame_scan, simple_projection, select, hstack, invalid, Plan}
-use Rattle.plan_meaning.specs.Exprs.{name_of, is_scalar}
+use Rattle.plan_expr.specs.Naming.{name_of}
+use Rattle.plan_expr.specs.Scalars.{is_scalar}
 use Rattle.plan_meaning.specs.Values.{is_true}
 use Rattle.plan_meaning.specs.Frames.{Frame, Column, rows_at, with_columns, cut}
 use Rattle.plan_meaning.specs.Meaning.{Cell, val, value_at, filled, places_from}

@@ -12,7 +12,9 @@ use Rattle.plan_tree.specs.Rose.{Rose, Roses, rose, no_roses, more}
 use Rattle.plan_ir.specs.declared.scan.FileInfo.{FileInfo}
 use Rattle.plan_expr.specs.Exprs.{Named}
 use Rattle.plan_ir.specs.Plans.{Op, slice, filter, scan, frame_scan, simple_projection, select, hstack, invalid}
-use Rattle.plan_meaning.specs.Exprs.{Name, leaves, all_known, expr_type, is_type, naming, may_be_named, name_of}
+use Rattle.plan_expr.specs.Leaves.{Name, leaves}
+use Rattle.plan_expr.specs.Naming.{naming, may_be_named, name_of}
+use Rattle.plan_meaning.specs.Exprs.{all_known, expr_type, is_type}
 use Rattle.plan_core.specs.declared.data_type.DataType.TheVariants as types
 
 -- Schemas

@@ -1,13 +1,13 @@
-//! Expressions over some columns: whether they are found, the type, and the output name.
+//! Expressions over some columns: whether these are found, and the type.
 ghost use Rattle.std.specs.Prelude.{◌≡◌, All};
 ghost use Rattle.plan_expr.specs.Operands.{IsExpr};
 ghost use Rattle.plan_expr.specs.Exprs.{all_named_at, expr_at};
-ghost use Rattle.plan_meaning.specs.Exprs.{all_known, leaves, expr_type as type_of_expr, literal_type as type_of_literal, takes as is_taken, gives as is_given, operator_type as type_of_operator, naming, may_be_named as may_be, name_of, is_scalar as scalar_expr};
+ghost use Rattle.plan_expr.specs.Leaves.{leaves};
+ghost use Rattle.plan_meaning.specs.Exprs.{all_known, expr_type as type_of_expr, literal_type as type_of_literal, takes as is_taken, gives as is_given, operator_type as type_of_operator};
 ghost use Rattle.plan_meaning.specs.Steps.{all_scalar as are_scalar};
-ghost use Rattle.plan_meaning.specs.Seen.{naming_seen};
 
 use plan_core::{Arena, DataType, Node, Schema};
-use plan_expr::{AExpr, ExprIR, LiteralValue, Operator, OutputName};
+use plan_expr::{AExpr, ExprIR, LiteralValue, Operator, is_scalar};
 
 /// Whether each column of the expression is one of the schema's.
 pub fn reads_only(node: Node, ex: &Arena<AExpr>, schema: &Schema) -> bool
@@ -106,19 +106,6 @@ pub fn expr_type(node: Node, ex: &Arena<AExpr>, schema: &Schema) -> Option<DataT
     }
 }
 
-/// Whether the expression is scalar: no column is in it.
-pub fn is_scalar(node: Node, ex: &Arena<AExpr>) -> bool
-    requires { IsExpr ex.now node }
-    ensures { result ≡ scalar_expr (expr_at ex.now node) }
-{
-    match ex.get(node) {
-        AExpr::Column(_) => false,
-        AExpr::Literal(_) => true,
-        AExpr::Alias(input, _) => is_scalar(*input, ex),
-        AExpr::BinaryExpr { left, right, .. } => is_scalar(*left, ex) && is_scalar(*right, ex),
-    }
-}
-
 /// Whether the expressions are scalar throughout.
 pub fn all_scalar(exprs: &[ExprIR], ex: &Arena<AExpr>) -> bool
     requires { All (λ e. IsExpr ex.now e.node) exprs.now }
@@ -130,57 +117,4 @@ pub fn all_scalar(exprs: &[ExprIR], ex: &Arena<AExpr>) -> bool
         }
     }
     true
-}
-
-/// What names an expression.
-#[derive(Clone, Copy)]
-pub enum Naming<'a> {
-    /// A column, by its own name.
-    Column(&'a str),
-    /// A literal, by the name `literal`.
-    Literal,
-    /// An alias of this name.
-    Alias(&'a str),
-}
-
-/// The first column, literal or alias of the expression, in walk order.
-pub fn decided_name(node: Node, ex: &Arena<AExpr>) -> Naming<'_>
-    requires { IsExpr ex.now node }
-    ensures { naming_seen result ≡ naming (expr_at ex.now node) }
-{
-    match ex.get(node) {
-        AExpr::Column(name) => Naming::Column(name.as_str()),
-        AExpr::Literal(_) => Naming::Literal,
-        AExpr::Alias(_, name) => Naming::Alias(name.as_str()),
-        AExpr::BinaryExpr { left, .. } => decided_name(*left, ex),
-    }
-}
-
-/// The name under which an expression is put out; the empty text where it has none.
-pub fn output_name(name: &OutputName) -> &str
-    ensures { result.now ≡ name_of name.now }
-{
-    match name {
-        OutputName::None => "",
-        OutputName::LiteralLhs(name) | OutputName::ColumnLhs(name) | OutputName::Alias(name) => {
-            name.as_str()
-        }
-    }
-}
-
-/// Whether the expression may be put out under this name: the name that it gives itself or, where no alias in it gives
-/// one, any name as an alias.
-pub fn may_be_named(name: &OutputName, node: Node, ex: &Arena<AExpr>) -> bool
-    requires { IsExpr ex.now node }
-    ensures { result ≡ may_be name.now (naming (expr_at ex.now node)) }
-{
-    match (name, decided_name(node, ex)) {
-        (OutputName::None, _) => false,
-        (OutputName::Alias(name), Naming::Alias(alias)) => name.as_str() == alias,
-        (OutputName::Alias(_), Naming::Column(_) | Naming::Literal) => true,
-        (OutputName::ColumnLhs(name), Naming::Column(column)) => name.as_str() == column,
-        (OutputName::LiteralLhs(name), Naming::Literal) => name.as_str() == "literal",
-        (OutputName::ColumnLhs(_), Naming::Literal | Naming::Alias(_)) => false,
-        (OutputName::LiteralLhs(_), Naming::Column(_) | Naming::Alias(_)) => false,
-    }
 }

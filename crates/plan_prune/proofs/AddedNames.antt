@@ -2,7 +2,7 @@
 use Rattle.std.proofs.Common.{◌≡◌, ℕ, zero, suc, ◌+◌, List, [], ◌∷◌, take, Some, ap, sym, ◌∙◌, add-one}
 use Rattle.std.specs.List.{slice_get}
 use Rattle.plan_core.specs.Names.{with_name, with_names}
-use Rattle.plan_meaning.specs.Exprs.{Name}
+use Rattle.plan_expr.specs.Leaves.{Name}
 
 added_suc : (done names : List Name) (i : ℕ) (a : Name) → slice_get names i ≡ Some a → with_name (with_names done (take i names)) a ≡ with_names done (take (suc i) names)
 added_suc done [] i a e = cc

@@ -11,7 +11,7 @@ use Rattle.plan_meaning.specs.Asked.{set_of, with_more, asks_columns, kept_exprs
 use Rattle.plan_meaning.specs.Asked as asked
 use Rattle.plan_meaning.proofs.NameSets.{has_first, keeps_names}
 use Rattle.plan_meaning.proofs.Fairness.{some_name, fair_asks, FairAll}
-use Rattle.plan_meaning.specs.Exprs.{Name, leaves}
+use Rattle.plan_expr.specs.Leaves.{Name, leaves}
 use Rattle.plan_prune.specs.Pruned.{asked_with, kept, added_names, stacked_names, asks}
 use Rattle.plan_prune.specs.Stored.{stored_all}
 use Rattle.plan_prune.proofs.StoredLemmas.{stored-schemas}

@@ -8,7 +8,9 @@ use Rattle.plan_core.specs.declared.data_type.DataType.{DataType}
 use Rattle.plan_expr.specs.declared.aexpr.AExpr.{AExpr}
 use Rattle.plan_expr.specs.declared.expr_ir.ExprIR.{ExprIR}
 use Rattle.plan_expr.specs.Exprs.{expr_at, all_named_at}
-use Rattle.plan_meaning.specs.Exprs.{Name, leaves, name_of, is_scalar}
+use Rattle.plan_expr.specs.Leaves.{Name, leaves}
+use Rattle.plan_expr.specs.Naming.{name_of}
+use Rattle.plan_expr.specs.Scalars.{is_scalar}
 use Rattle.plan_meaning.specs.Asked.{all_leaves}
 use Rattle.plan_prune.specs.Pruned.{typed_names}
 use Rattle.plan_prune.specs.Kept.{many_at, names_at, with_typed}

@@ -5,7 +5,8 @@ use Rattle.plan_core.specs.declared.data_type.DataType.{DataType}
 use Rattle.plan_core.specs.Columns.{Columns, names_of, type_of}
 use Rattle.plan_core.specs.Names.{has}
 use Rattle.plan_ir.specs.Plans.{frame_scan}
-use Rattle.plan_meaning.specs.Exprs.{Name, is_type}
+use Rattle.plan_expr.specs.Leaves.{Name}
+use Rattle.plan_meaning.specs.Exprs.{is_type}
 use Rattle.plan_meaning.specs.Typing.{is_known, is_column, columns_or, checks, AllHold}
 use Rattle.plan_meaning.specs.Frames.{Frame, cut, column_or, Agree}
 use Rattle.plan_meaning.specs.Contents.{Contents, handed_in}

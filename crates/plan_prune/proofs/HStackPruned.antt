@@ -14,7 +14,7 @@ use Rattle.plan_ir.specs.declared.ir.IR.TheVariants.{HStack, Invalid}
 use Rattle.plan_ir.specs.Parts.{plan_shape}
 use Rattle.plan_expr.specs.Exprs.{all_named_at}
 use Rattle.plan_ir.specs.Plans.{plans_at, bare}
-use Rattle.plan_meaning.specs.Exprs.{Name}
+use Rattle.plan_expr.specs.Leaves.{Name}
 use Rattle.plan_meaning.specs.Typing.{first_schema}
 use Rattle.plan_prune.specs.Stored.{stored_all}
 use Rattle.plan_prune.specs.Pruned.{stacked_names}

@@ -11,7 +11,7 @@ use Rattle.plan_expr.specs.declared.operator.Operator.TheVariants.{Plus}
 use Rattle.plan_expr.specs.declared.expr_ir.OutputName.TheVariants.{Alias, ColumnLhs}
 use Rattle.plan_expr.specs.Exprs.{column, literal, alias, binary, Named}
 use Rattle.plan_ir.specs.Plans.{simple_projection, select, hstack, Plan}
-use Rattle.plan_meaning.specs.Exprs.{Name}
+use Rattle.plan_expr.specs.Leaves.{Name}
 use Rattle.plan_meaning.specs.Relating.{names}
 use Rattle.plan_meaning.specs.Asked.{sites_of}
 use Rattle.plan_meaning.specs.Work.{made, kept}

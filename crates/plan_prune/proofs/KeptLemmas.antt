@@ -16,7 +16,9 @@ use Rattle.plan_ir.specs.declared.ir.IR.{IR}
 use Rattle.plan_ir.specs.declared.ir.IR.TheVariants.{HStack}
 use Rattle.plan_expr.specs.Exprs.{Named, expr_at, named_at, all_named_at}
 use Rattle.plan_ir.specs.Plans.{Op, select, hstack}
-use Rattle.plan_meaning.specs.Exprs.{Name, name_of, is_scalar}
+use Rattle.plan_expr.specs.Leaves.{Name}
+use Rattle.plan_expr.specs.Naming.{name_of}
+use Rattle.plan_expr.specs.Scalars.{is_scalar}
 use Rattle.plan_meaning.specs.Steps.{all_scalar}
 use Rattle.plan_meaning.specs.Relating.{all, names}
 use Rattle.plan_meaning.specs.Asked.{kept_exprs, first_many, selected_exprs, set_of}

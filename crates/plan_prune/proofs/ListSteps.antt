@@ -10,7 +10,7 @@ use Rattle.plan_core.specs.Columns.{Columns, HasDistinctNames, names_of, type_of
 use Rattle.plan_core.specs.Names.{AreDistinct, has, with_name, with_names}
 use Rattle.plan_core.specs.declared.data_type.DataType.{DataType}
 use Rattle.plan_core.proofs.ColumnLemmas.{flip_false, with_type-last}
-use Rattle.plan_meaning.specs.Exprs.{Name}
+use Rattle.plan_expr.specs.Leaves.{Name}
 use Rattle.plan_prune.specs.Pruned.{typed_name, typed_names}
 
 -- the items before the next place, with the item at this one

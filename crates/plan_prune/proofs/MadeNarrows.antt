@@ -6,7 +6,9 @@ use Rattle.plan_core.specs.declared.data_type.DataType.TheVariants as types
 use Rattle.plan_core.specs.Columns.{Columns, type_of}
 use Rattle.plan_core.specs.Names.{has, with_names, AreDistinct}
 use Rattle.plan_expr.specs.Exprs.{Named}
-use Rattle.plan_meaning.specs.Exprs.{Name, name_of, leaves, all_known, expr_type, naming, may_be_named}
+use Rattle.plan_expr.specs.Leaves.{Name, leaves}
+use Rattle.plan_expr.specs.Naming.{name_of, naming, may_be_named}
+use Rattle.plan_meaning.specs.Exprs.{all_known, expr_type}
 use Rattle.plan_meaning.specs.Typing.{out_names, made_column, made_schema}
 use Rattle.plan_meaning.specs.Frames.{Frame, Column, Agree}
 use Rattle.plan_meaning.specs.Meaning.{Cell, filled}

@@ -5,7 +5,8 @@ use Rattle.plan_core.specs.Columns.{Columns, type_of}
 use Rattle.plan_core.specs.Names.{has, with_names}
 use Rattle.plan_expr.specs.Exprs.{Named, Expr}
 use Rattle.plan_ir.specs.Plans.{Op, slice, filter}
-use Rattle.plan_meaning.specs.Exprs.{Name, leaves, all_known, is_type}
+use Rattle.plan_expr.specs.Leaves.{Name, leaves}
+use Rattle.plan_meaning.specs.Exprs.{all_known, is_type}
 use Rattle.plan_meaning.specs.Typing.{checks, AllHold}
 use Rattle.plan_meaning.specs.Frames.{Frame, HasSchema, rows_at, Agree}
 use Rattle.plan_meaning.specs.Meaning.{val}

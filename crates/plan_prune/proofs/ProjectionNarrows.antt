@@ -17,7 +17,7 @@ use Rattle.plan_meaning.proofs.NameSets.{named, has_first, has_later, some-type_
 use Rattle.plan_meaning.proofs.FrameLemmas.{agree_tables, agree_fewer, or_same, cut_same}
 use Rattle.plan_meaning.proofs.CheckParts.{hold_back, hold_join, each_pass, pass_each}
 use Rattle.plan_meaning.proofs.Fairness.{has_some, some_name, kept_asked, known_some}
-use Rattle.plan_meaning.specs.Exprs.{Name}
+use Rattle.plan_expr.specs.Leaves.{Name}
 use Rattle.plan_prune.proofs.AskedNames.{kept_all, kept_cached}
 use Rattle.plan_prune.proofs.NarrowLemmas.{Local, holding_same, one_step}
 

@@ -27,7 +27,7 @@ use Rattle.plan_ir.specs.Plans.{Op, op_at, plans_of, plans_at, bare}
 use Rattle.plan_expr.proofs.ExprLemmas.{expr_open}
 use Rattle.plan_ir.proofs.PlanLemmas.{plan_down}
 use Rattle.plan_core.specs.Names.{with_names, with_name}
-use Rattle.plan_meaning.specs.Exprs.{Name, leaves}
+use Rattle.plan_expr.specs.Leaves.{Name, leaves}
 use Rattle.plan_prune.specs.Pruned.{asks, rebuilt, pruned_all, typed_names}
 use Rattle.plan_meaning.specs.PlanAt.{one_plan}
 use Rattle.plan_prune.specs.Stored.{stored_all}

@@ -19,7 +19,7 @@ use Rattle.plan_meaning.proofs.Refining.{relates_refines}
 use Rattle.plan_meaning.proofs.Related.{SchemasRelated, AllRelate, relates_node, relates_top, relates_drop}
 use Rattle.plan_meaning.proofs.Fairness.{FairAll}
 use Rattle.plan_meaning.proofs.KeptExprs.{selected-all}
-use Rattle.plan_meaning.specs.Exprs.{Name}
+use Rattle.plan_expr.specs.Leaves.{Name}
 use Rattle.plan_prune.specs.Pruned.{kept, pruned_output, typed_names, reading, projected, stacked_names, pruned_select, stacked, pruned_hstack, asks, rebuilt, pruned, pruned_all}
 use Rattle.plan_prune.specs.Stored.{stored_all}
 use Rattle.plan_prune.proofs.AskedNames.{set_some, kept-is, filter_asks, stacked_asks, each_asked, fair_each}

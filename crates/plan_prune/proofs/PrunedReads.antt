@@ -17,7 +17,7 @@ use Rattle.plan_meaning.specs.Asked.{set_of, kept_exprs, asks as asks_of, Site, 
 use Rattle.plan_meaning.specs.Scans.{scans, scans_in, KeepScans, Keeps, nodes}
 use Rattle.plan_meaning.proofs.Fairness.{plan_sites_fair}
 use Rattle.plan_meaning.proofs.Keeping.{sites-scans}
-use Rattle.plan_meaning.specs.Exprs.{Name}
+use Rattle.plan_expr.specs.Leaves.{Name}
 use Rattle.plan_prune.specs.Pruned.{typed_names, stacked, asks, rebuilt, pruned, pruned_all}
 use Rattle.plan_prune.specs.Stored.{stored_all}
 use Rattle.plan_prune.specs.Reads.{ReadWithin, own_tops, tops_in, tops}

@@ -26,7 +26,7 @@ use Rattle.plan_meaning.specs.Asked.{Fair}
 use Rattle.plan_meaning.proofs.NameSets.{named, same_named, has_cons, has_first, has_later, has_either, some-type_of, distinct_cons}
 use Rattle.plan_meaning.proofs.FrameLemmas.{agree_tables, found-table, is_type_some, some_type_is, schema_holds}
 use Rattle.plan_meaning.proofs.CheckParts.{each_pass, pass_each, hold_join, pass_names, ScanGood, scan_good, good_scan}
-use Rattle.plan_meaning.specs.Exprs.{Name}
+use Rattle.plan_expr.specs.Leaves.{Name}
 use Rattle.plan_prune.specs.Pruned.{typed_names, reading}
 use Rattle.plan_prune.proofs.NarrowLemmas.{Local, AgreeOnAll}
 use Rattle.plan_prune.proofs.ProjectionNarrows.{some_is, projection_good}

@@ -6,7 +6,7 @@ use Rattle.plan_core.specs.Columns.{Columns, type_of, with_types}
 use Rattle.plan_core.specs.Names.{has, AreDistinct}
 use Rattle.plan_expr.specs.Exprs.{Named}
 use Rattle.plan_ir.specs.Plans.{select}
-use Rattle.plan_meaning.specs.Exprs.{Name}
+use Rattle.plan_expr.specs.Leaves.{Name}
 use Rattle.plan_meaning.specs.Typing.{is_empty, out_names, made_schema, checks, AllHold}
 use Rattle.plan_meaning.specs.Frames.{Frame, Column, found, with_columns, Agree}
 use Rattle.plan_meaning.specs.Steps.{all_scalar, made_columns, selected}

@@ -7,7 +7,7 @@ use Rattle.plan_core.specs.Columns.{Columns, names_of, type_of, with_types}
 use Rattle.plan_core.specs.Names.{has, with_names, AreDistinct}
 use Rattle.plan_expr.specs.Exprs.{Named}
 use Rattle.plan_ir.specs.Plans.{hstack}
-use Rattle.plan_meaning.specs.Exprs.{Name}
+use Rattle.plan_expr.specs.Leaves.{Name}
 use Rattle.plan_meaning.specs.Typing.{out_names, made_column, made_schema, checks, AllHold}
 use Rattle.plan_meaning.specs.Frames.{Frame, Column, HasSchema, found, with_columns, Agree}
 use Rattle.plan_meaning.specs.Steps.{made_columns, made}

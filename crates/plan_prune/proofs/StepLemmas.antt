@@ -12,7 +12,7 @@ use Rattle.plan_ir.specs.declared.ir.IR.TheVariants.{Slice, Filter, Scan, DataFr
 use Rattle.plan_ir.specs.Parts.{plan_shape, inputs_of}
 use Rattle.plan_expr.specs.Exprs.{Named}
 use Rattle.plan_ir.specs.Plans.{bare, plans_at}
-use Rattle.plan_meaning.specs.Exprs.{Name}
+use Rattle.plan_expr.specs.Leaves.{Name}
 use Rattle.plan_meaning.specs.Asked.{all_leaves}
 use Rattle.plan_prune.specs.declared.push_down.step.Step.TheVariants.{Leaf, Over}
 use Rattle.plan_prune.specs.Kept.{is_some_name, names_at, selected_at, stacked_at, stored_after}

@@ -9,7 +9,9 @@ use Rattle.plan_expr.specs.declared.expr_ir.ExprIR.{ExprIR}
 use Rattle.plan_ir.specs.declared.ir.IR.{IR}
 use Rattle.plan_ir.specs.declared.ir.IR.TheVariants.{HStack, Invalid}
 use Rattle.plan_expr.specs.Exprs.{Named, expr_at, all_named_at}
-use Rattle.plan_meaning.specs.Exprs.{Name, name_of, is_scalar}
+use Rattle.plan_expr.specs.Leaves.{Name}
+use Rattle.plan_expr.specs.Naming.{name_of}
+use Rattle.plan_expr.specs.Scalars.{is_scalar}
 use Rattle.plan_meaning.specs.Steps.{all_scalar}
 use Rattle.plan_prune.specs.Pruned.{typed_names, added_names}
 

@@ -7,7 +7,7 @@ use Rattle.plan_ir.specs.declared.ir.IR.{IR}
 use Rattle.plan_expr.specs.Operands.{expr_shape}
 use Rattle.plan_ir.specs.Parts.{plan_shape, roots_in}
 use Rattle.plan_ir.specs.Plans.{bare, plans_of}
-use Rattle.plan_meaning.specs.Exprs.{Name}
+use Rattle.plan_expr.specs.Leaves.{Name}
 use Rattle.plan_prune.specs.Pruned.{pruned_all}
 
 -- expressions stand over these numbers, no number twice

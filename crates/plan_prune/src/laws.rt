@@ -7,7 +7,7 @@ ghost use Rattle.plan_meaning.specs.Relating.{all, Narrows, Refines};
 ghost use Rattle.plan_meaning.specs.Asked.{set_of, sites_of, IsFair};
 ghost use Rattle.plan_meaning.specs.Scans.{Keeps, nodes, scans};
 ghost use Rattle.plan_meaning.specs.Work.{made, kept};
-ghost use Rattle.plan_meaning.specs.Exprs.{Name};
+ghost use Rattle.plan_expr.specs.Leaves.{Name};
 ghost use Rattle.plan_prune.specs.Pruned.{pruned};
 ghost use Rattle.plan_prune.specs.Reads.{ReadWithin, tops};
 

@@ -3,9 +3,9 @@ use crate::ProjectionPushDown;
 use plan_core::{
     Arena, DataType, FileScanOptions, Items, Node, PlSmallStr, ProjectionOptions, Schema, TryClone,
 };
-use plan_expr::{AExpr, ExprIR, LiteralValue, Operator, OutputName};
+use plan_expr::{AExpr, ExprIR, LiteralValue, Operator, OutputName, output_name};
 use plan_ir::{FileInfo, FileScan, IR, ScanSources};
-use plan_meaning::{check_plan, output_name};
+use plan_meaning::check_plan;
 use std::alloc::{AllocError, Global};
 use std::process::Abort;
 use std::test::Fail;

@@ -9,9 +9,9 @@ ghost use Rattle.plan_meaning.specs.Typing.{filter_checks, first_fault, Says};
 ghost use Rattle.plan_meaning.specs.Typed.{IsNodeTyped};
 
 use crate::check::place::at;
-use crate::exprs::{expr_type, may_be_named, reads_only};
+use crate::exprs::{expr_type, reads_only};
 use plan_core::{Arena, DataType, Node, PolarsError, PolarsResult, Schema};
-use plan_expr::{AExpr, ExprIR};
+use plan_expr::{AExpr, ExprIR, may_be_named};
 
 /// Whether the type is Boolean.
 fn is_boolean(dtype: Option<DataType>) -> bool

@@ -11,11 +11,11 @@ ghost use Rattle.plan_meaning.specs.Typed.{IsNodeTyped};
 
 use crate::check::columns::check_stored;
 use crate::check::place::at;
-use crate::exprs::{expr_type, may_be_named, output_name, reads_only};
+use crate::exprs::{expr_type, reads_only};
 use plan_core::{
     Arena, DataType, Names, Node, PlSmallStr, PolarsError, PolarsResult, Schema, TryClone,
 };
-use plan_expr::{AExpr, ExprIR};
+use plan_expr::{AExpr, ExprIR, may_be_named, output_name};
 use std::alloc::{AllocError, Global};
 
 /// Each expression reads columns of the schema; the first expression stands at place 1.

@@ -3,13 +3,12 @@ ghost use Rattle.std.specs.Prelude.{◌≡◌, All, IfOk, OnOk};
 ghost use Rattle.plan_core.specs.Names.{with_names};
 ghost use Rattle.plan_expr.specs.Operands.{IsExpr};
 ghost use Rattle.plan_expr.specs.Exprs.{all_named_at, expr_at};
-ghost use Rattle.plan_meaning.specs.Exprs.{leaves};
+ghost use Rattle.plan_expr.specs.Leaves.{leaves};
 ghost use Rattle.plan_meaning.specs.Asked.{all_leaves};
 ghost use Rattle.plan_prune.specs.Kept.{asked_exprs as exprs_asked, names_at, with_typed as columns_with};
 
 use plan_core::{Arena, Items, Names, Node, PlSmallStr, Schema, TryClone};
-use plan_expr::{AExpr, ExprIR};
-use plan_meaning::output_name;
+use plan_expr::{AExpr, ExprIR, output_name};
 use std::alloc::{AllocError, Global};
 
 /// Adds the names of the columns of an expression, in walk order.

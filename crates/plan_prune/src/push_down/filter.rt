@@ -5,7 +5,7 @@ ghost use Rattle.std.specs.Prelude.{◌≡◌, IfOk};
 ghost use Rattle.plan_ir.specs.declared.ir.IR.TheVariants.{Filter};
 ghost use Rattle.plan_expr.specs.Operands.{IsExpr};
 ghost use Rattle.plan_expr.specs.Exprs.{expr_at};
-ghost use Rattle.plan_meaning.specs.Exprs.{leaves};
+ghost use Rattle.plan_expr.specs.Leaves.{leaves};
 ghost use Rattle.plan_prune.specs.declared.push_down.step.Step.TheVariants.{Over};
 ghost use Rattle.plan_prune.specs.Pruned.{asked_with};
 

@@ -13,9 +13,9 @@ ghost use Rattle.plan_prune.specs.Kept.{many_at, selected_at, names_at, is_some_
 use crate::push_down::exprs::{add_all_names, asked_exprs, with_typed};
 use crate::push_down::step::Step;
 use plan_core::{Arena, Items, Names, Node, ProjectionOptions, Schema, TryClone};
-use plan_expr::{AExpr, ExprIR};
+use plan_expr::{AExpr, ExprIR, is_scalar};
 use plan_ir::IR;
-use plan_meaning::{all_scalar, is_scalar};
+use plan_meaning::all_scalar;
 use std::alloc::{AllocError, Global};
 
 /// Adds the first expression that isn't scalar, if there is one.

@@ -1,7 +1,7 @@
 use Rattle.std.proofs.Common.{◌∙◌, Some, ap, sym, subst}
 use Rattle.std.specs.Prelude.{IsTrue}
 use Rattle.std.proofs.lemmas.Option.{slice_get-get_or}
-use Rattle.plan_meaning.specs.Exprs.{Name}
+use Rattle.plan_expr.specs.Leaves.{Name}
 use Rattle.plan_eval.specs.Fitting.{IsMet}
 use Rattle.plan_eval.proofs.FitLemmas.{needs-at}
 use Rattle.plan_eval.proofs.fitting.paths_fit.Goals as goal

@@ -2,7 +2,8 @@ use Rattle.std.proofs.Common.{◌≡◌, ◌∙◌, ◌&&◌, ap, refl, sym, ari
 use Rattle.plan_expr.specs.declared.aexpr.AExpr.TheVariants.{Alias, BinaryExpr}
 use Rattle.plan_expr.proofs.ExprLemmas.{expr_down}
 use Rattle.plan_expr.specs.Exprs.{expr_at}
-use Rattle.plan_meaning.specs.Exprs.{leaves, all_known}
+use Rattle.plan_expr.specs.Leaves.{leaves}
+use Rattle.plan_meaning.specs.Exprs.{all_known}
 use Rattle.plan_meaning.proofs.ExprSteps.{known-column, known-literal, known-alias, known-binary}
 use Rattle.plan_meaning.proofs.exprs.+reads_only.Goals as goal
 

@@ -2,7 +2,8 @@ use Rattle.std.proofs.Common.{◌∙◌, ap, sym, Some}
 use Rattle.plan_core.specs.declared.error.At.{At}
 use Rattle.plan_core.specs.declared.error.PolarsError.TheVariants.{SchemaFieldNotFound}
 use Rattle.plan_expr.specs.Exprs.{expr_at}
-use Rattle.plan_meaning.specs.Exprs.{leaves, all_known}
+use Rattle.plan_expr.specs.Leaves.{leaves}
+use Rattle.plan_meaning.specs.Exprs.{all_known}
 use Rattle.plan_meaning.specs.Typing.{first_fault}
 use Rattle.plan_meaning.proofs.CheckLemmas.{left-next, left-bad, left-end}
 use Rattle.plan_meaning.proofs.MadeLemmas.{leaf-at, stands_here, item_here}

@@ -1,6 +1,7 @@
 use Rattle.plan_core.specs.declared.error.PolarsError.TheVariants.{SchemaFieldNotFound}
 use Rattle.plan_expr.specs.Exprs.{expr_at}
-use Rattle.plan_meaning.specs.Exprs.{leaves, all_known}
+use Rattle.plan_expr.specs.Leaves.{leaves}
+use Rattle.plan_meaning.specs.Exprs.{all_known}
 use Rattle.plan_meaning.proofs.CheckLemmas.{Left}
 use Rattle.plan_meaning.proofs.check.made.check_leaves.Given as goal
 

@@ -2,7 +2,7 @@ use Rattle.std.proofs.Common.{◌∙◌, ap, sym, Some}
 use Rattle.plan_core.specs.declared.error.At.{At}
 use Rattle.plan_core.specs.declared.error.PolarsError.TheVariants.{SchemaMismatch}
 use Rattle.plan_expr.specs.Exprs.{expr_at}
-use Rattle.plan_meaning.specs.Exprs.{naming, may_be_named}
+use Rattle.plan_expr.specs.Naming.{naming, may_be_named}
 use Rattle.plan_meaning.specs.Typing.{first_fault}
 use Rattle.plan_meaning.proofs.CheckLemmas.{left-next, left-bad, left-end}
 use Rattle.plan_meaning.proofs.MadeLemmas.{naming-at, stands_here, item_here}

@@ -1,6 +1,6 @@
 use Rattle.plan_core.specs.declared.error.PolarsError.TheVariants.{SchemaMismatch}
 use Rattle.plan_expr.specs.Exprs.{expr_at}
-use Rattle.plan_meaning.specs.Exprs.{naming, may_be_named}
+use Rattle.plan_expr.specs.Naming.{naming, may_be_named}
 use Rattle.plan_meaning.proofs.CheckLemmas.{Left}
 use Rattle.plan_meaning.proofs.check.made.check_namings.Given as goal
 

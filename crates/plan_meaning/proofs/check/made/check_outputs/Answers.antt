@@ -3,7 +3,8 @@ use Rattle.plan_core.specs.declared.error.At.{At}
 use Rattle.plan_core.specs.declared.error.PolarsError.TheVariants.{Duplicate}
 use Rattle.plan_core.specs.Names.{has}
 use Rattle.plan_expr.specs.declared.expr_ir.ExprIR.{ExprIR}
-use Rattle.plan_meaning.specs.Exprs.{Name, name_of}
+use Rattle.plan_expr.specs.Leaves.{Name}
+use Rattle.plan_expr.specs.Naming.{name_of}
 use Rattle.plan_meaning.specs.Typing.{first_fault}
 use Rattle.plan_meaning.proofs.CheckLemmas.{NewLeft, new-next, new-bad, new-end}
 use Rattle.plan_meaning.proofs.MadeLemmas.{once-at, name_here, ended}

@@ -1,5 +1,5 @@
 use Rattle.std.proofs.Common.{map}
-use Rattle.plan_meaning.specs.Exprs.{name_of}
+use Rattle.plan_expr.specs.Naming.{name_of}
 use Rattle.plan_meaning.proofs.CheckLemmas.{NewLeft}
 use Rattle.plan_meaning.proofs.check.made.check_outputs.Given as goal
 

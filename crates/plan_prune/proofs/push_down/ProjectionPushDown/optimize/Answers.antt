@@ -1,6 +1,6 @@
 use Rattle.std.proofs.Common.{not, subst, List, [], ◌∷◌}
 use Rattle.plan_ir.specs.Plans.{bare, plans_at}
-use Rattle.plan_meaning.specs.Exprs.{Name}
+use Rattle.plan_expr.specs.Leaves.{Name}
 use Rattle.plan_prune.specs.Prunes.{Prunes}
 use Rattle.plan_prune.proofs.PruneLemmas.{pruned_is, pruned_stands}
 use Rattle.plan_prune.proofs.PlanPruned.{refines_at, reads_at, nodes_at, work_at}

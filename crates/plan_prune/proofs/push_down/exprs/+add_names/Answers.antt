@@ -3,7 +3,7 @@ use Rattle.plan_core.specs.Names.{with_names}
 use Rattle.plan_expr.specs.declared.aexpr.AExpr.TheVariants.{Alias, BinaryExpr}
 use Rattle.plan_expr.specs.Exprs.{expr_at}
 use Rattle.plan_expr.proofs.ExprLemmas.{expr_down}
-use Rattle.plan_meaning.specs.Exprs.{Name, leaves}
+use Rattle.plan_expr.specs.Leaves.{Name, leaves}
 use Rattle.plan_prune.proofs.PruneLemmas.{adds-column, adds-literal, adds-alias, adds-binary}
 use Rattle.plan_prune.proofs.push_down.exprs.+add_names.Goals as goal
 

@@ -1,7 +1,7 @@
 use Rattle.std.proofs.Common.{◌≡◌, ◌∙◌, ap, sym, arith, rules, true, false, is_some, List}
 use Rattle.plan_core.specs.Columns.{names_of, type_of}
 use Rattle.plan_core.specs.Names.{has, with_name}
-use Rattle.plan_meaning.specs.Exprs.{Name}
+use Rattle.plan_expr.specs.Leaves.{Name}
 use Rattle.plan_meaning.proofs.NameSets.{some-type_of}
 use Rattle.plan_prune.proofs.ListSteps.{not_past}
 use Rattle.plan_prune.proofs.ExprWalks.{where-next, where-skip}

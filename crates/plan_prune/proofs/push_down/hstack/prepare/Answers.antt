@@ -3,7 +3,7 @@ use Rattle.plan_expr.specs.declared.expr_ir.ExprIR.{ExprIR}
 use Rattle.plan_ir.specs.declared.ir.IR.TheVariants.{HStack}
 use Rattle.plan_expr.specs.Operands.{IsExpr}
 use Rattle.plan_expr.specs.Exprs.{all_named_at}
-use Rattle.plan_meaning.specs.Exprs.{Name}
+use Rattle.plan_expr.specs.Leaves.{Name}
 use Rattle.plan_prune.specs.declared.push_down.step.Step.TheVariants.{Over}
 use Rattle.plan_prune.specs.Kept.{asks_after, stacked_at}
 use Rattle.plan_prune.proofs.KeptLemmas.{stacked_stand}

@@ -1,7 +1,7 @@
 use Rattle.std.proofs.Common.{◌∙◌, ap, arith, List, []}
 use Rattle.plan_core.specs.Columns.{names_of}
 use Rattle.plan_core.specs.Names.{with_name}
-use Rattle.plan_meaning.specs.Exprs.{Name}
+use Rattle.plan_expr.specs.Leaves.{Name}
 use Rattle.plan_prune.proofs.ListSteps.{name_at, not_past}
 use Rattle.plan_prune.proofs.AddedNames.{added-next}
 use Rattle.plan_prune.proofs.push_down.projection.asks.Goals.{in-Some+in_ok-add, in_default}

@@ -1,7 +1,7 @@
 use Rattle.std.proofs.Common.{◌≡◌, ◌∙◌, ap, sym, arith, true, false}
 use Rattle.plan_core.specs.Columns.{Columns, with_type}
 use Rattle.plan_core.specs.Names.{has}
-use Rattle.plan_meaning.specs.Exprs.{Name}
+use Rattle.plan_expr.specs.Leaves.{Name}
 use Rattle.plan_prune.proofs.ListSteps.{filter-next, filter-skip, not_past}
 use Rattle.plan_prune.proofs.push_down.projection.keep.Goals.{in-Some+then-contains+in_ok-new+in_ok-with_column, in-Some+else-contains, in_default}
 use Rattle.plan_prune.proofs.push_down.projection.keep.Goals as goal

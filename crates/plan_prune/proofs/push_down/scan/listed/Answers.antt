@@ -1,5 +1,5 @@
 use Rattle.std.proofs.Common.{◌∙◌, ap₂, sym, arith, List, [], ◌∷◌, ◌++◌}
-use Rattle.plan_meaning.specs.Exprs.{Name}
+use Rattle.plan_expr.specs.Leaves.{Name}
 use Rattle.plan_prune.proofs.ListSteps.{take-next, not_past}
 use Rattle.plan_prune.proofs.push_down.scan.listed.Goals.{in-Some+in_ok-new+in_ok-push, in_default}
 use Rattle.plan_prune.proofs.push_down.scan.listed.Goals as goal

@@ -1,6 +1,6 @@
 use Rattle.std.proofs.Common.{◌≡◌, ◌∙◌, ap, sym, arith, rules, Some, None}
 use Rattle.plan_core.specs.Columns.{Columns, type_of, with_type}
-use Rattle.plan_meaning.specs.Exprs.{Name}
+use Rattle.plan_expr.specs.Leaves.{Name}
 use Rattle.plan_prune.proofs.ListSteps.{typed-next, typed-skip, not_past}
 use Rattle.plan_prune.proofs.push_down.scan.typed.Goals.{in-Some+in-Some-get+in_ok-new+in_ok-with_column, in-Some+in_default-get, in_default}
 use Rattle.plan_prune.proofs.push_down.scan.typed.Goals as goal

@@ -1,0 +1,12 @@
+-- The definitions that contracts cite.
+pub mod Appends
+pub mod Children
+pub mod Copies
+pub mod Functions
+pub mod Maps
+pub mod Names
+pub mod Naming
+pub mod Owned
+pub mod Parts
+pub mod Refusals
+pub mod Walks

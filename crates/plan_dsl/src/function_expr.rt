@@ -1,0 +1,42 @@
+//! Functions over columns.
+ghost use Rattle.std.specs.Prelude.{◌≡◌};
+
+use plan_options::{ApplyOptions, FunctionOptions};
+
+/// A function over columns.
+#[derive(Clone, Copy, PartialEq, Eq, Hash, Debug)]
+pub enum FunctionExpr {
+    /// Whether a truth value is false; null where it is null.
+    Not,
+    /// Whether a value is null.
+    IsNull,
+    /// Whether a value isn't null.
+    IsNotNull,
+    /// The first input, and the second where that is null.
+    FillNull,
+    /// The values, last row first.
+    Reverse,
+    /// The running sums; a null stays null and adds nothing.
+    CumSum,
+}
+
+impl FunctionExpr {
+    ghost use Rattle.plan_dsl.specs.Functions.{options_of};
+
+    /// The options that the function must carry.
+    pub fn options(&self) -> FunctionOptions
+        ensures { result ≡ options_of self.now }
+    {
+        let collect_groups = match self {
+            FunctionExpr::Not
+            | FunctionExpr::IsNull
+            | FunctionExpr::IsNotNull
+            | FunctionExpr::FillNull => ApplyOptions::ElementWise,
+            FunctionExpr::Reverse | FunctionExpr::CumSum => ApplyOptions::GroupWise,
+        };
+        FunctionOptions {
+            collect_groups,
+            ..FunctionOptions::default()
+        }
+    }
+}

@@ -1,0 +1,275 @@
+//! What an expression is beside the expressions that it is made of, and those by value.
+ghost use Rattle.std.specs.Prelude.{◌≡◌, ◌∷◌, [], ◌++◌, length, reverse, OnOk, OnErr, IfOk, MatchOption};
+ghost use Rattle.plan_dsl.specs.Parts.{aggregated, aggregate_of, children, head_of};
+ghost use Rattle.plan_dsl.specs.Owned.{owned};
+ghost use Rattle.plan_dsl.specs.Appends.{AppendsFront};
+
+use crate::expr::{AggExpr, Expr};
+use crate::function_expr::FunctionExpr;
+use plan_core::{DataType, Items, PlSmallStr, TryClone, UnitVec};
+use plan_expr::{LiteralValue, Operator};
+use plan_options::FunctionOptions;
+use std::alloc::{AllocError, Global};
+use std::mem;
+
+/// What an expression is beside the expressions that it is made of.
+#[derive(Drop)]
+pub(crate) enum Head {
+    Alias(PlSmallStr),
+    Column(PlSmallStr),
+    Columns(Items<PlSmallStr>),
+    DtypeColumn(Items<DataType>),
+    IndexColumn(Items<i64>),
+    Literal(LiteralValue),
+    BinaryExpr(Operator),
+    Cast(DataType),
+    Sort(bool, bool),
+    Gather(bool),
+    SortBy,
+    Agg(Aggregate),
+    Ternary,
+    Function(FunctionExpr, FunctionOptions),
+    Explode,
+    Filter,
+    Window,
+    Wildcard,
+    Slice,
+    Exclude(Items<PlSmallStr>),
+    KeepName,
+    RenameAlias,
+    Len,
+    Nth(i64),
+}
+
+/// An aggregate without its expression.
+#[derive(Clone, Copy)]
+pub(crate) enum Aggregate {
+    Min,
+    Max,
+    Sum,
+    Count(bool),
+    NUnique,
+    First,
+    Last,
+    Implode,
+}
+
+/// Expressions by value, in walk order. Those that stand alone keep their boxes, so that one that is
+/// given up is let go by a call.
+#[derive(Drop)]
+pub(crate) enum Owned {
+    /// None.
+    Zero,
+    /// One.
+    One(Box<Expr>),
+    /// Two.
+    Two(Box<Expr>, Box<Expr>),
+    /// Three.
+    Three(Box<Expr>, Box<Expr>, Box<Expr>),
+    /// Those of a list.
+    All(Vec<Expr>),
+    /// One, and then those of a list.
+    Before(Box<Expr>, Vec<Expr>),
+}
+
+impl Owned {
+    /// Takes the last one, if there is one.
+    pub(crate) fn pop(&mut self) -> Option<Expr>
+        ensures { MatchOption result (owned self.old ≡ [] × owned self.new ≡ []) (λ x. owned self.old ≡ owned self.new ++ x ∷ []) }
+    {
+        match mem::replace(self, Owned::Zero) {
+            Owned::Zero => None,
+            Owned::One(first) => Some(Box::into_inner(first)),
+            Owned::Two(first, second) => {
+                *self = Owned::One(first);
+                Some(Box::into_inner(second))
+            }
+            Owned::Three(first, second, third) => {
+                *self = Owned::Two(first, second);
+                Some(Box::into_inner(third))
+            }
+            Owned::All(mut list) => {
+                let last = list.pop();
+                *self = Owned::All(list);
+                last
+            }
+            Owned::Before(first, mut list) => match list.pop() {
+                None => Some(Box::into_inner(first)),
+                Some(last) => {
+                    *self = Owned::Before(first, list);
+                    Some(last)
+                }
+            },
+        }
+    }
+
+    /// Appends them, last first.
+    pub(crate) fn append_to(self, out: &mut UnitVec<Expr>) -> Result<(), AllocError>
+        ensures appended { OnOk result (out.new ≡ out.old ++ reverse (owned self)) }
+        ensures refused { OnErr result (AppendsFront (λ e. e) out.old out.new (reverse (owned self))) }
+    {
+        let mut rest = self;
+        while let Some(expr) = rest.pop() {
+            out.push(expr)?;
+        }
+        Ok(())
+    }
+}
+
+impl AggExpr {
+    /// The aggregate.
+    fn aggregate(&self) -> Aggregate
+        ensures { result ≡ aggregate_of self.now }
+    {
+        match self {
+            AggExpr::Min(_) => Aggregate::Min,
+            AggExpr::Max(_) => Aggregate::Max,
+            AggExpr::Sum(_) => Aggregate::Sum,
+            AggExpr::Count(_, nulls) => Aggregate::Count(*nulls),
+            AggExpr::NUnique(_) => Aggregate::NUnique,
+            AggExpr::First(_) => Aggregate::First,
+            AggExpr::Last(_) => Aggregate::Last,
+            AggExpr::Implode(_) => Aggregate::Implode,
+        }
+    }
+
+    /// The aggregate, and the expression that is aggregated.
+    pub(crate) fn into_parts(self) -> (Aggregate, Box<Expr>)
+        ensures aggregate { result.0 ≡ aggregate_of self }
+        ensures input { result.1.value ≡ aggregated self }
+    {
+        match self {
+            AggExpr::Min(input) => (Aggregate::Min, input),
+            AggExpr::Max(input) => (Aggregate::Max, input),
+            AggExpr::Sum(input) => (Aggregate::Sum, input),
+            AggExpr::Count(input, nulls) => (Aggregate::Count(nulls), input),
+            AggExpr::NUnique(input) => (Aggregate::NUnique, input),
+            AggExpr::First(input) => (Aggregate::First, input),
+            AggExpr::Last(input) => (Aggregate::Last, input),
+            AggExpr::Implode(input) => (Aggregate::Implode, input),
+        }
+    }
+}
+
+impl Expr {
+    /// What the expression is, and the expressions that it is made of.
+    pub(crate) fn into_parts(self) -> (Head, Owned)
+        ensures head { result.0 ≡ head_of self }
+        ensures children { owned result.1 ≡ children self }
+    {
+        match self {
+            Expr::Alias(expr, name) => (Head::Alias(name), Owned::One(expr)),
+            Expr::Column(name) => (Head::Column(name), Owned::Zero),
+            Expr::Columns(names) => (Head::Columns(names), Owned::Zero),
+            Expr::DtypeColumn(types) => (Head::DtypeColumn(types), Owned::Zero),
+            Expr::IndexColumn(places) => (Head::IndexColumn(places), Owned::Zero),
+            Expr::Literal(value) => (Head::Literal(value), Owned::Zero),
+            Expr::BinaryExpr { left, op, right } => {
+                let sides = Owned::Two(left, right);
+                (Head::BinaryExpr(op), sides)
+            }
+            Expr::Cast { expr, dtype } => (Head::Cast(dtype), Owned::One(expr)),
+            Expr::Sort {
+                expr,
+                descending,
+                nulls_last,
+            } => (Head::Sort(descending, nulls_last), Owned::One(expr)),
+            Expr::Gather {
+                expr,
+                idx,
+                returns_scalar,
+            } => {
+                let parts = Owned::Two(expr, idx);
+                (Head::Gather(returns_scalar), parts)
+            }
+            Expr::SortBy { expr, mut by } => {
+                by.reverse();
+                (Head::SortBy, Owned::Before(expr, by))
+            }
+            Expr::Agg(agg) => {
+                let (aggregate, input) = agg.into_parts();
+                (Head::Agg(aggregate), Owned::One(input))
+            }
+            Expr::Ternary {
+                predicate,
+                truthy,
+                falsy,
+            } => { (Head::Ternary, Owned::Three(truthy, falsy, predicate)) }
+            Expr::Function {
+                input,
+                function,
+                options,
+            } => (Head::Function(function, options), Owned::All(input)),
+            Expr::Explode(expr) => (Head::Explode, Owned::One(expr)),
+            Expr::Filter { input, by } => {
+                let parts = Owned::Two(input, by);
+                (Head::Filter, parts)
+            }
+            Expr::Window {
+                function,
+                partition_by,
+            } => {
+                let parts = Owned::Before(function, partition_by);
+                (Head::Window, parts)
+            }
+            Expr::Wildcard => (Head::Wildcard, Owned::Zero),
+            Expr::Slice {
+                input,
+                offset,
+                length,
+            } => { (Head::Slice, Owned::Three(input, offset, length)) }
+            Expr::Exclude(expr, names) => { (Head::Exclude(names), Owned::One(expr)) }
+            Expr::KeepName(expr) => (Head::KeepName, Owned::One(expr)),
+            Expr::RenameAlias { expr } => (Head::RenameAlias, Owned::One(expr)),
+            Expr::Len => (Head::Len, Owned::Zero),
+            Expr::Nth(place) => (Head::Nth(place), Owned::Zero),
+        }
+    }
+
+    /// The expressions that the expression is made of.
+    pub(crate) fn into_children(self) -> Owned
+        ensures { owned result ≡ children self }
+    {
+        self.into_parts().1
+    }
+
+    /// What the expression is beside those that it is made of.
+    pub(crate) fn head(&self, alloc: Global) -> Result<Head, AllocError>
+        ensures { IfOk result (λ head. head ≡ head_of self.now) }
+    {
+        match self {
+            Expr::Alias(_, name) => Ok(Head::Alias(name.try_clone(alloc)?)),
+            Expr::Column(name) => Ok(Head::Column(name.try_clone(alloc)?)),
+            Expr::Columns(names) => Ok(Head::Columns(names.try_clone(alloc)?)),
+            Expr::DtypeColumn(types) => Ok(Head::DtypeColumn(types.try_clone(alloc)?)),
+            Expr::IndexColumn(places) => Ok(Head::IndexColumn(places.try_clone(alloc)?)),
+            Expr::Literal(value) => Ok(Head::Literal(value.try_clone(alloc)?)),
+            Expr::BinaryExpr { op, .. } => Ok(Head::BinaryExpr(*op)),
+            Expr::Cast { dtype, .. } => Ok(Head::Cast(*dtype)),
+            Expr::Sort {
+                descending,
+                nulls_last,
+                ..
+            } => Ok(Head::Sort(*descending, *nulls_last)),
+            Expr::Gather { returns_scalar, .. } => Ok(Head::Gather(*returns_scalar)),
+            Expr::SortBy { .. } => Ok(Head::SortBy),
+            Expr::Agg(agg) => Ok(Head::Agg(agg.aggregate())),
+            Expr::Ternary { .. } => Ok(Head::Ternary),
+            Expr::Function {
+                function,
+                options,
+                ..
+            } => Ok(Head::Function(*function, *options)),
+            Expr::Explode(_) => Ok(Head::Explode),
+            Expr::Filter { .. } => Ok(Head::Filter),
+            Expr::Window { .. } => Ok(Head::Window),
+            Expr::Wildcard => Ok(Head::Wildcard),
+            Expr::Slice { .. } => Ok(Head::Slice),
+            Expr::Exclude(_, names) => Ok(Head::Exclude(names.try_clone(alloc)?)),
+            Expr::KeepName(_) => Ok(Head::KeepName),
+            Expr::RenameAlias { .. } => Ok(Head::RenameAlias),
+            Expr::Len => Ok(Head::Len),
+            Expr::Nth(place) => Ok(Head::Nth(*place)),
+        }
+    }
+}
