@@ -10,6 +10,7 @@ use Rattle.std.specs.declared.alloc.Global.{Global}
 use Rattle.std.proofs.lemmas.Slice.Eq.{bytes_eq-Decides, slice_eq-Decides}
 use Rattle.plan_core.specs.declared.data_type.DataType.{DataType}
 use Rattle.plan_core.specs.declared.data_type.DataType.TheVariants as types
+use Rattle.plan_core.specs.declared.data_type.PlainType.TheVariants as plains
 use Rattle.plan_core.specs.contracts.data_type.DataTypePartialEq.TheImpl.{ghosts}
 use Rattle.plan_core.specs.Columns.{Columns, same_column, same_columns, type_number}
 use Rattle.plan_core.proofs.ColumnLemmas.{Entries, seen}
@@ -22,23 +23,77 @@ eq-types : (a b : DataType) → ghosts.eq a b ≡ same_type a b
 eq-types types.Int64 types.Int64 = refl
 eq-types types.Int64 types.String = refl
 eq-types types.Int64 types.Boolean = refl
+eq-types types.Int64 (types.List plains.Int64) = refl
+eq-types types.Int64 (types.List plains.String) = refl
+eq-types types.Int64 (types.List plains.Boolean) = refl
 eq-types types.String types.Int64 = refl
 eq-types types.String types.String = refl
 eq-types types.String types.Boolean = refl
+eq-types types.String (types.List plains.Int64) = refl
+eq-types types.String (types.List plains.String) = refl
+eq-types types.String (types.List plains.Boolean) = refl
 eq-types types.Boolean types.Int64 = refl
 eq-types types.Boolean types.String = refl
 eq-types types.Boolean types.Boolean = refl
+eq-types types.Boolean (types.List plains.Int64) = refl
+eq-types types.Boolean (types.List plains.String) = refl
+eq-types types.Boolean (types.List plains.Boolean) = refl
+eq-types (types.List plains.Int64) types.Int64 = refl
+eq-types (types.List plains.Int64) types.String = refl
+eq-types (types.List plains.Int64) types.Boolean = refl
+eq-types (types.List plains.Int64) (types.List plains.Int64) = refl
+eq-types (types.List plains.Int64) (types.List plains.String) = refl
+eq-types (types.List plains.Int64) (types.List plains.Boolean) = refl
+eq-types (types.List plains.String) types.Int64 = refl
+eq-types (types.List plains.String) types.String = refl
+eq-types (types.List plains.String) types.Boolean = refl
+eq-types (types.List plains.String) (types.List plains.Int64) = refl
+eq-types (types.List plains.String) (types.List plains.String) = refl
+eq-types (types.List plains.String) (types.List plains.Boolean) = refl
+eq-types (types.List plains.Boolean) types.Int64 = refl
+eq-types (types.List plains.Boolean) types.String = refl
+eq-types (types.List plains.Boolean) types.Boolean = refl
+eq-types (types.List plains.Boolean) (types.List plains.Int64) = refl
+eq-types (types.List plains.Boolean) (types.List plains.String) = refl
+eq-types (types.List plains.Boolean) (types.List plains.Boolean) = refl
 
 same_type-Decides : (a b : DataType) → Decides (same_type a b) (a ≡ b)
 same_type-Decides types.Int64 types.Int64 = (λ e. refl, λ e. refl)
 same_type-Decides types.Int64 types.String = (λ e. cc, λ e. cc)
 same_type-Decides types.Int64 types.Boolean = (λ e. cc, λ e. cc)
+same_type-Decides types.Int64 (types.List plains.Int64) = (λ e. cc, λ e. cc)
+same_type-Decides types.Int64 (types.List plains.String) = (λ e. cc, λ e. cc)
+same_type-Decides types.Int64 (types.List plains.Boolean) = (λ e. cc, λ e. cc)
 same_type-Decides types.String types.Int64 = (λ e. cc, λ e. cc)
 same_type-Decides types.String types.String = (λ e. refl, λ e. refl)
 same_type-Decides types.String types.Boolean = (λ e. cc, λ e. cc)
+same_type-Decides types.String (types.List plains.Int64) = (λ e. cc, λ e. cc)
+same_type-Decides types.String (types.List plains.String) = (λ e. cc, λ e. cc)
+same_type-Decides types.String (types.List plains.Boolean) = (λ e. cc, λ e. cc)
 same_type-Decides types.Boolean types.Int64 = (λ e. cc, λ e. cc)
 same_type-Decides types.Boolean types.String = (λ e. cc, λ e. cc)
 same_type-Decides types.Boolean types.Boolean = (λ e. refl, λ e. refl)
+same_type-Decides types.Boolean (types.List plains.Int64) = (λ e. cc, λ e. cc)
+same_type-Decides types.Boolean (types.List plains.String) = (λ e. cc, λ e. cc)
+same_type-Decides types.Boolean (types.List plains.Boolean) = (λ e. cc, λ e. cc)
+same_type-Decides (types.List plains.Int64) types.Int64 = (λ e. cc, λ e. cc)
+same_type-Decides (types.List plains.Int64) types.String = (λ e. cc, λ e. cc)
+same_type-Decides (types.List plains.Int64) types.Boolean = (λ e. cc, λ e. cc)
+same_type-Decides (types.List plains.Int64) (types.List plains.Int64) = (λ e. refl, λ e. refl)
+same_type-Decides (types.List plains.Int64) (types.List plains.String) = (λ e. cc, λ e. cc)
+same_type-Decides (types.List plains.Int64) (types.List plains.Boolean) = (λ e. cc, λ e. cc)
+same_type-Decides (types.List plains.String) types.Int64 = (λ e. cc, λ e. cc)
+same_type-Decides (types.List plains.String) types.String = (λ e. cc, λ e. cc)
+same_type-Decides (types.List plains.String) types.Boolean = (λ e. cc, λ e. cc)
+same_type-Decides (types.List plains.String) (types.List plains.Int64) = (λ e. cc, λ e. cc)
+same_type-Decides (types.List plains.String) (types.List plains.String) = (λ e. refl, λ e. refl)
+same_type-Decides (types.List plains.String) (types.List plains.Boolean) = (λ e. cc, λ e. cc)
+same_type-Decides (types.List plains.Boolean) types.Int64 = (λ e. cc, λ e. cc)
+same_type-Decides (types.List plains.Boolean) types.String = (λ e. cc, λ e. cc)
+same_type-Decides (types.List plains.Boolean) types.Boolean = (λ e. cc, λ e. cc)
+same_type-Decides (types.List plains.Boolean) (types.List plains.Int64) = (λ e. cc, λ e. cc)
+same_type-Decides (types.List plains.Boolean) (types.List plains.String) = (λ e. cc, λ e. cc)
+same_type-Decides (types.List plains.Boolean) (types.List plains.Boolean) = (λ e. refl, λ e. refl)
 
 both-Decides : (x y : Bool) (c d : List ℕ × DataType) → Decides x (c.0 ≡ d.0) → Decides y (c.1 ≡ d.1) → Decides (x && y) (c ≡ d)
 both-Decides true true c d p q = (λ e. (λ i. (p.0 refl i, q.0 refl i)), λ e. refl)

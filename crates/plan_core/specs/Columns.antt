@@ -1,10 +1,10 @@
 -- Lists of names with types.
-use Rattle.std.specs.Prelude.{◌≡◌, ℕ, Bool, ◌&&◌, nat_eq, List, [], ◌∷◌, Option, None, Some, if◌then◌else◌, map, fold, position, slice_get}
+use Rattle.std.specs.Prelude.{◌≡◌, ℕ, suc, Bool, ◌&&◌, nat_eq, List, [], ◌∷◌, Option, None, Some, if◌then◌else◌, map, fold, position, slice_get}
 use Rattle.std.specs.Str.{bytes_eq}
 use Rattle.std.specs.List.{IsDistinct}
 use Rattle.std.specs.Cmp.Lexicographic.{pointwise}
 use Rattle.plan_core.specs.declared.data_type.DataType.{DataType}
-use Rattle.plan_core.specs.declared.data_type.DataType.TheVariants.{Int64, String, Boolean}
+use Rattle.plan_core.specs.declared.data_type.DataType.TheVariants.{Int64, String, Boolean, List as ListOf}
 use Rattle.plan_core.specs.declared.data_type.PlainType.{PlainType}
 use Rattle.plan_core.specs.declared.data_type.PlainType.TheVariants as plains
 
@@ -13,6 +13,13 @@ abbrev pub plain : PlainType → DataType
 plain plains.Int64 = Int64
 plain plains.String = String
 plain plains.Boolean = Boolean
+
+-- the type of a single value of a column; none where its values are lists
+abbrev pub plain_type_of : DataType → Option PlainType
+plain_type_of Int64 = Some plains.Int64
+plain_type_of String = Some plains.String
+plain_type_of Boolean = Some plains.Boolean
+plain_type_of (ListOf t) = None
 
 -- names with types, in order
 abbrev pub Columns : Type 0
@@ -53,11 +60,18 @@ without (c ∷ cs) name = if bytes_eq name c.0 then cs else c ∷ without cs nam
 abbrev pub HasDistinctNames : Columns → Type 0
 HasDistinctNames cs = IsDistinct bytes_eq (names_of cs)
 
+-- a number for each type of a single value
+abbrev pub plain_number : PlainType → ℕ
+plain_number plains.Int64 = 0
+plain_number plains.String = 1
+plain_number plains.Boolean = 2
+
 -- a number for each type
 abbrev pub type_number : DataType → ℕ
 type_number Int64 = 0
 type_number String = 1
 type_number Boolean = 2
+type_number (ListOf t) = suc (suc (suc (plain_number t)))
 
 -- whether two columns have one name and one type
 abbrev pub same_column : List ℕ × DataType → List ℕ × DataType → Bool

@@ -1,5 +1,6 @@
 //! The types of columns.
 ghost use Rattle.std.specs.Prelude.{◌≡◌, IfOk};
+ghost use Rattle.plan_core.specs.Columns.{plain_type_of};
 
 use crate::try_clone::TryClone;
 use std::alloc::{AllocError, Global};
@@ -13,6 +14,22 @@ pub enum DataType {
     String,
     /// Truth values.
     Boolean,
+    /// Lists of such values.
+    List(PlainType),
+}
+
+impl DataType {
+    /// The type of a single value, if the values of the column are no lists.
+    pub fn plain_type(self) -> Option<PlainType>
+        ensures { result ≡ plain_type_of self }
+    {
+        match self {
+            DataType::Int64 => Some(PlainType::Int64),
+            DataType::String => Some(PlainType::String),
+            DataType::Boolean => Some(PlainType::Boolean),
+            DataType::List(_) => None,
+        }
+    }
 }
 
 impl TryClone for DataType {
