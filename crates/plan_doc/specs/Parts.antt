@@ -119,7 +119,10 @@ unfoldable pub type_named : List ℕ → Option DataType
 type_named s =
     if bytes_eq s (codes "Int64") then Some types.Int64 else (
     if bytes_eq s (codes "String") then Some types.String else (
-    if bytes_eq s (codes "Boolean") then Some types.Boolean else None))
+    if bytes_eq s (codes "Boolean") then Some types.Boolean else (
+    if bytes_eq s (codes "List(Int64)") then Some (types.List plains.Int64) else (
+    if bytes_eq s (codes "List(String)") then Some (types.List plains.String) else (
+    if bytes_eq s (codes "List(Boolean)") then Some (types.List plains.Boolean) else None)))))
 
 -- the name of a type
 unfoldable pub type_of : Data → Option DataType

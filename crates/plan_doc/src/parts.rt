@@ -167,6 +167,9 @@ pub fn data_type(value: &Value) -> Result<DataType, Fault>
         "Int64" => Ok(DataType::Int64),
         "String" => Ok(DataType::String),
         "Boolean" => Ok(DataType::Boolean),
+        "List(Int64)" => Ok(DataType::List(PlainType::Int64)),
+        "List(String)" => Ok(DataType::List(PlainType::String)),
+        "List(Boolean)" => Ok(DataType::List(PlainType::Boolean)),
         _ => Err(Fault::Form),
     }
 }

@@ -5,6 +5,8 @@ use Rattle.std.specs.List.{AllByRecursion}
 use Rattle.plan_core.specs.Columns.{Columns, type_of}
 use Rattle.plan_core.specs.declared.data_type.DataType.{DataType}
 use Rattle.plan_core.specs.declared.data_type.DataType.TheVariants as types
+use Rattle.plan_core.specs.declared.data_type.PlainType.{PlainType}
+use Rattle.plan_core.specs.declared.data_type.PlainType.TheVariants as plains
 use Rattle.plan_ir.specs.declared.scan.FileInfo.{FileInfo}
 use Rattle.plan_ir.specs.declared.scan.ScanSources.TheVariants.{Paths}
 use Rattle.plan_ir.specs.Plans.{Op, slice, filter, scan, frame_scan, simple_projection, select, hstack, invalid}
@@ -20,41 +22,96 @@ use Rattle.plan_table.specs.declared.source_key.SourceKey.{SourceKey}
 use Rattle.plan_table.specs.declared.source_key.SourceKey.TheVariants as keys
 use Rattle.plan_table.specs.declared.table.Table.{Table}
 use Rattle.plan_table.specs.declared.value.AnyValue.{AnyValue}
-use Rattle.plan_table.specs.declared.value.AnyValue.TheVariants.{Null, Int64, String, Boolean}
-use Rattle.plan_table.specs.Tables.{IsColumn, IsOf, IsTable, table_at, types_of}
+use Rattle.plan_table.specs.declared.value.AnyValue.TheVariants.{Null, Int64, String, Boolean, List as ListOf}
+use Rattle.plan_table.specs.declared.value.PlainValue.{PlainValue}
+use Rattle.plan_table.specs.declared.value.PlainValue.TheVariants as singles
+use Rattle.plan_table.specs.Tables.{IsColumn, IsOf, IsPlainOf, IsTable, table_at, types_of}
 use Rattle.plan_eval.specs.Fitting.{AreFormed, HasColumns, IsMet, needs_by, scan_needs}
-use Rattle.plan_eval.specs.Shown.{columns_shown, contents_of, frame_of, source_of, value_of, values_of}
+use Rattle.plan_eval.specs.Shown.{columns_shown, contents_of, frame_of, single_of, source_of, value_of, values_of}
 use Rattle.plan_eval.proofs.FitLemmas.{frame-shown}
+
+-- a single value of a type is one when it is shown
+single-of : (t : PlainType) (v : PlainValue) → IsPlainOf t v → spec.IsSingleOf t (single_of v)
+single-of plains.Int64 singles.Null h = tt
+single-of plains.Int64 (singles.Int64 n) h = tt
+single-of plains.Int64 (singles.String s) h = absurd h
+single-of plains.Int64 (singles.Boolean b) h = absurd h
+single-of plains.String singles.Null h = tt
+single-of plains.String (singles.Int64 n) h = absurd h
+single-of plains.String (singles.String s) h = tt
+single-of plains.String (singles.Boolean b) h = absurd h
+single-of plains.Boolean singles.Null h = tt
+single-of plains.Boolean (singles.Int64 n) h = absurd h
+single-of plains.Boolean (singles.String s) h = absurd h
+single-of plains.Boolean (singles.Boolean b) h = tt
+
+of-single : (t : PlainType) (v : PlainValue) → spec.IsSingleOf t (single_of v) → IsPlainOf t v
+of-single plains.Int64 singles.Null h = tt
+of-single plains.Int64 (singles.Int64 n) h = tt
+of-single plains.Int64 (singles.String s) h = absurd h
+of-single plains.Int64 (singles.Boolean b) h = absurd h
+of-single plains.String singles.Null h = tt
+of-single plains.String (singles.Int64 n) h = absurd h
+of-single plains.String (singles.String s) h = tt
+of-single plains.String (singles.Boolean b) h = absurd h
+of-single plains.Boolean singles.Null h = tt
+of-single plains.Boolean (singles.Int64 n) h = absurd h
+of-single plains.Boolean (singles.String s) h = absurd h
+of-single plains.Boolean (singles.Boolean b) h = tt
+
+singles-of : (t : PlainType) (vs : List PlainValue) → AllByRecursion (IsPlainOf t) vs → AllByRecursion (spec.IsSingleOf t) (map single_of vs)
+singles-of t [] h = tt
+singles-of t (v ∷ vs) h = (single-of t v h.0, singles-of t vs h.1)
+
+of-singles : (t : PlainType) (vs : List PlainValue) → AllByRecursion (spec.IsSingleOf t) (map single_of vs) → AllByRecursion (IsPlainOf t) vs
+of-singles t [] h = tt
+of-singles t (v ∷ vs) h = (of-single t v h.0, of-singles t vs h.1)
 
 -- a value of a type is one when it is shown
 pub value-of : (t : DataType) (v : AnyValue) → IsOf t v → spec.IsOf t (value_of v)
 value-of types.Int64 Null h = tt
 value-of types.Int64 (Int64 n) h = tt
-value-of types.Int64 (String s) h = absurd cc
-value-of types.Int64 (Boolean b) h = absurd cc
+value-of types.Int64 (String s) h = absurd h
+value-of types.Int64 (Boolean b) h = absurd h
+value-of types.Int64 (ListOf vs) h = absurd h
 value-of types.String Null h = tt
-value-of types.String (Int64 n) h = absurd cc
+value-of types.String (Int64 n) h = absurd h
 value-of types.String (String s) h = tt
-value-of types.String (Boolean b) h = absurd cc
+value-of types.String (Boolean b) h = absurd h
+value-of types.String (ListOf vs) h = absurd h
 value-of types.Boolean Null h = tt
-value-of types.Boolean (Int64 n) h = absurd cc
-value-of types.Boolean (String s) h = absurd cc
+value-of types.Boolean (Int64 n) h = absurd h
+value-of types.Boolean (String s) h = absurd h
 value-of types.Boolean (Boolean b) h = tt
+value-of types.Boolean (ListOf vs) h = absurd h
+value-of (types.List t) Null h = tt
+value-of (types.List t) (Int64 n) h = absurd h
+value-of (types.List t) (String s) h = absurd h
+value-of (types.List t) (Boolean b) h = absurd h
+value-of (types.List t) (ListOf vs) h = singles-of t vs h
 
 -- and the other way round
 pub of-value : (t : DataType) (v : AnyValue) → spec.IsOf t (value_of v) → IsOf t v
-of-value types.Int64 Null h = refl
-of-value types.Int64 (Int64 n) h = refl
+of-value types.Int64 Null h = tt
+of-value types.Int64 (Int64 n) h = tt
 of-value types.Int64 (String s) h = absurd h
 of-value types.Int64 (Boolean b) h = absurd h
-of-value types.String Null h = refl
+of-value types.Int64 (ListOf vs) h = absurd h
+of-value types.String Null h = tt
 of-value types.String (Int64 n) h = absurd h
-of-value types.String (String s) h = refl
+of-value types.String (String s) h = tt
 of-value types.String (Boolean b) h = absurd h
-of-value types.Boolean Null h = refl
+of-value types.String (ListOf vs) h = absurd h
+of-value types.Boolean Null h = tt
 of-value types.Boolean (Int64 n) h = absurd h
 of-value types.Boolean (String s) h = absurd h
-of-value types.Boolean (Boolean b) h = refl
+of-value types.Boolean (Boolean b) h = tt
+of-value types.Boolean (ListOf vs) h = absurd h
+of-value (types.List t) Null h = tt
+of-value (types.List t) (Int64 n) h = absurd h
+of-value (types.List t) (String s) h = absurd h
+of-value (types.List t) (Boolean b) h = absurd h
+of-value (types.List t) (ListOf vs) h = of-singles t vs h
 
 values-are : (t : DataType) (vs : List AnyValue) → AllByRecursion (IsOf t) vs → AllOf t (values_of vs)
 values-are t [] h = tt

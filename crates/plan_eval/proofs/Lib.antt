@@ -7,3 +7,4 @@ mod FormedLemmas
 mod ColumnLemmas
 mod MadeLemmas
 mod PlanLemmas
+mod SameLemmas

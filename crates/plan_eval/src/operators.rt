@@ -9,7 +9,7 @@ use plan_expr::Operator;
 use plan_table::AnyValue;
 use std::cmp::Ordering;
 
-/// How two values of one type stand: numbers by size, texts by their bytes, false before true.
+/// How two values of one type, which is no list, stand: numbers by size, texts by their bytes, false before true.
 fn ordering(left: &AnyValue, right: &AnyValue) -> Ordering
     ensures { result ≡ value_cmp (value_of left.now) (value_of right.now) }
 {
@@ -31,13 +31,15 @@ fn known(left: &AnyValue, right: &AnyValue, truth: bool) -> AnyValue
     }
 }
 
-/// Whether two values of one type are the same, null being the same as null alone.
+/// Whether two values of one type are the same, null being the same as null alone, and lists value by value.
+#[tactic(auto, using(crate::proofs::SameLemmas::lists_same))]
 fn same(left: &AnyValue, right: &AnyValue) -> bool
     ensures { result ≡ same_value (value_of left.now) (value_of right.now) }
 {
     match (left, right) {
         (AnyValue::Null, AnyValue::Null) => true,
         (AnyValue::Null, _) | (_, AnyValue::Null) => false,
+        (AnyValue::List(a), AnyValue::List(b)) => a == b,
         _ => ordering(left, right).is_eq(),
     }
 }

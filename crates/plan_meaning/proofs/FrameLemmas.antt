@@ -4,6 +4,7 @@ use Rattle.std.specs.List.{AllByRecursion}
 use Rattle.std.specs.Str.{bytes_eq}
 use Rattle.plan_core.specs.declared.data_type.DataType.{DataType}
 use Rattle.plan_core.specs.declared.data_type.DataType.TheVariants as types
+use Rattle.plan_core.specs.declared.data_type.PlainType.TheVariants as plains
 use Rattle.plan_core.specs.Columns.{Columns, names_of, type_of, with_type}
 use Rattle.plan_core.specs.Names.{has}
 use Rattle.plan_expr.specs.Leaves.{Name}
@@ -19,6 +20,7 @@ pub null_of : (t : DataType) → IsOf t null
 null_of types.Int64 = tt
 null_of types.String = tt
 null_of types.Boolean = tt
+null_of (types.List t) = tt
 
 pub row_of : (t : DataType) (vs : List Value) (i : ℕ) → AllOf t vs → IsOf t (row vs i)
 row_of t [] i h = null_of t
@@ -41,6 +43,9 @@ pub same_type_eq : (t u : DataType) → same_type t u ≡ true → t ≡ u
 same_type_eq types.Int64 types.Int64 e = refl
 same_type_eq types.String types.String e = refl
 same_type_eq types.Boolean types.Boolean e = refl
+same_type_eq (types.List plains.Int64) (types.List plains.Int64) e = refl
+same_type_eq (types.List plains.String) (types.List plains.String) e = refl
+same_type_eq (types.List plains.Boolean) (types.List plains.Boolean) e = refl
 same_type_eq t u e = cc
 
 pub is_type_some : (o : Option DataType) (t : DataType) → is_type o t ≡ true → o ≡ Some t
@@ -51,6 +56,9 @@ pub some_type_is : (t : DataType) → is_type (Some t) t ≡ true
 some_type_is types.Int64 = refl
 some_type_is types.String = refl
 some_type_is types.Boolean = refl
+some_type_is (types.List plains.Int64) = refl
+some_type_is (types.List plains.String) = refl
+some_type_is (types.List plains.Boolean) = refl
 
 pub replicate_of : (t : DataType) (v : Value) (n : ℕ) → IsOf t v → AllOf t (replicate n v)
 replicate_of t v zero h = tt

@@ -14,7 +14,7 @@ use Rattle.plan_expr.specs.declared.literal.LiteralValue.{LiteralValue}
 use Rattle.plan_expr.specs.declared.literal.LiteralValue.TheVariants.{Null, Int64, String, Boolean}
 use Rattle.plan_expr.specs.Scalars.{own_scalar, is_scalar, are_scalar}
 use Rattle.plan_meaning.specs.Exprs.{takes, gives, literal_type, operator_type, type_by, expr_type, expr_types}
-use Rattle.plan_meaning.specs.Values.{Value, null, whole, text, truth, IsOf, AllOf}
+use Rattle.plan_meaning.specs.Values.{Value, null, whole, text, truth, listed, IsOf, AllOf}
 use Rattle.plan_meaning.specs.Frames.{Frame, HasSchema}
 use Rattle.plan_meaning.specs.Meaning.{Cell, one, many, CellHas, Meaning, zip_by, spread, compared, both_true, one_true, differ, reckoned, operated, literal_value, meaning, val, vals, filled}
 use Rattle.std.proofs.lemmas.Bool.{and_parts}
@@ -36,6 +36,7 @@ compared_of test null y = tt
 compared_of test (whole a) null = tt
 compared_of test (text a) null = tt
 compared_of test (truth a) null = tt
+compared_of test (listed a) null = tt
 compared_of test x y = tt
 
 -- so does logic
@@ -46,21 +47,31 @@ both_of (truth true) (truth false) = tt
 both_of (truth true) null = tt
 both_of (truth true) (whole b) = tt
 both_of (truth true) (text b) = tt
+both_of (truth true) (listed b) = tt
 both_of null (truth false) = tt
 both_of null (truth true) = tt
 both_of null null = tt
 both_of null (whole b) = tt
 both_of null (text b) = tt
+both_of null (listed b) = tt
 both_of (whole a) (truth false) = tt
 both_of (whole a) (truth true) = tt
 both_of (whole a) null = tt
 both_of (whole a) (whole b) = tt
 both_of (whole a) (text b) = tt
+both_of (whole a) (listed b) = tt
 both_of (text a) (truth false) = tt
 both_of (text a) (truth true) = tt
 both_of (text a) null = tt
 both_of (text a) (whole b) = tt
 both_of (text a) (text b) = tt
+both_of (text a) (listed b) = tt
+both_of (listed a) (truth false) = tt
+both_of (listed a) (truth true) = tt
+both_of (listed a) null = tt
+both_of (listed a) (whole b) = tt
+both_of (listed a) (text b) = tt
+both_of (listed a) (listed b) = tt
 
 one_of_two : (x y : Value) → IsOf types.Boolean (one_true x y)
 one_of_two (truth true) y = tt
@@ -69,21 +80,31 @@ one_of_two (truth false) (truth true) = tt
 one_of_two (truth false) null = tt
 one_of_two (truth false) (whole b) = tt
 one_of_two (truth false) (text b) = tt
+one_of_two (truth false) (listed b) = tt
 one_of_two null (truth true) = tt
 one_of_two null (truth false) = tt
 one_of_two null null = tt
 one_of_two null (whole b) = tt
 one_of_two null (text b) = tt
+one_of_two null (listed b) = tt
 one_of_two (whole a) (truth true) = tt
 one_of_two (whole a) (truth false) = tt
 one_of_two (whole a) null = tt
 one_of_two (whole a) (whole b) = tt
 one_of_two (whole a) (text b) = tt
+one_of_two (whole a) (listed b) = tt
 one_of_two (text a) (truth true) = tt
 one_of_two (text a) (truth false) = tt
 one_of_two (text a) null = tt
 one_of_two (text a) (whole b) = tt
 one_of_two (text a) (text b) = tt
+one_of_two (text a) (listed b) = tt
+one_of_two (listed a) (truth true) = tt
+one_of_two (listed a) (truth false) = tt
+one_of_two (listed a) null = tt
+one_of_two (listed a) (whole b) = tt
+one_of_two (listed a) (text b) = tt
+one_of_two (listed a) (listed b) = tt
 
 differ_of : (x y : Value) → IsOf types.Boolean (differ x y)
 differ_of (truth true) (truth b) = tt
@@ -91,12 +112,15 @@ differ_of (truth false) (truth b) = tt
 differ_of (truth true) null = tt
 differ_of (truth true) (whole b) = tt
 differ_of (truth true) (text b) = tt
+differ_of (truth true) (listed b) = tt
 differ_of (truth false) null = tt
 differ_of (truth false) (whole b) = tt
 differ_of (truth false) (text b) = tt
+differ_of (truth false) (listed b) = tt
 differ_of null y = tt
 differ_of (whole a) y = tt
 differ_of (text a) y = tt
+differ_of (listed a) y = tt
 
 -- arithmetic gives a whole number or null
 reckoned_of : (f : ℤ → ℤ → ℤ) (x y : Value) → IsOf types.Int64 (reckoned f x y)
@@ -104,9 +128,11 @@ reckoned_of f (whole a) (whole b) = tt
 reckoned_of f (whole a) null = tt
 reckoned_of f (whole a) (text b) = tt
 reckoned_of f (whole a) (truth b) = tt
+reckoned_of f (whole a) (listed b) = tt
 reckoned_of f null y = tt
 reckoned_of f (text a) y = tt
 reckoned_of f (truth a) y = tt
+reckoned_of f (listed a) y = tt
 
 -- an operator gives values of its type, whatever its sides are
 operated_of : (o : Operator) (x y : Value) → IsOf (gives o) (operated o x y)

@@ -1,6 +1,6 @@
 -- Expressions: the names that they read, their types, and the names that they give themselves.
-use Rattle.std.specs.Prelude.{List, [], ◌∷◌, Bool, true, false, ◌&&◌, Option, Some, None, is_some, if◌then◌else◌}
-use Rattle.plan_core.specs.Columns.{Columns, type_of, plain}
+use Rattle.std.specs.Prelude.{List, [], ◌∷◌, Bool, true, false, ◌&&◌, ◌==◌, Option, Some, None, is_some, if◌then◌else◌}
+use Rattle.plan_core.specs.Columns.{Columns, type_of, plain, plain_number, plain_type_of}
 use Rattle.plan_expr.specs.Leaves.{Name}
 use Rattle.plan_core.specs.declared.data_type.DataType.{DataType}
 use Rattle.plan_core.specs.declared.data_type.DataType.TheVariants as types
@@ -16,7 +16,12 @@ abbrev pub same_type : DataType → DataType → Bool
 same_type types.Int64 types.Int64 = true
 same_type types.String types.String = true
 same_type types.Boolean types.Boolean = true
+same_type (types.List t) (types.List u) = plain_number t == plain_number u
 same_type _ _ = false
+
+-- two types are the same, and no lists
+abbrev pub same_plain : DataType → DataType → Bool
+same_plain t u = same_type t u && is_some (plain_type_of t)
 
 -- a type is there, and it is this one
 abbrev pub is_type : Option DataType → DataType → Bool
@@ -34,16 +39,16 @@ literal_type (Boolean truth) = types.Boolean
 abbrev pub both_are : DataType → DataType → DataType → Bool
 both_are t u v = same_type t u && same_type t v
 
--- whether an operator takes operands of these types: a comparison two of one type, logic truth values, arithmetic whole numbers
+-- whether an operator takes operands of these types: a comparison two of one type that are no lists, logic truth values, arithmetic whole numbers
 abbrev pub takes : Operator → DataType → DataType → Bool
-takes Eq t u = same_type t u
-takes NotEq t u = same_type t u
-takes Lt t u = same_type t u
-takes LtEq t u = same_type t u
-takes Gt t u = same_type t u
-takes GtEq t u = same_type t u
-takes EqValidity t u = same_type t u
-takes NotEqValidity t u = same_type t u
+takes Eq t u = same_plain t u
+takes NotEq t u = same_plain t u
+takes Lt t u = same_plain t u
+takes LtEq t u = same_plain t u
+takes Gt t u = same_plain t u
+takes GtEq t u = same_plain t u
+takes EqValidity t u = same_plain t u
+takes NotEqValidity t u = same_plain t u
 takes And t u = both_are types.Boolean t u
 takes Or t u = both_are types.Boolean t u
 takes Xor t u = both_are types.Boolean t u

@@ -36,8 +36,8 @@ fn literal_type(value: &LiteralValue) -> DataType
     }
 }
 
-/// Whether an operator takes operands of these types: a comparison two of one type, logic truth values, arithmetic
-/// whole numbers.
+/// Whether an operator takes operands of these types: a comparison two of one type that are no lists, logic
+/// truth values, arithmetic whole numbers.
 fn takes(op: Operator, left: DataType, right: DataType) -> bool
     ensures { result ≡ is_taken op left right }
 {
@@ -49,7 +49,7 @@ fn takes(op: Operator, left: DataType, right: DataType) -> bool
         | Operator::Gt
         | Operator::GtEq
         | Operator::EqValidity
-        | Operator::NotEqValidity => left == right,
+        | Operator::NotEqValidity => left == right && left.plain_type().is_some(),
         Operator::And | Operator::Or | Operator::Xor => {
             left == DataType::Boolean && right == DataType::Boolean
         }

@@ -1,29 +1,38 @@
 -- Tables: values, columns, and what sources hold.
-use Rattle.std.specs.Prelude.{◌≡◌, ℕ, ◌==◌, Bool, true, false, List, [], ◌∷◌, Option, None, Some, if◌then◌else◌, map, length}
+use Rattle.std.specs.Prelude.{◌≡◌, ℕ, ◌==◌, Bool, false, List, [], ◌∷◌, Option, None, Some, if◌then◌else◌, map, length}
 use Rattle.std.specs.Map.{lookup, keys_of}
 use Rattle.std.specs.List.{AllByRecursion, IsDistinct}
 use Rattle.std.specs.Str.{bytes_eq}
 use Rattle.plan_core.specs.Columns.{Columns, HasDistinctNames}
 use Rattle.plan_core.specs.declared.data_type.DataType.{DataType}
 use Rattle.plan_core.specs.declared.data_type.DataType.TheVariants as types
+use Rattle.plan_core.specs.declared.data_type.PlainType.{PlainType}
+use Rattle.plan_core.specs.declared.data_type.PlainType.TheVariants as plains
 use Rattle.plan_table.specs.declared.column.Column.{Column}
 use Rattle.plan_table.specs.declared.source_key.SourceKey.{SourceKey}
 use Rattle.plan_table.specs.declared.source_key.SourceKey.TheVariants.{Path, Buffer, Frame}
 use Rattle.plan_table.specs.declared.table.Table.{Table}
 use Rattle.plan_table.specs.declared.value.AnyValue.{AnyValue}
 use Rattle.plan_table.specs.declared.value.AnyValue.TheVariants as values
+use Rattle.plan_table.specs.declared.value.PlainValue.{PlainValue}
+use Rattle.plan_table.specs.declared.value.PlainValue.TheVariants as singles
 
--- whether a value is null or of a type
-abbrev pub is_of : DataType → AnyValue → Bool
-is_of t values.Null = true
-is_of types.Int64 (values.Int64 n) = true
-is_of types.String (values.String s) = true
-is_of types.Boolean (values.Boolean b) = true
-is_of _ _ = false
+-- a single value is null or of a type
+abbrev pub IsPlainOf : PlainType → PlainValue → Type 0
+IsPlainOf t singles.Null = Unit {0}
+IsPlainOf plains.Int64 (singles.Int64 n) = Unit {0}
+IsPlainOf plains.String (singles.String s) = Unit {0}
+IsPlainOf plains.Boolean (singles.Boolean b) = Unit {0}
+IsPlainOf _ _ = ⊥
 
--- a value is null or of a type
+-- a value is null or of a type; a list is where each value in it is null or of the type of its values
 abbrev pub IsOf : DataType → AnyValue → Type 0
-IsOf t v = is_of t v ≡ true
+IsOf t values.Null = Unit {0}
+IsOf types.Int64 (values.Int64 n) = Unit {0}
+IsOf types.String (values.String s) = Unit {0}
+IsOf types.Boolean (values.Boolean b) = Unit {0}
+IsOf (types.List t) (values.List vs) = AllByRecursion (IsPlainOf t) vs
+IsOf _ _ = ⊥
 
 -- the first column of a name, if there is one
 abbrev pub column_of : List Column → List ℕ → Option Column

@@ -15,4 +15,4 @@ pub use columns::Columns;
 pub use source_key::SourceKey;
 pub use table::Table;
 pub use tables::Tables;
-pub use value::AnyValue;
+pub use value::{AnyValue, PlainValue};

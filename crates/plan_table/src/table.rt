@@ -2,12 +2,12 @@
 ghost use Rattle.std.specs.Prelude.{◌≡◌, ◌↔◌, IsTrue};
 ghost use Rattle.std.specs.List.{AllByRecursion};
 ghost use Rattle.plan_core.specs.Columns.{HasDistinctNames};
-ghost use Rattle.plan_table.specs.Tables.{HasRows, IsColumn, IsOf, is_of as value_is_of, types_of};
+ghost use Rattle.plan_table.specs.Tables.{HasRows, IsColumn, IsOf, IsPlainOf, types_of};
 
 use crate::column::Column;
 use crate::columns::Columns;
-use crate::value::AnyValue;
-use plan_core::DataType;
+use crate::value::{AnyValue, PlainValue};
+use plan_core::{DataType, PlainType};
 
 /// A table: how many rows it has, and its columns in order.
 #[derive(Drop)]
@@ -18,15 +18,41 @@ pub struct Table {
     pub columns: Columns,
 }
 
+/// Whether a single value is null or of a type.
+fn is_plain_of(value: &PlainValue, plain: PlainType) -> bool
+    ensures { IsTrue result ↔ IsPlainOf plain value.now }
+{
+    match (value, plain) {
+        (PlainValue::Null, _)
+        | (PlainValue::Int64(_), PlainType::Int64)
+        | (PlainValue::String(_), PlainType::String)
+        | (PlainValue::Boolean(_), PlainType::Boolean) => true,
+        _ => false,
+    }
+}
+
+/// Whether each single value is null or of a type.
+fn are_plain_of(values: &[PlainValue], plain: PlainType) -> bool
+    ensures { IsTrue result ↔ AllByRecursion (IsPlainOf plain) values.now }
+{
+    for value in values {
+        if !is_plain_of(value, plain) {
+            return false;
+        }
+    }
+    true
+}
+
 /// Whether a value is null or of a type.
 fn is_of(value: &AnyValue, dtype: DataType) -> bool
-    ensures { result ≡ value_is_of dtype value.now }
+    ensures { IsTrue result ↔ IsOf dtype value.now }
 {
     match (value, dtype) {
         (AnyValue::Null, _)
         | (AnyValue::Int64(_), DataType::Int64)
         | (AnyValue::String(_), DataType::String)
         | (AnyValue::Boolean(_), DataType::Boolean) => true,
+        (AnyValue::List(values), DataType::List(plain)) => are_plain_of(values.as_slice(), plain),
         _ => false,
     }
 }

@@ -1,6 +1,6 @@
 //! Each call once, on a small table.
 use super::*;
-use plan_core::{DataType, Items, PlSmallStr, TryClone};
+use plan_core::{DataType, Items, PlSmallStr, PlainType, TryClone};
 use std::alloc::{AllocError, Global};
 use std::test::Fail;
 
@@ -68,5 +68,28 @@ fn a_source_finds_its_table(rt: HostRuntime) -> Result<(), Fail> {
     assert!(rt; tables.get_path("u").is_none());
     assert!(rt; tables.get(&SourceKey::Buffer(1)).is_some());
     assert!(rt; tables.get(&SourceKey::Frame(2)).is_none());
+    Ok(())
+}
+
+#[test]
+fn a_list_holds_values_of_its_type(rt: HostRuntime) -> Result<(), Fail> {
+    let alloc = rt.alloc();
+    let mut singles = Items::new(alloc);
+    singles.push(PlainValue::Int64(1))?;
+    singles.push(PlainValue::Null)?;
+    let list = AnyValue::List(singles);
+    assert!(rt; list == list.try_clone(alloc)?);
+    for (plain, formed) in [(PlainType::Int64, true), (PlainType::String, false)] {
+        let mut values = Items::new(alloc);
+        values.push(list.try_clone(alloc)?)?;
+        let mut columns = Columns::new(alloc);
+        columns.with_column(Column {
+            name: PlSmallStr::new(alloc, "l")?,
+            dtype: DataType::List(plain),
+            values,
+        })?;
+        let table = Table { height: 1, columns };
+        assert_eq!(rt; table.is_formed(), formed);
+    }
     Ok(())
 }

@@ -14,11 +14,18 @@ use Rattle.plan_expr.specs.declared.operator.Operator.TheVariants as operators
 use Rattle.plan_ir.specs.declared.scan.FileScan.{FileScan}
 use Rattle.plan_ir.specs.declared.scan.FileScan.TheVariants as files
 
+-- the name of a type of lists
+abbrev pub list_text : PlainType → List ℕ
+list_text plains.Int64 = codes "List(Int64)"
+list_text plains.String = codes "List(String)"
+list_text plains.Boolean = codes "List(Boolean)"
+
 -- the name of a type
 abbrev pub type_text : DataType → List ℕ
 type_text types.Int64 = codes "Int64"
 type_text types.String = codes "String"
 type_text types.Boolean = codes "Boolean"
+type_text (types.List t) = list_text t
 
 -- the name of the type of a single value
 abbrev pub plain_text : PlainType → List ℕ

@@ -29,6 +29,8 @@ use Rattle.plan_table.specs.declared.column.Column.{Column}
 use Rattle.plan_table.specs.declared.table.Table.{Table}
 use Rattle.plan_table.specs.declared.value.AnyValue.{AnyValue}
 use Rattle.plan_table.specs.declared.value.AnyValue.TheVariants as values
+use Rattle.plan_table.specs.declared.value.PlainValue.{PlainValue}
+use Rattle.plan_table.specs.declared.value.PlainValue.TheVariants as singles
 use Rattle.plan_text.specs.Kinds.{type_text, literal_text, operator_text, format_text, fault_text, place_of}
 
 -- the number of a node or of an expression
@@ -177,12 +179,20 @@ node_data nodes.Invalid = object (member (codes "op") (string (codes "Invalid"))
 unfoldable pub plan_data : List IR → List AExpr → Node → Data
 plan_data lp ex root = object (member (codes "exprs") (list_data expr_data ex) (member (codes "nodes") (list_data node_data lp) (member (codes "root") (link_data root) no_members)))
 
--- a value in a row, null where there is none
+-- a value in a list, null where there is none
+abbrev pub single_data : PlainValue → Data
+single_data singles.Null = json.null
+single_data (singles.Int64 z) = integer_data z
+single_data (singles.String s) = string s
+single_data (singles.Boolean b) = boolean b
+
+-- a value in a row, null where there is none, a list as an array
 abbrev pub value_data : AnyValue → Data
 value_data values.Null = json.null
 value_data (values.Int64 z) = integer_data z
 value_data (values.String s) = string s
 value_data (values.Boolean b) = boolean b
+value_data (values.List vs) = list_data single_data vs
 
 -- a column of a table: its name, its type and its values from the first row on
 abbrev pub column_data : Column → Data

@@ -1,12 +1,23 @@
 //! The names of types, operators, formats of files, and errors.
 ghost use Rattle.std.specs.Prelude.{◌≡◌};
-ghost use Rattle.plan_text.specs.Kinds.{type_text, plain_text, literal_text, operator_text, format_text, fault_text, place_of};
+ghost use Rattle.plan_text.specs.Kinds.{list_text, type_text, plain_text, literal_text, operator_text, format_text, fault_text, place_of};
 
 use plan_core::{At, DataType, PlainType, PolarsError};
 use plan_expr::{LiteralValue, Operator};
 use plan_ir::FileScan;
 
-/// The name of a type in a document: `Int64`, `String` or `Boolean`.
+/// The name of a type of lists in a document: `List(Int64)`, `List(String)` or `List(Boolean)`.
+fn list_name(plain: PlainType) -> &'static str
+    ensures { result.now ≡ list_text plain }
+{
+    match plain {
+        PlainType::Int64 => "List(Int64)",
+        PlainType::String => "List(String)",
+        PlainType::Boolean => "List(Boolean)",
+    }
+}
+
+/// The name of a type in a document: `Int64`, `String`, `Boolean`, or one of these in `List(..)`.
 pub fn type_name(data_type: DataType) -> &'static str
     ensures { result.now ≡ type_text data_type }
 {
@@ -14,6 +25,7 @@ pub fn type_name(data_type: DataType) -> &'static str
         DataType::Int64 => "Int64",
         DataType::String => "String",
         DataType::Boolean => "Boolean",
+        DataType::List(plain) => list_name(plain),
     }
 }
 

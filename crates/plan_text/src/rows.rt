@@ -2,14 +2,42 @@
 ghost use Rattle.std.specs.Prelude.{◌≡◌, ◌++◌, IfOk, OnOk, option_copied};
 ghost use Rattle.json.specs.Tree.{json_tokens};
 ghost use Rattle.serde_json.specs.Written.{compact_text, outline};
-ghost use Rattle.plan_text.specs.Written.{column_data, list_data, rows_data, table_data, value_data};
+ghost use Rattle.plan_text.specs.Written.{column_data, list_data, rows_data, single_data, table_data, value_data};
 
 use crate::kinds::type_name;
 use json::Writer;
-use plan_table::{AnyValue, Column, Columns, Table};
+use plan_table::{AnyValue, Column, Columns, PlainValue, Table};
 use std::alloc::AllocError;
 
-/// Writes a value: null, a whole number, a text or a truth value.
+/// Writes a single value: null, a whole number, a text or a truth value.
+fn write_single(writer: &mut Writer, value: &PlainValue) -> Result<(), AllocError>
+    ensures tokens { OnOk result (writer.new.tokens
+        ≡ writer.old.tokens ++ json_tokens (outline (single_data value.now))) }
+    ensures before { OnOk result (writer.new.before ≡ writer.old.before) }
+{
+    match value {
+        PlainValue::Null => writer.null(),
+        PlainValue::Int64(number) => writer.i64(*number),
+        PlainValue::String(text) => writer.string(text.as_str()),
+        PlainValue::Boolean(truth) => writer.boolean(*truth),
+    }
+}
+
+/// Writes the array of single values.
+#[tactic(auto, unfolding(crate::specs::Written::list_data))]
+fn write_singles(writer: &mut Writer, values: &[PlainValue]) -> Result<(), AllocError>
+    ensures tokens { OnOk result (writer.new.tokens
+        ≡ writer.old.tokens ++ json_tokens (outline (list_data single_data values.now))) }
+    ensures before { OnOk result (writer.new.before ≡ writer.old.before) }
+{
+    writer.begin_array()?;
+    for value in values {
+        write_single(writer, value)?;
+    }
+    writer.end_array()
+}
+
+/// Writes a value: null, a whole number, a text, a truth value, or an array of such.
 fn write_value(writer: &mut Writer, value: &AnyValue) -> Result<(), AllocError>
     ensures tokens { OnOk result (writer.new.tokens
         ≡ writer.old.tokens ++ json_tokens (outline (value_data value.now))) }
@@ -20,6 +48,7 @@ fn write_value(writer: &mut Writer, value: &AnyValue) -> Result<(), AllocError>
         AnyValue::Int64(number) => writer.i64(*number),
         AnyValue::String(text) => writer.string(text.as_str()),
         AnyValue::Boolean(truth) => writer.boolean(*truth),
+        AnyValue::List(values) => write_singles(writer, values.as_slice()),
     }
 }
 

@@ -1,0 +1,40 @@
+-- When two lists of single values are the same.
+use Rattle.std.proofs.Common.{◌≡◌, ◌∙◌, Bool, true, false, ◌&&◌, List, [], ◌∷◌, map, refl, ap₂}
+use Rattle.std.specs.Cmp.Lexicographic.{pointwise}
+use Rattle.plan_table.specs.declared.value.PlainValue.{PlainValue}
+use Rattle.plan_table.specs.declared.value.PlainValue.TheVariants.{Null, Int64, String, Boolean}
+use Rattle.plan_table.specs.contracts.value.PlainValuePartialEq.TheImpl.{ghosts}
+use Rattle.plan_meaning.specs.Values.{same_single}
+use Rattle.plan_eval.specs.Shown.{single_of}
+
+-- what `==` says of two single values
+single_same : (a b : PlainValue) → ghosts.eq a b ≡ same_single (single_of a) (single_of b)
+single_same Null Null = refl
+single_same Null (Int64 n) = refl
+single_same Null (String s) = refl
+single_same Null (Boolean b) = refl
+single_same (Int64 n) Null = refl
+single_same (Int64 n) (Int64 m) = refl
+single_same (Int64 n) (String s) = refl
+single_same (Int64 n) (Boolean b) = refl
+single_same (String s) Null = refl
+single_same (String s) (Int64 n) = refl
+single_same (String s) (String t) = refl
+single_same (String s) (Boolean b) = refl
+single_same (Boolean true) Null = refl
+single_same (Boolean false) Null = refl
+single_same (Boolean true) (Int64 n) = refl
+single_same (Boolean false) (Int64 n) = refl
+single_same (Boolean true) (String s) = refl
+single_same (Boolean false) (String s) = refl
+single_same (Boolean true) (Boolean true) = refl
+single_same (Boolean true) (Boolean false) = refl
+single_same (Boolean false) (Boolean true) = refl
+single_same (Boolean false) (Boolean false) = refl
+
+-- what `==` says of two lists of single values
+pub lists_same : (vs ws : List PlainValue) → pointwise ghosts.eq vs ws ≡ pointwise same_single (map single_of vs) (map single_of ws)
+lists_same [] [] = refl
+lists_same [] (w ∷ ws) = refl
+lists_same (v ∷ vs) [] = refl
+lists_same (v ∷ vs) (w ∷ ws) = ap₂ (λ (a b : Bool). a && b) (single_same v w) (lists_same vs ws)
