@@ -2,7 +2,6 @@
 pub mod Appends
 pub mod Children
 pub mod Copies
-pub mod Functions
 pub mod Maps
 pub mod Names
 pub mod Naming

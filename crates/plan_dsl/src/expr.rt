@@ -1,7 +1,7 @@
 //! Expressions as trees: each one holds the expressions that it is made of.
-use crate::function_expr::FunctionExpr;
+
 use plan_core::{DataType, Items, PlSmallStr};
-use plan_expr::{LiteralValue, Operator};
+use plan_expr::{FunctionExpr, LiteralValue, Operator};
 use plan_options::FunctionOptions;
 
 /// An expression, with the expressions that it is made of.

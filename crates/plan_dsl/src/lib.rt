@@ -6,7 +6,6 @@ mod copy;
 mod expr;
 mod expr_iter;
 mod find;
-mod function_expr;
 mod leaves;
 mod map;
 mod mapper;
@@ -20,7 +19,7 @@ mod walk;
 pub use expr::{AggExpr, Expr};
 pub use expr_iter::ExprIter;
 pub use find::{has_expr, has_null};
-pub use function_expr::FunctionExpr;
+pub use plan_expr::FunctionExpr;
 pub use leaves::{
     LeafColumnNames, expr_to_leaf_column_name, expr_to_leaf_column_names,
     expr_to_leaf_column_names_iter,

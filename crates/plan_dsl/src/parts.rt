@@ -5,9 +5,8 @@ ghost use Rattle.plan_dsl.specs.Owned.{owned};
 ghost use Rattle.plan_dsl.specs.Appends.{AppendsFront};
 
 use crate::expr::{AggExpr, Expr};
-use crate::function_expr::FunctionExpr;
 use plan_core::{DataType, Items, PlSmallStr, TryClone, UnitVec};
-use plan_expr::{LiteralValue, Operator};
+use plan_expr::{FunctionExpr, LiteralValue, Operator};
 use plan_options::FunctionOptions;
 use std::alloc::{AllocError, Global};
 use std::mem;

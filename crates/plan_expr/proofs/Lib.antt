@@ -1,8 +1,9 @@
 -- The lemmas of this crate.
+pub mod AggLemmas
 pub mod ExprLemmas
+pub mod ListLemmas
+pub mod LeafLemmas
 pub mod NameLemmas
 pub mod ScalarLemmas
 mod WalkLemmas
-mod LeafLemmas
-mod ListLemmas
 mod ReachLemmas

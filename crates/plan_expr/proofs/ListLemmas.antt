@@ -1,6 +1,6 @@
 -- Lists, one element further, and what is found in them.
-use Rattle.std.proofs.Common.{Bor, sym, Bool, true, false, zero, suc, length, get_or, subst, ◌≡◌, ℕ, ◌+◌, ◌<◌, List, [], ◌∷◌, ◌++◌, take, ap, ◌∙◌, arith, append-nil, None, Some, ◌≤◌}
-use Rattle.std.specs.List.{slice_get, flat_map, All, Any, list_any}
+use Rattle.std.proofs.Common.{Bor, sym, Bool, true, false, not, refl, ◌&&◌, ◌||◌, zero, suc, length, get_or, subst, ◌≡◌, ℕ, ◌+◌, ◌<◌, List, [], ◌∷◌, ◌++◌, take, ap, ◌∙◌, arith, append-nil, None, Some, ◌≤◌}
+use Rattle.std.specs.List.{slice_get, flat_map, All, Any, list_any, list_all}
 use Rattle.std.specs.Fn.{Shared, FnReturnsAt}
 use Rattle.std.specs.Bool.{OnTrue, OnFalse}
 use Rattle.std.proofs.lemmas.List.Elements.{All-weaker}
@@ -57,3 +57,12 @@ pub past : {A : Type 0} (xs : List A) (i : ℕ) → slice_get xs i ≡ None → 
 past [] i e = omega arith
 past (x ∷ xs) zero e = cc
 past (x ∷ xs) (suc i) e = let h = past xs i e in omega (arith, h)
+
+one_more : (b c d : Bool) → not c ≡ d → not (not b || c) ≡ (b && d)
+one_more true c d e = e
+one_more false c d e = refl
+
+-- none fails a test exactly where all pass it
+pub none-any : {A : Type 0} (test : A → Bool) (xs : List A) → not (list_any (λ (x : A). not (test x)) xs) ≡ list_all test xs
+none-any test [] = refl
+none-any {A = A} test (x ∷ xs) = one_more (test x) (list_any (λ (y : A). not (test y)) xs) (list_all test xs) (none-any test xs)

@@ -8,8 +8,11 @@ use Rattle.plan_expr.specs.declared.aexpr.AExpr.{AExpr}
 use Rattle.plan_expr.specs.declared.aexpr.AExpr.TheVariants as exprs
 use Rattle.plan_expr.specs.declared.expr_ir.ExprIR.{ExprIR}
 use Rattle.plan_expr.specs.declared.expr_ir.OutputName.{OutputName}
+use Rattle.plan_expr.specs.declared.function_expr.FunctionExpr.{FunctionExpr}
 use Rattle.plan_expr.specs.declared.literal.LiteralValue.{LiteralValue}
 use Rattle.plan_expr.specs.declared.operator.Operator.{Operator}
+use Rattle.plan_options.specs.declared.function.FunctionOptions.{FunctionOptions}
+use Rattle.plan_expr.specs.Aggregates.{AggOp, agg_op}
 use Rattle.plan_expr.specs.Operands.{expr_shape}
 
 -- what an expression is beside its operands
@@ -18,6 +21,11 @@ pub data ExprOp : Type 0 where
   literal : (value : LiteralValue) → ExprOp
   alias : (name : List ℕ) → ExprOp
   binary : (op : Operator) → ExprOp
+  ternary : ExprOp
+  aggregate : (op : AggOp) → ExprOp
+  call : (function : FunctionExpr) (options : FunctionOptions) → ExprOp
+  window : ExprOp
+  len : ExprOp
 
 -- an expression: an operator over the trees of its operands
 abbrev pub Expr : Type 0
@@ -34,6 +42,11 @@ expr_op (exprs.Column name) = column name
 expr_op (exprs.Literal value) = literal value
 expr_op (exprs.Alias input name) = alias name
 expr_op (exprs.BinaryExpr left op right) = binary op
+expr_op (exprs.Ternary predicate truthy falsy) = ternary
+expr_op (exprs.Agg agg) = aggregate (agg_op agg)
+expr_op (exprs.Function input function options) = call function options
+expr_op (exprs.Window function partition_by) = window
+expr_op exprs.Len = len
 
 -- the first of some trees; a column without a name where there is none
 abbrev pub one_expr : Roses (Unit {0}) ExprOp → Expr

@@ -1,7 +1,7 @@
 -- The names that an expression reads.
 use Rattle.std.specs.Prelude.{ℕ, List, [], ◌∷◌, ◌++◌}
 use Rattle.plan_tree.specs.Rose.{Roses, rose, no_roses, more}
-use Rattle.plan_expr.specs.Exprs.{ExprOp, column, literal, alias, binary, Expr}
+use Rattle.plan_expr.specs.Exprs.{ExprOp, column, literal, alias, binary, ternary, aggregate, call, window, len, Expr}
 
 -- the bytes of a name
 abbrev pub Name : Type 0
@@ -13,6 +13,11 @@ own_leaves (column name) = name ∷ []
 own_leaves (literal value) = []
 own_leaves (alias name) = []
 own_leaves (binary op) = []
+own_leaves ternary = []
+own_leaves (aggregate op) = []
+own_leaves (call function options) = []
+own_leaves window = []
+own_leaves len = []
 
 -- the names of the columns of an expression, in walk order
 abbrev mutual

@@ -1,4 +1,6 @@
 -- The definitions that contracts cite.
+pub mod Aggregates
+pub mod Functions
 pub mod Operands
 pub mod Exprs
 pub mod Leaves

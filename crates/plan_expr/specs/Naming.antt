@@ -1,14 +1,14 @@
 -- The names that expressions give themselves, and those under which they are put out.
-use Rattle.std.specs.Prelude.{[], Bool, true, false, Option, None, Some, codes, bytes_eq}
+use Rattle.std.specs.Prelude.{List, [], ◌∷◌, take, Bool, true, false, Option, None, Some, codes, bytes_eq}
 use Rattle.plan_tree.specs.Rose.{Roses, rose, no_roses, more}
-use Rattle.plan_expr.specs.Exprs.{ExprOp, column, literal, alias, binary, Expr}
+use Rattle.plan_expr.specs.Exprs.{ExprOp, column, literal, alias, binary, ternary, aggregate, call, window, len, Expr}
 use Rattle.plan_expr.specs.Leaves.{Name}
 use Rattle.plan_expr.specs.declared.expr_ir.OutputName.{OutputName}
 use Rattle.plan_expr.specs.declared.expr_ir.OutputName.TheVariants as names
 use Rattle.plan_expr.specs.declared.names.Naming.{Naming as Found}
 use Rattle.plan_expr.specs.declared.names.Naming.TheVariants as found
 
--- what names an expression: a column, a literal, an alias, or nothing in it
+-- what names an expression: a column, a literal or the number of rows, an alias, or nothing in it
 pub data Naming : Type 0 where
   by_column : Name → Naming
   by_literal : Name → Naming
@@ -28,15 +28,37 @@ own_naming (column name) = by_column name
 own_naming (literal value) = by_literal (codes "literal")
 own_naming (alias name) = by_alias name
 own_naming (binary op) = unnamed
+own_naming ternary = unnamed
+own_naming (aggregate op) = unnamed
+own_naming (call function options) = unnamed
+own_naming window = unnamed
+own_naming len = by_literal (codes "len")
 
--- the first column, literal or alias in walk order names an expression
+-- the operands among which a name is looked for: of a window its function alone
+abbrev pub named_part : {X : Type 0} → ExprOp → List X → List X
+named_part (column name) xs = xs
+named_part (literal value) xs = xs
+named_part (alias name) xs = xs
+named_part (binary op) xs = xs
+named_part ternary xs = xs
+named_part (aggregate op) xs = xs
+named_part (call function options) xs = xs
+named_part window xs = take 1 xs
+named_part len xs = xs
+
+-- the first of several that names
+abbrev pub first_named : List Naming → Naming
+first_named [] = unnamed
+first_named (m ∷ ms) = or_naming m (first_named ms)
+
+-- the first column, literal, alias or number of rows in walk order names an expression; a window is followed into its function only
 abbrev mutual
   pub naming : Expr → Naming
-  naming (rose n op es) = or_naming (own_naming op) (first_naming es)
+  naming (rose n op es) = or_naming (own_naming op) (first_named (named_part op (namings es)))
 
-  pub first_naming : Roses (Unit {0}) ExprOp → Naming
-  first_naming no_roses = unnamed
-  first_naming (more e es) = or_naming (naming e) (first_naming es)
+  pub namings : Roses (Unit {0}) ExprOp → List Naming
+  namings no_roses = []
+  namings (more e es) = naming e ∷ namings es
 
 -- whether an output name is one that an expression may have: the name that it gives itself, or where no alias in it gives one any name as an alias
 abbrev pub may_be_named : OutputName → Naming → Bool
@@ -61,11 +83,12 @@ name_of (names.ColumnLhs a) = a
 name_of (names.LiteralLhs a) = a
 name_of (names.Alias a) = a
 
--- the naming that a search found
-abbrev pub naming_seen : Found → Naming
-naming_seen (found.Column name) = by_column name.now
-naming_seen found.Literal = by_literal (codes "literal")
-naming_seen (found.Alias name) = by_alias name.now
+-- the naming that a search found, if it found one
+abbrev pub naming_seen : Option Found → Naming
+naming_seen (Some (found.Column name)) = by_column name.now
+naming_seen (Some (found.Literal name)) = by_literal name.now
+naming_seen (Some (found.Alias name)) = by_alias name.now
+naming_seen None = unnamed
 
 -- the name that an expression gives itself, if it gives one
 abbrev pub own_name : Naming → Option Name

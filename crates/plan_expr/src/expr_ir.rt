@@ -8,7 +8,7 @@ ghost use Rattle.plan_expr.specs.Operands.{IsExpr};
 ghost use Rattle.plan_expr.specs.Refusals.{RefusesNone};
 
 use crate::aexpr::AExpr;
-use crate::names::{Naming, decided_name};
+use crate::names::{Naming, decided_name, nameless};
 use plan_core::{Arena, Node, PlSmallStr, PolarsResult, TryClone};
 use std::alloc::{AllocError, Global};
 
@@ -17,7 +17,7 @@ use std::alloc::{AllocError, Global};
 pub enum OutputName {
     /// No name; no valid plan has an expression without one.
     None,
-    /// The name of a literal that decides.
+    /// The name of a literal, or of the number of rows, that decides.
     LiteralLhs(PlSmallStr),
     /// The name of a column that decides.
     ColumnLhs(PlSmallStr),
@@ -57,7 +57,8 @@ impl ExprIR {
     }
 
     /// The expression at a number, under the name that it gives itself: that of its first column or alias in walk order,
-    /// or `literal` where a literal comes before them. It is a computation fault where nothing in it gives a name.
+    /// or `literal` or `len` where a literal or the number of rows comes before them. It is a computation fault where nothing
+    /// in it gives a name.
     pub fn from_node(alloc: Global, node: Node, ex: &Arena<AExpr>) -> PolarsResult<ExprIR>
         requires { IsExpr ex.now node }
         ensures node { IfOk result (λ e. e.node ≡ node) }
@@ -65,9 +66,10 @@ impl ExprIR {
         ensures fault { IfErr result (RefusesNone (own_output_name (naming (expr_at ex.now node)))) }
     {
         let output_name = match decided_name(node, ex) {
-            Naming::Column(name) => OutputName::ColumnLhs(PlSmallStr::new(alloc, name)?),
-            Naming::Literal => OutputName::LiteralLhs(PlSmallStr::new(alloc, "literal")?),
-            Naming::Alias(name) => OutputName::Alias(PlSmallStr::new(alloc, name)?),
+            Some(Naming::Column(name)) => OutputName::ColumnLhs(PlSmallStr::new(alloc, name)?),
+            Some(Naming::Literal(name)) => OutputName::LiteralLhs(PlSmallStr::new(alloc, name)?),
+            Some(Naming::Alias(name)) => OutputName::Alias(PlSmallStr::new(alloc, name)?),
+            None => return Err(nameless()),
         };
         Ok(ExprIR { node, output_name })
     }

@@ -4,7 +4,7 @@ ghost use Rattle.std.specs.Bool.{OnTrue, OnFalse};
 ghost use Rattle.std.specs.Fn.{FnReturnsAt};
 ghost use Rattle.std.specs.List.{list_any};
 ghost use Rattle.plan_expr.specs.Operands.{IsExpr};
-ghost use Rattle.plan_expr.specs.Walks.{is_literal, reached};
+ghost use Rattle.plan_expr.specs.Walks.{is_literal, is_window, reached};
 
 use crate::aexpr::AExpr;
 use plan_core::{Arena, Node};
@@ -51,5 +51,19 @@ pub fn has_aexpr_literal(node: Node, ex: &Arena<AExpr>) -> bool
         |expr: &AExpr| -> bool
             ensures { result ≡ is_literal expr.now }
         { matches!(expr, AExpr::Literal(_)) },
+    )
+}
+
+/// Whether the expression or one below it is a window.
+pub fn has_aexpr_window(node: Node, ex: &Arena<AExpr>) -> bool
+    requires { IsExpr ex.now node }
+    ensures { result ≡ list_any is_window (reached ex.now node) }
+{
+    has_aexpr(
+        node,
+        ex,
+        |expr: &AExpr| -> bool
+            ensures { result ≡ is_window expr.now }
+        { matches!(expr, AExpr::Window { .. }) },
     )
 }

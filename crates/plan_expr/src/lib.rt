@@ -2,20 +2,25 @@
 #![tactic(auto)]
 
 mod aexpr;
+mod agg;
 mod expr_ir;
 mod find;
+mod function_expr;
 mod iterator;
 mod leaves;
 mod literal;
 mod names;
+mod nodes;
 mod operator;
 mod scalar;
 #[cfg(test)]
 mod tests;
 
 pub use aexpr::AExpr;
+pub use agg::IRAggExpr;
 pub use expr_ir::{ExprIR, OutputName};
-pub use find::{has_aexpr, has_aexpr_literal};
+pub use find::{has_aexpr, has_aexpr_literal, has_aexpr_window};
+pub use function_expr::FunctionExpr;
 pub use iterator::{AExprIter, ArenaExprIter};
 pub use leaves::{
     AExprLeafNames, aexpr_to_leaf_name, aexpr_to_leaf_names, aexpr_to_leaf_names_iter,
@@ -24,4 +29,4 @@ pub use leaves::{
 pub use literal::LiteralValue;
 pub use names::{Naming, aexpr_output_name, decided_name, may_be_named, output_name};
 pub use operator::Operator;
-pub use scalar::is_scalar;
+pub use scalar::{is_elementwise, is_scalar};

@@ -1,39 +1,55 @@
-use Rattle.std.proofs.Common.{◌≡◌, ◌∙◌, ap, refl, arith, Some}
-use Rattle.plan_expr.specs.declared.aexpr.AExpr.TheVariants.{BinaryExpr}
+use Rattle.std.proofs.Common.{◌≡◌, ◌∙◌, sym, arith, None, Some}
+use Rattle.std.specs.List.{slice_get}
+use Rattle.std.proofs.lemmas.Option.{slice_get_within}
+use Rattle.plan_core.specs.declared.arena.Node.{Node}
+use Rattle.plan_expr.specs.Exprs.{expr_at, expr_op}
+use Rattle.plan_expr.specs.Naming.{Naming, naming, named_part}
+use Rattle.plan_expr.specs.Operands.{operands_of}
 use Rattle.plan_expr.proofs.ExprLemmas.{expr_down}
-use Rattle.plan_expr.specs.Exprs.{expr_at}
-use Rattle.plan_expr.specs.Naming.{Naming, or_naming, unnamed, naming}
-use Rattle.plan_expr.specs.Naming.{naming_seen}
-use Rattle.plan_expr.specs.declared.names.Naming.{Naming as Found}
-use Rattle.plan_expr.specs.declared.names.Naming.TheVariants as found
-use Rattle.plan_expr.proofs.NameLemmas.{naming-column, naming-literal, naming-alias, naming-binary}
+use Rattle.plan_expr.proofs.ListLemmas.{past}
+use Rattle.plan_expr.proofs.NameLemmas.{first_found, first_more, first_end, naming_own, naming_below, part_operand}
 use Rattle.plan_expr.proofs.names.+decided_name.Goals as goal
+
+pub returns-in-Some : goal.returns-in-Some
+returns-in-Some t c = naming_own c.args.ex.now c.args.node c.get-expr.result.now c.in-Some.own c.requires c.get-expr.ensures.entry c.in-Some.ensures
 
 pub decided_name-requires : goal.decided_name-requires
 decided_name-requires t c =
-    let e = c.get.ensures.entry ∙ ap Some c.in-BinaryExpr.is in
-    let d = expr_down c.args.ex.now c.args.node c.in-BinaryExpr.left (BinaryExpr c.in-BinaryExpr.left c.in-BinaryExpr.op c.in-BinaryExpr.right) 0 c.requires e refl in
-    (omega (arith, d.0, c.decreases), d.1)
+    let p = c.get-expr.result.now in
+    let m = c.in-Some-named_operand.operand in
+    let there : slice_get (named_part (expr_op p) (operands_of p)) c.loop-operand.place ≡ Some m = sym c.named_operand.ensures.there ∙ c.in-Some-named_operand.is in
+    let down = expr_down c.args.ex.now c.args.node m p c.loop-operand.place c.requires c.get-expr.ensures.entry (part_operand (expr_op p) (operands_of p) c.loop-operand.place m there) in
+    (omega (arith, down.0, c.decreases), down.1)
 
-pub returns-in-Column : goal.returns-in-Column
-returns-in-Column t c =
-    rw c.as_str.ensures (naming-column c.args.ex.now c.args.node c.requires c.in-Column.name (c.get.ensures.entry ∙ ap Some c.in-Column.is))
+pub returns-in-Some-decided_name : goal.returns-in-Some-decided_name
+returns-in-Some-decided_name t c =
+    let p = c.get-expr.result.now in
+    let m = c.in-Some-named_operand.operand in
+    let name : Node → Naming = λ k. naming (expr_at c.args.ex.now k) in
+    let there : slice_get (named_part (expr_op p) (operands_of p)) c.loop-operand.place ≡ Some m = sym c.named_operand.ensures.there ∙ c.in-Some-named_operand.is in
+    first_found name (named_part (expr_op p) (operands_of p)) c.loop-operand.place m c.in-Some-decided_name.name there c.loop-operand.invariant c.in-Some-decided_name.ensures
+    ∙ naming_below c.args.ex.now c.args.node p c.requires c.get-expr.ensures.entry c.in_default.ensures
 
-pub returns-in-Literal : goal.returns-in-Literal
-returns-in-Literal t c = naming-literal c.args.ex.now c.args.node c.requires c.in-Literal.field-0 (c.get.ensures.entry ∙ ap Some c.in-Literal.is)
+pub loop-operand-smaller : goal.loop-operand-smaller
+loop-operand-smaller t c =
+    let p = c.get-expr.result.now in
+    let m = c.in-Some-named_operand.operand in
+    let there : slice_get (named_part (expr_op p) (operands_of p)) c.loop-operand.place ≡ Some m = sym c.named_operand.ensures.there ∙ c.in-Some-named_operand.is in
+    let within = slice_get_within (operands_of p) c.loop-operand.place m (part_operand (expr_op p) (operands_of p) c.loop-operand.place m there) in
+    omega (arith, within)
 
-pub returns-in-Alias : goal.returns-in-Alias
-returns-in-Alias t c =
-    rw c.as_str-in-Alias.ensures (naming-alias c.args.ex.now c.args.node c.requires c.in-Alias.field-0 c.in-Alias.name (c.get.ensures.entry ∙ ap Some c.in-Alias.is))
+pub loop-operand-preserved : goal.loop-operand-preserved
+loop-operand-preserved t c =
+    let p = c.get-expr.result.now in
+    let m = c.in-Some-named_operand.operand in
+    let name : Node → Naming = λ k. naming (expr_at c.args.ex.now k) in
+    let there : slice_get (named_part (expr_op p) (operands_of p)) c.loop-operand.place ≡ Some m = sym c.named_operand.ensures.there ∙ c.in-Some-named_operand.is in
+    first_more name (named_part (expr_op p) (operands_of p)) c.loop-operand.place m there c.loop-operand.invariant c.in_default-decided_name.ensures
 
--- what names the first operand names the whole
-first_names : (f : Found) (m : Naming) → naming_seen f ≡ or_naming (naming_seen f) m
-first_names (found.Column name) m = refl
-first_names found.Literal m = refl
-first_names (found.Alias name) m = refl
-
-pub returns-in-BinaryExpr : goal.returns-in-BinaryExpr
-returns-in-BinaryExpr t c =
-    let m : Naming = or_naming (naming (expr_at c.args.ex.now c.in-BinaryExpr.right)) unnamed in
-    first_names c.decided_name.result m ∙ ap (λ (x : Naming). or_naming x m) c.decided_name.ensures
-    ∙ naming-binary c.args.ex.now c.args.node c.requires c.in-BinaryExpr.left c.in-BinaryExpr.right c.in-BinaryExpr.op (c.get.ensures.entry ∙ ap Some c.in-BinaryExpr.is)
+pub returns : goal.returns
+returns t c =
+    let p = c.get-expr.result.now in
+    let name : Node → Naming = λ k. naming (expr_at c.args.ex.now k) in
+    let none : slice_get (named_part (expr_op p) (operands_of p)) c.loop-operand.place ≡ None = sym c.named_operand.ensures.there ∙ c.in_default-named_operand.is in
+    first_end name (named_part (expr_op p) (operands_of p)) c.loop-operand.place (past (named_part (expr_op p) (operands_of p)) c.loop-operand.place none) c.loop-operand.invariant
+    ∙ naming_below c.args.ex.now c.args.node p c.requires c.get-expr.ensures.entry c.in_default.ensures

@@ -21,7 +21,7 @@ pub enum FunctionExpr {
 }
 
 impl FunctionExpr {
-    ghost use Rattle.plan_dsl.specs.Functions.{options_of};
+    ghost use Rattle.plan_expr.specs.Functions.{is_row_wise, options_of};
 
     /// The options that the function must carry.
     pub fn options(&self) -> FunctionOptions
@@ -37,6 +37,19 @@ impl FunctionExpr {
         FunctionOptions {
             collect_groups,
             ..FunctionOptions::default()
+        }
+    }
+
+    /// Whether each value that the function gives comes of one row alone.
+    pub fn is_elementwise(&self) -> bool
+        ensures { result ≡ is_row_wise self.now }
+    {
+        match self {
+            FunctionExpr::Not
+            | FunctionExpr::IsNull
+            | FunctionExpr::IsNotNull
+            | FunctionExpr::FillNull => true,
+            FunctionExpr::Reverse | FunctionExpr::CumSum => false,
         }
     }
 }
