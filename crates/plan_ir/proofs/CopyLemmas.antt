@@ -16,7 +16,7 @@ use Rattle.plan_tree.specs.Walk.{nodes_of, steps_to}
 use Rattle.plan_ir.specs.declared.copy.Listed.{Listed}
 use Rattle.plan_ir.specs.declared.copy.PlanCopy.{PlanCopy}
 use Rattle.plan_expr.specs.declared.aexpr.AExpr.{AExpr}
-use Rattle.plan_expr.specs.declared.aexpr.AExpr.TheVariants.{Column, Literal, Alias, BinaryExpr}
+use Rattle.plan_expr.specs.declared.aexpr.AExpr.TheVariants.{Column, Literal, Alias, BinaryExpr, Ternary, Agg, Function, Window, Len}
 use Rattle.plan_expr.specs.declared.expr_ir.ExprIR.{ExprIR}
 use Rattle.plan_ir.specs.declared.ir.IR.{IR}
 use Rattle.plan_ir.specs.declared.ir.IR.TheVariants.{Slice, Filter, Scan, DataFrameScan, SimpleProjection, Select, HStack, Invalid}
@@ -24,9 +24,11 @@ use Rattle.plan_ir.specs.Copies.{IsRenumbered, Lists}
 use Rattle.plan_ir.specs.Moved.{entries_at, moved_expr, moved_named, moved_node, new_number}
 use Rattle.plan_expr.specs.Operands.{expr_shape, operands_of}
 use Rattle.plan_ir.specs.Parts.{plan_shape, inputs_of, is_invalid, roots_of, roots_in, StandsPlan, IsPlan}
-use Rattle.plan_expr.specs.Exprs.{Expr, Named, all_named_at, expr_op, expr_at, exprs_at, named_at}
+use Rattle.plan_expr.specs.Exprs.{aggregate, Expr, Named, all_named_at, expr_op, expr_at, exprs_at, named_at}
 use Rattle.plan_ir.specs.Plans.{Op, filter, scan, select, hstack, op_at, plans_of, bare}
 use Rattle.plan_ir.proofs.EntryLemmas.{entries_at-labels}
+use Rattle.plan_expr.specs.Aggregates.{agg_input}
+use Rattle.plan_expr.proofs.AggLemmas.{input-over, op-over}
 use Rattle.plan_expr.proofs.ExprLemmas.{exprs_at-is}
 use Rattle.plan_ir.proofs.MovedLemmas.{labels-map_roses, map_twice, StandsOnce-moved}
 
@@ -82,12 +84,22 @@ module _ (table : List Node) where
   operands-moved (Literal value) = refl
   operands-moved (Alias input name) = refl
   operands-moved (BinaryExpr left op right) = refl
+  operands-moved (Ternary predicate truthy falsy) = refl
+  operands-moved (Agg agg) = ap (λ (n : Node). n ∷ []) (input-over agg (new_number table (agg_input agg)))
+  operands-moved (Function input function options) = refl
+  operands-moved (Window function partition_by) = refl
+  operands-moved Len = refl
 
   op-moved : (e : AExpr) → expr_op (moved_expr table e) ≡ expr_op e
   op-moved (Column name) = refl
   op-moved (Literal value) = refl
   op-moved (Alias input name) = refl
   op-moved (BinaryExpr left op right) = refl
+  op-moved (Ternary predicate truthy falsy) = refl
+  op-moved (Agg agg) = ap aggregate (op-over agg (new_number table (agg_input agg)))
+  op-moved (Function input function options) = refl
+  op-moved (Window function partition_by) = refl
+  op-moved Len = refl
 
 module _ (nodes exprs : List Node) where
   pub inputs-moved : (p : IR) → inputs_of (moved_node nodes exprs p) ≡ map (new_number nodes) (inputs_of p)
