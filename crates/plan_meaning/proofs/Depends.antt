@@ -4,7 +4,7 @@ use Rattle.plan_core.specs.Names.{has}
 use Rattle.plan_core.specs.Columns.{Columns, type_of}
 use Rattle.plan_core.specs.declared.data_type.DataType.{DataType}
 use Rattle.plan_tree.specs.Rose.{Roses, rose, no_roses, more}
-use Rattle.plan_expr.specs.Exprs.{ExprOp, column as column_of, literal, alias, binary, Expr}
+use Rattle.plan_expr.specs.Exprs.{ExprOp, column as column_of, literal, alias, binary, ternary, aggregate, call, window, len, Expr}
 use Rattle.plan_expr.specs.Leaves.{Name, own_leaves, leaves, leaves_all}
 use Rattle.plan_meaning.specs.Exprs.{type_by, expr_type, expr_types}
 use Rattle.plan_meaning.specs.Frames.{Frame, Agree}
@@ -30,6 +30,11 @@ meaning_depends (binary o) l [] own d = record { on = λ f g h. refl }
 meaning_depends (binary o) l (m ∷ []) own d = record { on = λ f g h. refl }
 meaning_depends (binary o) l (m ∷ n ∷ []) own d = record { on = λ f g h. ap₂ (spread (operated o)) (d.0.on f g h) (d.1.0.on f g h) }
 meaning_depends (binary o) l (m ∷ n ∷ k ∷ ms) own d = record { on = λ f g h. refl }
+meaning_depends ternary l ms own d = record { on = λ f g h. refl }
+meaning_depends (aggregate o) l ms own d = record { on = λ f g h. refl }
+meaning_depends (call c o) l ms own d = record { on = λ f g h. refl }
+meaning_depends window l ms own d = record { on = λ f g h. refl }
+meaning_depends len l ms own d = record { on = λ f g h. refl }
 
 mutual
   val_on : (e : Expr) (l : List Name) → ((a : Name) → has (leaves e) a ≡ true → has l a ≡ true) → Depends l (val e)
@@ -50,6 +55,11 @@ type_by_same (column_of a) ts r s h = h a (has_first a [])
 type_by_same (literal v) ts r s h = refl
 type_by_same (alias a) ts r s h = refl
 type_by_same (binary o) ts r s h = refl
+type_by_same ternary ts r s h = refl
+type_by_same (aggregate o) ts r s h = refl
+type_by_same (call c o) ts r s h = refl
+type_by_same window ts r s h = refl
+type_by_same len ts r s h = refl
 
 mutual
   -- the type of an expression depends on the types of its leaves alone

@@ -7,12 +7,12 @@ use Rattle.plan_core.specs.declared.data_type.DataType.{DataType}
 use Rattle.plan_core.specs.declared.data_type.DataType.TheVariants as types
 use Rattle.std.specs.declared.cmp.Ordering.{Ordering}
 use Rattle.plan_tree.specs.Rose.{Roses, rose, no_roses, more}
-use Rattle.plan_expr.specs.Exprs.{ExprOp, column as column_of, literal, alias, binary, Expr}
+use Rattle.plan_expr.specs.Exprs.{ExprOp, column as column_of, literal, alias, binary, ternary, aggregate, call, window, len, Expr}
 use Rattle.plan_expr.specs.declared.operator.Operator.{Operator}
 use Rattle.plan_expr.specs.declared.operator.Operator.TheVariants.{Eq, NotEq, Lt, LtEq, Gt, GtEq, EqValidity, NotEqValidity, And, Or, Xor, Plus, Minus, Multiply}
 use Rattle.plan_expr.specs.declared.literal.LiteralValue.{LiteralValue}
 use Rattle.plan_expr.specs.declared.literal.LiteralValue.TheVariants.{Null, Int64, String, Boolean}
-use Rattle.plan_expr.specs.Scalars.{own_scalar, is_scalar, are_scalar}
+use Rattle.plan_expr.specs.Scalars.{scalar_by, is_scalar, are_scalar}
 use Rattle.plan_meaning.specs.Exprs.{takes, gives, literal_type, operator_type, type_by, expr_type, expr_types}
 use Rattle.plan_meaning.specs.Values.{Value, null, whole, text, truth, listed, IsOf, AllOf}
 use Rattle.plan_meaning.specs.Frames.{Frame, HasSchema}
@@ -220,23 +220,26 @@ AllSingle (m ∷ ms) = Single m × AllSingle ms
 spread_single : (g : Value → Value → Value) (m n : Meaning) → Single m → Single n → Single (λ f. spread g (m f) (n f))
 spread_single g m n a b = record { at = λ f. (g (a.at f).0 (b.at f).0, rw ((a.at f).1, (b.at f).1) refl) }
 
-meaning_single : (op : ExprOp) (ms : List Meaning) → own_scalar op ≡ true → AllSingle ms → Single (meaning op ms)
-meaning_single (column_of a) ms own h = cc
-meaning_single (literal v) ms own h = record { at = λ f. (literal_value v, refl) }
-meaning_single (alias a) [] own h = record { at = λ f. (null, refl) }
-meaning_single (alias a) (m ∷ []) own h = record { at = λ f. h.0.at f }
-meaning_single (alias a) (m ∷ n ∷ ms) own h = record { at = λ f. (null, refl) }
-meaning_single (binary o) [] own h = record { at = λ f. (null, refl) }
-meaning_single (binary o) (m ∷ []) own h = record { at = λ f. (null, refl) }
-meaning_single (binary o) (m ∷ n ∷ []) own h = record { at = λ f. (spread_single (operated o) m n h.0 h.1.0).at f }
-meaning_single (binary o) (m ∷ n ∷ k ∷ ms) own h = record { at = λ f. (null, refl) }
+meaning_single : (op : ExprOp) (ms : List Meaning) (all : Bool) → scalar_by op all ≡ true → (all ≡ true → AllSingle ms) → Single (meaning op ms)
+meaning_single (column_of a) ms all own h = cc
+meaning_single (literal v) ms all own h = record { at = λ f. (literal_value v, refl) }
+meaning_single (alias a) [] all own h = record { at = λ f. (null, refl) }
+meaning_single (alias a) (m ∷ []) all own h = record { at = λ f. (h own).0.at f }
+meaning_single (alias a) (m ∷ n ∷ ms) all own h = record { at = λ f. (null, refl) }
+meaning_single (binary o) [] all own h = record { at = λ f. (null, refl) }
+meaning_single (binary o) (m ∷ []) all own h = record { at = λ f. (null, refl) }
+meaning_single (binary o) (m ∷ n ∷ []) all own h = record { at = λ f. (spread_single (operated o) m n (h own).0 (h own).1.0).at f }
+meaning_single (binary o) (m ∷ n ∷ k ∷ ms) all own h = record { at = λ f. (null, refl) }
+meaning_single ternary ms all own h = record { at = λ f. (null, refl) }
+meaning_single (aggregate o) ms all own h = record { at = λ f. (null, refl) }
+meaning_single (call c o) ms all own h = record { at = λ f. (null, refl) }
+meaning_single window ms all own h = cc
+meaning_single len ms all own h = record { at = λ f. (null, refl) }
 
 mutual
   -- a scalar expression has one value
   pub val_single : (e : Expr) → is_scalar e ≡ true → Single (val e)
-  val_single (rose n op es) h =
-      let p = and_parts (own_scalar op) (are_scalar es) h in
-      meaning_single op (vals es) p.0 (vals_single es p.1)
+  val_single (rose n op es) h = meaning_single op (vals es) (are_scalar es) h (λ all. vals_single es all)
 
   vals_single : (es : Roses (Unit {0}) ExprOp) → are_scalar es ≡ true → AllSingle (vals es)
   vals_single no_roses h = tt

@@ -5,7 +5,7 @@ use Rattle.plan_expr.specs.Leaves.{Name}
 use Rattle.plan_core.specs.declared.data_type.DataType.{DataType}
 use Rattle.plan_core.specs.declared.data_type.DataType.TheVariants as types
 use Rattle.plan_tree.specs.Rose.{Roses, rose, no_roses, more}
-use Rattle.plan_expr.specs.Exprs.{ExprOp, column, literal, alias, binary, Expr}
+use Rattle.plan_expr.specs.Exprs.{ExprOp, column, literal, alias, binary, ternary, aggregate, call, window, len, Expr}
 use Rattle.plan_expr.specs.declared.literal.LiteralValue.{LiteralValue}
 use Rattle.plan_expr.specs.declared.literal.LiteralValue.TheVariants.{Null, Int64, String, Boolean}
 use Rattle.plan_expr.specs.declared.operator.Operator.{Operator}
@@ -89,12 +89,17 @@ abbrev pub only_type : List (Option DataType) → Option DataType
 only_type (p ∷ []) = p
 only_type _ = None
 
--- the type of an operator from those of its operands, over some columns
+-- the type of an operator from those of its operands, over some columns; choices, aggregates, functions, windows and lengths have none yet
 abbrev pub type_by : ExprOp → List (Option DataType) → Columns → Option DataType
 type_by (column name) ts s = type_of s name
 type_by (literal value) ts s = Some (literal_type value)
 type_by (alias name) ts s = only_type ts
 type_by (binary op) ts s = binary_type op ts
+type_by ternary ts s = None
+type_by (aggregate op) ts s = None
+type_by (call function options) ts s = None
+type_by window ts s = None
+type_by len ts s = None
 
 -- the type of an expression over some columns, if it has one
 abbrev mutual

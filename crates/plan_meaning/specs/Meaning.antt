@@ -5,7 +5,7 @@ use Rattle.std.specs.declared.cmp.Ordering.{Ordering}
 use Rattle.std.specs.Ordering.{is_eq, is_ne, is_lt, is_le, is_gt, is_ge}
 use Rattle.plan_core.specs.declared.data_type.DataType.{DataType}
 use Rattle.plan_tree.specs.Rose.{Roses, rose, no_roses, more}
-use Rattle.plan_expr.specs.Exprs.{ExprOp, column as column_of, literal, alias, binary, Expr}
+use Rattle.plan_expr.specs.Exprs.{ExprOp, column as column_of, literal, alias, binary, ternary, aggregate, call, window, len, Expr}
 use Rattle.plan_expr.specs.declared.literal.LiteralValue.{LiteralValue}
 use Rattle.plan_expr.specs.declared.literal.LiteralValue.TheVariants.{Null, Int64, String, Boolean}
 use Rattle.plan_expr.specs.declared.operator.Operator.{Operator}
@@ -109,12 +109,17 @@ abbrev pub two_of : List Meaning → (Meaning → Meaning → Cell) → Cell
 two_of (m ∷ n ∷ []) f = f m n
 two_of _ f = one null
 
--- what an operator makes of the meanings of its operands
+-- what an operator makes of the meanings of its operands; where it has no type yet that is null
 abbrev pub meaning : ExprOp → List Meaning → Meaning
 meaning (column_of name) ms f = many (column_or f name)
 meaning (literal value) ms f = one (literal_value value)
 meaning (alias name) ms f = one_of ms (λ m. m f)
 meaning (binary op) ms f = two_of ms (λ m n. spread (operated op) (m f) (n f))
+meaning ternary ms f = one null
+meaning (aggregate op) ms f = one null
+meaning (call function options) ms f = one null
+meaning window ms f = one null
+meaning len ms f = one null
 
 -- what an expression means: its operator over the meanings of its operands
 abbrev mutual

@@ -2,7 +2,7 @@
 use Rattle.std.specs.Prelude.{ℕ, ◌+◌, Bool, true, false, not, List, [], ◌∷◌, length}
 use Rattle.std.specs.List.{filter as only_where}
 use Rattle.plan_tree.specs.Rose.{Roses, rose, no_roses, more}
-use Rattle.plan_expr.specs.Exprs.{ExprOp, column, literal, alias, binary, Expr, Named}
+use Rattle.plan_expr.specs.Exprs.{ExprOp, column, literal, alias, binary, ternary, aggregate, call, window, len as row_count, Expr, Named}
 use Rattle.plan_ir.specs.Plans.{Op, slice, filter, scan, frame_scan, simple_projection, select, hstack, invalid, Plan}
 use Rattle.plan_meaning.specs.Typing.{schemas}
 use Rattle.plan_meaning.specs.Relating.{Asked, all}
@@ -14,6 +14,11 @@ is_column_op (column name) = true
 is_column_op (literal value) = false
 is_column_op (alias name) = false
 is_column_op (binary op) = false
+is_column_op ternary = false
+is_column_op (aggregate op) = false
+is_column_op (call function options) = false
+is_column_op window = false
+is_column_op row_count = false
 
 -- whether an expression is a column by itself
 abbrev pub is_plain : Expr → Bool

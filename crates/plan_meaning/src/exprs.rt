@@ -14,14 +14,18 @@ pub fn reads_only(node: Node, ex: &Arena<AExpr>, schema: &Schema) -> bool
     requires { IsExpr ex.now node }
     ensures { result ≡ all_known (leaves (expr_at ex.now node)) schema.now }
 {
-    match ex.get(node) {
-        AExpr::Column(name) => schema.get(name.as_str()).is_some(),
-        AExpr::Literal(_) => true,
-        AExpr::Alias(input, _) => reads_only(*input, ex, schema),
-        AExpr::BinaryExpr { left, right, .. } => {
-            reads_only(*left, ex, schema) && reads_only(*right, ex, schema)
-        }
+    let expr = ex.get(node);
+    if let Some(name) = expr.column_name() {
+        return schema.get(name).is_some();
     }
+    let mut place = 0;
+    while let Some(operand) = expr.operand(place) {
+        if !reads_only(operand, ex, schema) {
+            return false;
+        }
+        place += 1;
+    }
+    true
 }
 
 /// The type of a literal.
@@ -89,7 +93,8 @@ fn operator_type(op: Operator, left: Option<DataType>, right: Option<DataType>) 
     }
 }
 
-/// The type of the expression over the columns of a schema, if it has one.
+/// The type of the expression over the columns of a schema, if it has one. Choices, aggregates, functions, windows and the
+/// number of rows have none yet.
 pub fn expr_type(node: Node, ex: &Arena<AExpr>, schema: &Schema) -> Option<DataType>
     requires { IsExpr ex.now node }
     ensures { result ≡ type_of_expr (expr_at ex.now node) schema.now }
@@ -103,6 +108,11 @@ pub fn expr_type(node: Node, ex: &Arena<AExpr>, schema: &Schema) -> Option<DataT
             let right = expr_type(*right, ex, schema);
             operator_type(*op, left, right)
         }
+        AExpr::Ternary { .. } => None,
+        AExpr::Agg(_) => None,
+        AExpr::Function { .. } => None,
+        AExpr::Window { .. } => None,
+        AExpr::Len => None,
     }
 }
 

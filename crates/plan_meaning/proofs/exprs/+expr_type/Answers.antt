@@ -1,8 +1,10 @@
 use Rattle.std.proofs.Common.{◌≡◌, ◌∙◌, ap, ap₂, refl, arith, rules, Some}
 use Rattle.plan_expr.specs.declared.aexpr.AExpr.TheVariants.{Alias, BinaryExpr}
 use Rattle.plan_expr.proofs.ExprLemmas.{expr_down}
-use Rattle.plan_meaning.specs.Exprs.{operator_type}
-use Rattle.plan_meaning.proofs.ExprSteps.{type-column, type-literal, type-alias, type-binary}
+use Rattle.plan_meaning.specs.Exprs.{operator_type, type_by}
+use Rattle.plan_expr.specs.declared.aexpr.AExpr.{AExpr}
+use Rattle.plan_expr.specs.Exprs.{expr_op}
+use Rattle.plan_meaning.proofs.ExprSteps.{type-column, type-literal, type-alias, type-binary, type-none}
 use Rattle.plan_meaning.proofs.exprs.+expr_type.Goals as goal
 
 pub expr_type-requires : goal.expr_type-requires
@@ -38,3 +40,23 @@ pub returns-in-BinaryExpr : goal.returns-in-BinaryExpr
 returns-in-BinaryExpr t c =
     c.operator_type.ensures ∙ ap₂ (operator_type c.in-BinaryExpr.op) c.expr_type-left.ensures c.expr_type-right.ensures
     ∙ type-binary c.args.ex.now c.args.node c.requires c.in-BinaryExpr.left c.in-BinaryExpr.right c.in-BinaryExpr.op c.args.schema.now (c.get.ensures.entry ∙ ap Some c.in-BinaryExpr.is)
+
+pub returns-in-Ternary : goal.returns-in-Ternary
+returns-in-Ternary t c =
+    type-none c.args.ex.now c.args.node c.requires c.get.result.now c.args.schema.now c.get.ensures.entry (λ ts. ap (λ (e : AExpr). type_by (expr_op e) ts c.args.schema.now) c.in-Ternary.is)
+
+pub returns-in-Agg : goal.returns-in-Agg
+returns-in-Agg t c =
+    type-none c.args.ex.now c.args.node c.requires c.get.result.now c.args.schema.now c.get.ensures.entry (λ ts. ap (λ (e : AExpr). type_by (expr_op e) ts c.args.schema.now) c.in-Agg.is)
+
+pub returns-in-Function : goal.returns-in-Function
+returns-in-Function t c =
+    type-none c.args.ex.now c.args.node c.requires c.get.result.now c.args.schema.now c.get.ensures.entry (λ ts. ap (λ (e : AExpr). type_by (expr_op e) ts c.args.schema.now) c.in-Function.is)
+
+pub returns-in-Window : goal.returns-in-Window
+returns-in-Window t c =
+    type-none c.args.ex.now c.args.node c.requires c.get.result.now c.args.schema.now c.get.ensures.entry (λ ts. ap (λ (e : AExpr). type_by (expr_op e) ts c.args.schema.now) c.in-Window.is)
+
+pub returns-in-Len : goal.returns-in-Len
+returns-in-Len t c =
+    type-none c.args.ex.now c.args.node c.requires c.get.result.now c.args.schema.now c.get.ensures.entry (λ ts. ap (λ (e : AExpr). type_by (expr_op e) ts c.args.schema.now) c.in-Len.is)
