@@ -18,7 +18,7 @@ use Rattle.plan_ir.specs.declared.scan.FileInfo.{FileInfo}
 use Rattle.plan_ir.specs.declared.scan.FileScan.{FileScan}
 use Rattle.plan_ir.specs.declared.scan.ScanSources.{ScanSources}
 use Rattle.plan_ir.specs.declared.scan.ScanSources.TheVariants as sources
-use Rattle.plan_text.specs.Written.{list_data, nullable_data, number_data, field_data, columns_data, names_data, output_data, outputs_data, options_data, slice_data, row_index_data, sources_data, literal_data, expr_data, slice_node_data, scan_data, frame_scan_data, made_data, node_data, plan_data}
+use Rattle.plan_text.specs.Written.{link_data, list_data, nullable_data, number_data, field_data, columns_data, names_data, output_data, outputs_data, options_data, slice_data, row_index_data, sources_data, literal_data, expr_data, slice_node_data, scan_data, frame_scan_data, made_data, node_data, plan_data}
 
 both : (a b k : ℕ) → a ≤ k → b ≤ k → max a b ≤ k
 both a b k p q = omega arith
@@ -98,12 +98,20 @@ literal_deep (literals.Int64 z) = omega arith
 literal_deep (literals.String s) = omega arith
 literal_deep (literals.Boolean b) = omega arith
 
+links_deep : (ns : List Node) → depth (list_data link_data ns) ≤ 1
+links_deep ns = list_deep link_data 0 ns (λ n. flat (link_data n) 0 refl)
+
 expr_deep : (e : AExpr) → depth (expr_data e) ≤ 4
 unfolding expr_data
 expr_deep (exprs.Column s) = omega arith
 expr_deep (exprs.Literal v) = let value = literal_deep v in omega arith
 expr_deep (exprs.Alias input s) = omega arith
 expr_deep (exprs.BinaryExpr left op right) = omega arith
+expr_deep (exprs.Ternary predicate truthy falsy) = omega arith
+expr_deep (exprs.Agg agg) = omega arith
+expr_deep (exprs.Function input function options) = let inputs = links_deep input in omega arith
+expr_deep (exprs.Window function partition_by) = let keys = links_deep partition_by in omega arith
+expr_deep exprs.Len = omega arith
 
 node_deep : (n : IR) → depth (node_data n) ≤ 4
 unfolding node_data

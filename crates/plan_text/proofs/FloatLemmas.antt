@@ -69,12 +69,20 @@ literal_plain (literals.Int64 z) = integer_plain z
 literal_plain (literals.String s) = refl
 literal_plain (literals.Boolean b) = refl
 
+links_plain : (ns : List Node) → IsPlain (list_data link_data ns)
+links_plain ns = list_plain link_data ns (λ n. refl)
+
 expr_plain : (e : AExpr) → IsPlain (expr_data e)
 unfolding expr_data
 expr_plain (exprs.Column s) = refl
 expr_plain (exprs.Literal v) = rw (literal_plain v) refl
 expr_plain (exprs.Alias input s) = refl
 expr_plain (exprs.BinaryExpr left op right) = refl
+expr_plain (exprs.Ternary predicate truthy falsy) = refl
+expr_plain (exprs.Agg agg) = refl
+expr_plain (exprs.Function input function options) = rw (links_plain input) refl
+expr_plain (exprs.Window function partition_by) = rw (links_plain partition_by) refl
+expr_plain exprs.Len = refl
 
 slice_node_plain : (input : Node) (offset : ℤ) (len : ℕ) → IsPlain (slice_node_data input offset len)
 unfolding slice_node_data

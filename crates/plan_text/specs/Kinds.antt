@@ -1,5 +1,5 @@
--- The texts of types, operators, formats of files, and errors.
-use Rattle.std.specs.Prelude.{ℕ, List, None, codes}
+-- The texts of types, operators, aggregates, functions, formats of files, and errors.
+use Rattle.std.specs.Prelude.{ℕ, List, None, true, false, codes}
 use Rattle.plan_core.specs.declared.data_type.DataType.{DataType}
 use Rattle.plan_core.specs.declared.data_type.DataType.TheVariants as types
 use Rattle.plan_core.specs.declared.data_type.PlainType.{PlainType}
@@ -7,6 +7,10 @@ use Rattle.plan_core.specs.declared.data_type.PlainType.TheVariants as plains
 use Rattle.plan_core.specs.declared.error.At.{At}
 use Rattle.plan_core.specs.declared.error.PolarsError.{PolarsError}
 use Rattle.plan_core.specs.declared.error.PolarsError.TheVariants as errors
+use Rattle.plan_expr.specs.declared.agg.IRAggExpr.{IRAggExpr}
+use Rattle.plan_expr.specs.declared.agg.IRAggExpr.TheVariants as aggs
+use Rattle.plan_expr.specs.declared.function_expr.FunctionExpr.{FunctionExpr}
+use Rattle.plan_expr.specs.declared.function_expr.FunctionExpr.TheVariants as functions
 use Rattle.plan_expr.specs.declared.literal.LiteralValue.{LiteralValue}
 use Rattle.plan_expr.specs.declared.literal.LiteralValue.TheVariants as literals
 use Rattle.plan_expr.specs.declared.operator.Operator.{Operator}
@@ -56,6 +60,27 @@ operator_text operators.Xor = codes "Xor"
 operator_text operators.Plus = codes "Plus"
 operator_text operators.Minus = codes "Minus"
 operator_text operators.Multiply = codes "Multiply"
+
+-- the name of an aggregate
+abbrev pub agg_text : IRAggExpr → List ℕ
+agg_text (aggs.Min input) = codes "Min"
+agg_text (aggs.Max input) = codes "Max"
+agg_text (aggs.Sum input) = codes "Sum"
+agg_text (aggs.Count input false) = codes "Count"
+agg_text (aggs.Count input true) = codes "CountAll"
+agg_text (aggs.NUnique input) = codes "NUnique"
+agg_text (aggs.First input) = codes "First"
+agg_text (aggs.Last input) = codes "Last"
+agg_text (aggs.Implode input) = codes "Implode"
+
+-- the name of a function
+abbrev pub function_text : FunctionExpr → List ℕ
+function_text functions.Not = codes "Not"
+function_text functions.IsNull = codes "IsNull"
+function_text functions.IsNotNull = codes "IsNotNull"
+function_text functions.FillNull = codes "FillNull"
+function_text functions.Reverse = codes "Reverse"
+function_text functions.CumSum = codes "CumSum"
 
 -- the name of a format of files
 abbrev pub format_text : FileScan → List ℕ

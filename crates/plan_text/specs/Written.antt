@@ -12,6 +12,7 @@ use Rattle.plan_core.specs.declared.error.PolarsError.{PolarsError}
 use Rattle.plan_core.specs.declared.options.FileScanOptions.{FileScanOptions}
 use Rattle.plan_core.specs.declared.options.ProjectionOptions.{ProjectionOptions}
 use Rattle.plan_core.specs.declared.options.RowIndex.{RowIndex}
+use Rattle.plan_expr.specs.Aggregates.{agg_input}
 use Rattle.plan_expr.specs.declared.aexpr.AExpr.{AExpr}
 use Rattle.plan_expr.specs.declared.aexpr.AExpr.TheVariants as exprs
 use Rattle.plan_expr.specs.declared.expr_ir.ExprIR.{ExprIR}
@@ -31,7 +32,7 @@ use Rattle.plan_table.specs.declared.value.AnyValue.{AnyValue}
 use Rattle.plan_table.specs.declared.value.AnyValue.TheVariants as values
 use Rattle.plan_table.specs.declared.value.PlainValue.{PlainValue}
 use Rattle.plan_table.specs.declared.value.PlainValue.TheVariants as singles
-use Rattle.plan_text.specs.Kinds.{type_text, literal_text, operator_text, format_text, fault_text, place_of}
+use Rattle.plan_text.specs.Kinds.{type_text, literal_text, operator_text, agg_text, function_text, format_text, fault_text, place_of}
 
 -- the number of a node or of an expression
 abbrev pub link_data : Node → Data
@@ -121,6 +122,11 @@ expr_data (exprs.Column s) = object (member (codes "name") (string s) (member (c
 expr_data (exprs.Literal v) = object (member (codes "op") (string (codes "Literal")) (member (codes "type") (string (literal_text v)) (member (codes "value") (literal_data v) no_members)))
 expr_data (exprs.Alias input s) = object (member (codes "input") (link_data input) (member (codes "name") (string s) (member (codes "op") (string (codes "Alias")) no_members)))
 expr_data (exprs.BinaryExpr left op right) = object (member (codes "left") (link_data left) (member (codes "op") (string (codes "BinaryExpr")) (member (codes "operator") (string (operator_text op)) (member (codes "right") (link_data right) no_members))))
+expr_data (exprs.Ternary predicate truthy falsy) = object (member (codes "falsy") (link_data falsy) (member (codes "op") (string (codes "Ternary")) (member (codes "predicate") (link_data predicate) (member (codes "truthy") (link_data truthy) no_members))))
+expr_data (exprs.Agg agg) = object (member (codes "input") (link_data (agg_input agg)) (member (codes "kind") (string (agg_text agg)) (member (codes "op") (string (codes "Agg")) no_members)))
+expr_data (exprs.Function input function options) = object (member (codes "inputs") (list_data link_data input) (member (codes "name") (string (function_text function)) (member (codes "op") (string (codes "Function")) no_members)))
+expr_data (exprs.Window function partition_by) = object (member (codes "function") (link_data function) (member (codes "op") (string (codes "Window")) (member (codes "partition_by") (list_data link_data partition_by) no_members)))
+expr_data exprs.Len = object (member (codes "op") (string (codes "Len")) no_members)
 
 -- a scan
 unfoldable pub scan_data : ScanSources → FileInfo → Option ExprIR → Option Columns → FileScan → FileScanOptions → Data

@@ -1,9 +1,9 @@
-//! The names of types, operators, formats of files, and errors.
+//! The names of types, operators, aggregates, functions, formats of files, and errors.
 ghost use Rattle.std.specs.Prelude.{◌≡◌};
-ghost use Rattle.plan_text.specs.Kinds.{list_text, type_text, plain_text, literal_text, operator_text, format_text, fault_text, place_of};
+ghost use Rattle.plan_text.specs.Kinds.{list_text, type_text, plain_text, literal_text, operator_text, agg_text, function_text, format_text, fault_text, place_of};
 
 use plan_core::{At, DataType, PlainType, PolarsError};
-use plan_expr::{LiteralValue, Operator};
+use plan_expr::{FunctionExpr, IRAggExpr, LiteralValue, Operator};
 use plan_ir::FileScan;
 
 /// The name of a type of lists in a document: `List(Int64)`, `List(String)` or `List(Boolean)`.
@@ -71,6 +71,37 @@ pub fn operator_name(operator: Operator) -> &'static str
         Operator::Plus => "Plus",
         Operator::Minus => "Minus",
         Operator::Multiply => "Multiply",
+    }
+}
+
+/// The name of an aggregate in a document, as `NUnique`; `CountAll` is a count of all values, nulls too.
+pub fn agg_name(agg: IRAggExpr) -> &'static str
+    ensures { result.now ≡ agg_text agg }
+{
+    match agg {
+        IRAggExpr::Min(_) => "Min",
+        IRAggExpr::Max(_) => "Max",
+        IRAggExpr::Sum(_) => "Sum",
+        IRAggExpr::Count(_, false) => "Count",
+        IRAggExpr::Count(_, true) => "CountAll",
+        IRAggExpr::NUnique(_) => "NUnique",
+        IRAggExpr::First(_) => "First",
+        IRAggExpr::Last(_) => "Last",
+        IRAggExpr::Implode(_) => "Implode",
+    }
+}
+
+/// The name of a function in a document, as `IsNull`.
+pub fn function_name(function: FunctionExpr) -> &'static str
+    ensures { result.now ≡ function_text function }
+{
+    match function {
+        FunctionExpr::Not => "Not",
+        FunctionExpr::IsNull => "IsNull",
+        FunctionExpr::IsNotNull => "IsNotNull",
+        FunctionExpr::FillNull => "FillNull",
+        FunctionExpr::Reverse => "Reverse",
+        FunctionExpr::CumSum => "CumSum",
     }
 }
 

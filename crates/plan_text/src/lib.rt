@@ -1,6 +1,7 @@
 //! The texts of plans, listings, errors and schemas.
 #![tactic(auto)]
 
+mod exprs;
 mod kinds;
 mod listing;
 mod lists;

@@ -7,10 +7,11 @@ ghost use Rattle.plan_ir.specs.declared.ir.IR.TheVariants.{SimpleProjection};
 ghost use Rattle.plan_text.specs.Pieces.{piece_data};
 ghost use Rattle.plan_text.specs.Written.{columns_data, list_data, listing_data, names_data, node_data, nullable_data, plan_data, scan_data};
 
+use crate::exprs::exprs;
 use crate::kinds::format_name;
 use crate::parts::{optional_name, optional_output, optional_row_index, optional_slice, sources};
 use crate::pieces::{Piece, with_comma, with_key, with_names, with_object, with_value};
-use crate::plan::{exprs, node as node_value};
+use crate::plan::node as node_value;
 use crate::rows::with_rows;
 use plan_core::{Arena, FileScanOptions, Items, Node, PlSmallStr, Schema};
 use plan_expr::ExprIR;

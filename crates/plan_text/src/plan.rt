@@ -1,44 +1,22 @@
-//! The JSON values of expressions, nodes and plans.
+//! The JSON values of nodes and plans.
 ghost use Rattle.std.specs.Prelude.{◌≡◌, IfOk};
 ghost use Rattle.serde_json.specs.View.{view};
 ghost use Rattle.plan_ir.specs.declared.ir.IR.TheVariants.{Filter, SimpleProjection};
-ghost use Rattle.plan_text.specs.Written.{expr_data, node_data, slice_node_data, scan_data, frame_scan_data, made_data, list_data, plan_data};
+ghost use Rattle.plan_text.specs.Written.{node_data, slice_node_data, scan_data, frame_scan_data, made_data, list_data, plan_data};
 
-use crate::kinds::{format_name, literal_type, operator_name};
+use crate::exprs::exprs;
+use crate::kinds::format_name;
 use crate::lists::each_entry;
 use crate::objects::object;
 use crate::parts::{
-    columns, literal, optional_columns, optional_name, optional_names, optional_number,
-    optional_output, optional_row_index, optional_slice, options, output, outputs, sources,
+    columns, optional_columns, optional_name, optional_names, optional_number, optional_output,
+    optional_row_index, optional_slice, options, output, outputs, sources,
 };
 use plan_core::{Arena, FileScanOptions, Items, Node, ProjectionOptions, Schema};
-use plan_expr::{AExpr, ExprIR};
+use plan_expr::ExprIR;
 use plan_ir::{FileInfo, FileScan, IR, PlanCopy, ScanSources};
 use serde_json::{Value, json};
 use std::alloc::{AllocError, Global};
-
-/// The object of an expression.
-#[tactic(auto, unfolding(crate::specs::Written::expr_data))]
-fn expr(alloc: Global, expr: &AExpr) -> Result<Value, AllocError>
-    ensures { IfOk result (λ v. view v ≡ expr_data expr.now) }
-{
-    match expr {
-        AExpr::Column(name) => json!(in alloc; {"name": name.as_str(), "op": "Column"}),
-        AExpr::Literal(given) => {
-            let value = literal(alloc, given)?;
-            json!(in alloc; {"op": "Literal", "type": literal_type(given), "value": value})
-        }
-        AExpr::Alias(input, name) => {
-            json!(in alloc; {"input": input.0, "name": name.as_str(), "op": "Alias"})
-        }
-        AExpr::BinaryExpr { left, op, right } => json!(in alloc; {
-            "left": left.0,
-            "op": "BinaryExpr",
-            "operator": operator_name(*op),
-            "right": right.0
-        }),
-    }
-}
 
 /// The object of a scan.
 #[tactic(auto, unfolding(crate::specs::Written::scan_data))]
@@ -176,14 +154,6 @@ fn nodes(alloc: Global, arena: &Arena<IR>) -> Result<Value, AllocError>
     ensures { IfOk result (λ v. view v ≡ list_data node_data arena.now) }
 {
     let written = each_entry(alloc, arena, |given| node(alloc, given))?;
-    Ok(Value::Array(written))
-}
-
-/// The array of the expressions of an arena, by their numbers.
-pub fn exprs(alloc: Global, arena: &Arena<AExpr>) -> Result<Value, AllocError>
-    ensures { IfOk result (λ v. view v ≡ list_data expr_data arena.now) }
-{
-    let written = each_entry(alloc, arena, |given| expr(alloc, given))?;
     Ok(Value::Array(written))
 }
 
