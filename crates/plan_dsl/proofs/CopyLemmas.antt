@@ -8,7 +8,7 @@ use Rattle.plan_dsl.specs.declared.parts.Head.{Head}
 use Rattle.plan_dsl.specs.Copies.{written}
 use Rattle.plan_dsl.specs.Parts.{children, head_of}
 use Rattle.plan_dsl.specs.Walks.{preorder}
-use Rattle.plan_dsl.proofs.ListLemmas.{take-next, flat_map-next}
+use Rattle.plan_expr.proofs.ListLemmas.{take-next, flat_map-next}
 use Rattle.plan_dsl.proofs.WalkLemmas.{preorder-is}
 
 map-flat_map : {A B C : Type 0} (g : B → C) (f : A → List B) (xs : List A) → map g (flat_map f xs) ≡ flat_map (λ x. map g (f x)) xs

@@ -1,62 +1,14 @@
--- Lists, one element further.
-use Rattle.std.proofs.Common.{Bor, sym, Bool, true, false, zero, suc, length, get_or, subst, ◌≡◌, ℕ, ◌+◌, ◌-◌, ◌<◌, List, [], ◌∷◌, ◌++◌, reverse, take, ap, ◌∙◌, arith, append-nil, append_assoc, refl, None, Some}
-use Rattle.std.specs.List.{slice_get, flat_map, All, Any, list_any}
-use Rattle.std.specs.Fn.{Shared, FnReturnsAt}
-use Rattle.std.specs.Bool.{OnTrue, OnFalse}
-use Rattle.std.proofs.lemmas.List.Elements.{All-weaker}
-use Rattle.std.proofs.lemmas.List.Folds.{list_any-from_Any, list_any_none}
-use Rattle.std.proofs.lemmas.List.{take_more, reverse-append}
-use Rattle.std.proofs.lemmas.List.Concat.{flat_map-append}
-use Rattle.std.proofs.lemmas.Option.{slice_get_within, get_or_from_slice_get}
-
--- a front that is one longer
-pub take-next : {A : Type 0} (xs : List A) (i : ℕ) (x : A) → slice_get xs i ≡ Some x → take (i + 1) xs ≡ take i xs ++ x ∷ []
-take-next xs i x e = take_more xs i x (slice_get_within xs i x e) ∙ ap (λ y. take i xs ++ y ∷ []) (get_or_from_slice_get xs i x x e)
-
--- what comes of a front that is one longer
-pub flat_map-next : {A B : Type 0} (f : A → List B) (xs : List A) (i : ℕ) (x : A) → slice_get xs i ≡ Some x → flat_map f (take (i + 1) xs) ≡ flat_map f (take i xs) ++ f x
-flat_map-next f xs i x e =
-    ap (flat_map f) (take-next xs i x e)
-    ∙ flat_map-append f (take i xs) (x ∷ [])
-    ∙ ap (λ ys. flat_map f (take i xs) ++ ys) (append-nil (f x))
+-- Lists turned round, and what comes first.
+use Rattle.std.proofs.Common.{◌≡◌, ℕ, zero, suc, ◌+◌, ◌-◌, ◌<◌, List, [], ◌∷◌, ◌++◌, reverse, take, refl, ap, sym, ◌∙◌, arith, append_assoc, None, Some}
+use Rattle.std.specs.List.{slice_get, flat_map}
+use Rattle.std.proofs.lemmas.List.{reverse-append}
+use Rattle.plan_expr.proofs.ListLemmas.{take-next}
 
 -- a front that is turned round begins with its last element
 pub reverse-take : {A : Type 0} (xs : List A) (n : ℕ) (x : A) → 0 < n → slice_get xs (n - 1) ≡ Some x → reverse (take n xs) ≡ x ∷ reverse (take (n - 1) xs)
 reverse-take xs n x h e =
     let back : n ≡ (n - 1) + 1 = omega arith in
     ap (λ k. reverse (take k xs)) back ∙ ap reverse (take-next xs (n - 1) x e) ∙ reverse-append (take (n - 1) xs) (x ∷ [])
-
--- an element that is found stands in a longer list too
-pub any_more : {A : Type 0} (P : A → Type 0) (x : A) (xs : List A) → Any P xs → Any P (x ∷ xs)
-any_more P x xs a = (suc a.0, a.1, omega arith, a.3, a.4)
-
-any_first_at : {A : Type 0} (P : A → Type 0) (xs ys : List A) (k : ℕ) (x : A) → k < length xs → get_or xs k x ≡ x → P x → Any P (xs ++ ys)
-any_first_at P [] ys k x lt e p = absurd (omega arith)
-any_first_at P (y ∷ xs) ys zero x lt e p = (zero, x, omega arith, e, p)
-any_first_at P (y ∷ xs) ys (suc k) x lt e p = any_more P y (xs ++ ys) (any_first_at P xs ys k x (omega arith) e p)
-
-pub any_first : {A : Type 0} (P : A → Type 0) (xs ys : List A) → Any P xs → Any P (xs ++ ys)
-any_first P xs ys a = any_first_at P xs ys a.0 a.1 a.2 a.3 a.4
-
-pub any_later : {A : Type 0} (P : A → Type 0) (xs ys : List A) → Any P ys → Any P (xs ++ ys)
-any_later P [] ys a = a
-any_later P (x ∷ xs) ys a = any_more P x (xs ++ ys) (any_later P xs ys a)
-
--- an element that is found in what comes of one
-pub any_flat_map : {A B : Type 0} (P : B → Type 0) (f : A → List B) (xs : List A) (i : ℕ) (x : A) → slice_get xs i ≡ Some x → Any P (f x) → Any P (flat_map f xs)
-any_flat_map P f [] i x e a = cc
-any_flat_map P f (y ∷ xs) zero x e a =
-    let same : x ≡ y = cc in
-    any_first P (f y) (flat_map f xs) (subst (λ z. Any P (f z)) same a)
-any_flat_map P f (y ∷ xs) (suc i) x e a = any_later P (f y) (flat_map f xs) (any_flat_map P f xs i x e a)
-
--- what calls of a function answer of a list, where each answer is that of a test
-pub answers_any : {A F : Type 0} (p : A → Bool) (g : Shared F (Bor A × Unit {0}) Bool) (f : F) (xs : List A) (r : Bool) → OnTrue r (Any (λ x. FnReturnsAt g f x true) xs) → OnFalse r (All (λ x. FnReturnsAt g f x false) xs)
-    → ((x : A) (b : Bool) → FnReturnsAt g f x b → p x ≡ b) → r ≡ list_any p xs
-answers_any p g f xs true found absent says =
-    let there : Any (λ x. p x ≡ true) xs = (found.0, found.1, found.2, found.3, says found.1 true found.4) in
-    sym (list_any-from_Any p xs there)
-answers_any p g f xs false found absent says = sym (list_any_none p xs (All-weaker (λ x. FnReturnsAt g f x false) (λ x. p x ≡ false) (λ x r. says x false r) xs absent))
 
 -- what comes of a list, round what comes of one element
 pub flat_map-split : {A B : Type 0} (f : A → List B) (xs : List A) (i : ℕ) (x : A) → slice_get xs i ≡ Some x → (rest : List B) × (flat_map f xs ≡ flat_map f (take i xs) ++ (f x ++ rest))

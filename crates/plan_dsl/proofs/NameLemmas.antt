@@ -13,7 +13,8 @@ use Rattle.plan_dsl.specs.Names.{named_parts, decision}
 use Rattle.plan_dsl.specs.Walks.{walk_by}
 use Rattle.plan_dsl.proofs.SizeLemmas.{children_below}
 use Rattle.plan_dsl.proofs.WalkLemmas.{walk-is}
-use Rattle.plan_dsl.proofs.ListLemmas.{flat_map-next, flat_map-split, first_stays, none_first}
+use Rattle.plan_expr.proofs.ListLemmas.{flat_map-next}
+use Rattle.plan_dsl.proofs.ListLemmas.{flat_map-split, first_stays, none_first}
 
 -- those that may decide a name are less deep
 pub named_below : (e : Expr) → most size-Expr (named_parts e) < size-Expr e

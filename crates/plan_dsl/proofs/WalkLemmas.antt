@@ -9,7 +9,7 @@ use Rattle.plan_dsl.specs.Walks.{levels_down, walk_by, preorder}
 use Rattle.plan_dsl.specs.Parts.{children}
 use Rattle.plan_dsl.specs.Appends.{AppendsAll}
 use Rattle.plan_dsl.proofs.AppendLemmas.{appends_join}
-use Rattle.plan_dsl.proofs.ListLemmas.{flat_map-next, any_more, any_flat_map}
+use Rattle.plan_expr.proofs.ListLemmas.{flat_map-next, any_more, any_flat_map}
 use Rattle.plan_dsl.proofs.SizeLemmas.{children_below}
 
 -- an expression has a depth

@@ -7,5 +7,7 @@ pub mod Names
 pub mod Naming
 pub mod Owned
 pub mod Parts
-pub mod Refusals
+pub mod Schemas
+pub mod Types
+pub mod Typing
 pub mod Walks

@@ -2,7 +2,7 @@
 ghost use Rattle.std.specs.Prelude.{◌≡◌, length, Some, IfOk, IfErr};
 ghost use Rattle.std.specs.Iterator.{YieldsFirstRef, item_count};
 ghost use Rattle.plan_dsl.specs.Names.{column_name, is_leaf_column, leaf_column_name, leaf_column_names};
-ghost use Rattle.plan_dsl.specs.Refusals.{RefusesNone};
+ghost use Rattle.plan_expr.specs.Refusals.{RefusesNone};
 
 use crate::expr::Expr;
 use crate::expr_iter::ExprIter;

@@ -6,14 +6,16 @@ mod copy;
 mod expr;
 mod expr_iter;
 mod find;
+mod form;
 mod leaves;
 mod map;
 mod mapper;
 mod output_name;
 mod over;
 mod parts;
-#[cfg(test)]
-mod tests;
+mod schema;
+mod types;
+mod typing;
 mod walk;
 
 pub use expr::{AggExpr, Expr};
@@ -26,3 +28,4 @@ pub use leaves::{
 };
 pub use mapper::{ExprMapper, RewritingVisitor};
 pub use output_name::expr_output_name;
+pub use schema::{Context, expressions_to_schema};

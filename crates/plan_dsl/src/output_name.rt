@@ -1,10 +1,11 @@
 //! The names under which expressions are put out.
-ghost use Rattle.std.specs.Prelude.{◌≡◌, Some, IfOk, IfErr, slice_get};
+ghost use Rattle.std.specs.Prelude.{◌≡◌, true, Some, IfOk, IfErr, slice_get};
 ghost use Rattle.std.specs.List.{filter_map};
 ghost use Rattle.plan_dsl.specs.Children.{lent};
 ghost use Rattle.plan_dsl.specs.Naming.{said};
 ghost use Rattle.plan_dsl.specs.Names.{decision, named_parts, output_name};
-ghost use Rattle.plan_dsl.specs.Refusals.{RefusesNone};
+ghost use Rattle.plan_expr.specs.Refusals.{RefusesNone};
+ghost use Rattle.plan_dsl.specs.Typing.{has_form};
 ghost use Rattle.plan_dsl.specs.Walks.{walk_by};
 
 use crate::children::Children;
@@ -83,6 +84,19 @@ fn first_naming(expr: &Expr) -> Naming<'_>
         }
     }
     Naming::Open
+}
+
+impl Expr {
+    /// The name under which an expression is put out that has a form in plans.
+    pub(crate) fn form_name(&self) -> &str
+        requires { has_form self.now ≡ true }
+        ensures { output_name self.now ≡ Some result.now }
+    {
+        match first_naming(self) {
+            Naming::Named(name) => name,
+            Naming::Open | Naming::Nameless => unreachable!(),
+        }
+    }
 }
 
 /// The name under which the expression is put out, as the first expression in walk order decides it

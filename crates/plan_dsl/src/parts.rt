@@ -117,7 +117,7 @@ impl Owned {
 
 impl AggExpr {
     /// The aggregate.
-    fn aggregate(&self) -> Aggregate
+    pub(crate) fn aggregate(&self) -> Aggregate
         ensures { result ≡ aggregate_of self.now }
     {
         match self {

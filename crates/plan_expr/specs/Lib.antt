@@ -8,3 +8,4 @@ pub mod Naming
 pub mod Scalars
 pub mod Walks
 pub mod Refusals
+pub mod Types

@@ -15,6 +15,7 @@ mod operator;
 mod scalar;
 #[cfg(test)]
 mod tests;
+mod types;
 
 pub use aexpr::AExpr;
 pub use agg::IRAggExpr;
@@ -30,3 +31,4 @@ pub use literal::LiteralValue;
 pub use names::{Naming, aexpr_output_name, decided_name, may_be_named, output_name};
 pub use operator::Operator;
 pub use scalar::{is_elementwise, is_scalar};
+pub use types::{literal_type, operator_type};

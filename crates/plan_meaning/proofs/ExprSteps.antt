@@ -14,7 +14,8 @@ use Rattle.plan_expr.specs.Walks.{column_name}
 use Rattle.plan_expr.proofs.LeafLemmas.{leaves_column, leaves_below}
 use Rattle.plan_expr.proofs.ExprLemmas.{expr_open}
 use Rattle.plan_expr.specs.Leaves.{Name, leaves}
-use Rattle.plan_meaning.specs.Exprs.{all_known, expr_type, expr_types, literal_type, operator_type, type_by}
+use Rattle.plan_meaning.specs.Exprs.{all_known, expr_type, expr_types, operator_type, type_by}
+use Rattle.plan_expr.specs.Types.{literal_type}
 
 and_true : (b : Bool) → (b && true) ≡ b
 and_true true = refl

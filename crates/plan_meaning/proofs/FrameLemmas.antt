@@ -8,7 +8,8 @@ use Rattle.plan_core.specs.declared.data_type.PlainType.TheVariants as plains
 use Rattle.plan_core.specs.Columns.{Columns, names_of, type_of, with_type}
 use Rattle.plan_core.specs.Names.{has}
 use Rattle.plan_expr.specs.Leaves.{Name}
-use Rattle.plan_meaning.specs.Exprs.{same_type, is_type}
+use Rattle.plan_meaning.specs.Exprs.{is_type}
+use Rattle.plan_expr.specs.Types.{same_type}
 use Rattle.plan_meaning.specs.Values.{Value, null, IsOf, AllOf}
 use Rattle.plan_meaning.specs.Frames.{Column, Frame, found, column, column_or, HaveTypes, HasSchema, Holds, HoldsAll, row, picked, picked_columns, rows_at, table_columns, table, with_column, cut, AgreeBy, Agree}
 use Rattle.plan_meaning.specs.Contents.{total_height, stacked}

@@ -13,7 +13,8 @@ use Rattle.plan_expr.specs.declared.operator.Operator.TheVariants.{Eq, NotEq, Lt
 use Rattle.plan_expr.specs.declared.literal.LiteralValue.{LiteralValue}
 use Rattle.plan_expr.specs.declared.literal.LiteralValue.TheVariants.{Null, Int64, String, Boolean}
 use Rattle.plan_expr.specs.Scalars.{scalar_by, is_scalar, are_scalar}
-use Rattle.plan_meaning.specs.Exprs.{takes, gives, literal_type, operator_type, type_by, expr_type, expr_types}
+use Rattle.plan_meaning.specs.Exprs.{operator_type, type_by, expr_type, expr_types}
+use Rattle.plan_expr.specs.Types.{takes, gives, literal_type}
 use Rattle.plan_meaning.specs.Values.{Value, null, whole, text, truth, listed, IsOf, AllOf}
 use Rattle.plan_meaning.specs.Frames.{Frame, HasSchema}
 use Rattle.plan_meaning.specs.Meaning.{Cell, one, many, CellHas, Meaning, zip_by, spread, compared, both_true, one_true, differ, reckoned, operated, literal_value, meaning, val, vals, filled}

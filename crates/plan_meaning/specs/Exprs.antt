@@ -1,77 +1,17 @@
 -- Expressions: the names that they read, their types, and the names that they give themselves.
-use Rattle.std.specs.Prelude.{List, [], ◌∷◌, Bool, true, false, ◌&&◌, ◌==◌, Option, Some, None, is_some, if◌then◌else◌}
-use Rattle.plan_core.specs.Columns.{Columns, type_of, plain, plain_number, plain_type_of}
+use Rattle.std.specs.Prelude.{List, [], ◌∷◌, Bool, true, false, ◌&&◌, Option, Some, None, is_some, if◌then◌else◌}
+use Rattle.plan_core.specs.Columns.{Columns, type_of}
 use Rattle.plan_expr.specs.Leaves.{Name}
 use Rattle.plan_core.specs.declared.data_type.DataType.{DataType}
-use Rattle.plan_core.specs.declared.data_type.DataType.TheVariants as types
 use Rattle.plan_tree.specs.Rose.{Roses, rose, no_roses, more}
 use Rattle.plan_expr.specs.Exprs.{ExprOp, column, literal, alias, binary, ternary, aggregate, call, window, len, Expr}
-use Rattle.plan_expr.specs.declared.literal.LiteralValue.{LiteralValue}
-use Rattle.plan_expr.specs.declared.literal.LiteralValue.TheVariants.{Null, Int64, String, Boolean}
+use Rattle.plan_expr.specs.Types.{gives, literal_type, same_type, takes}
 use Rattle.plan_expr.specs.declared.operator.Operator.{Operator}
-use Rattle.plan_expr.specs.declared.operator.Operator.TheVariants.{Eq, NotEq, Lt, LtEq, Gt, GtEq, EqValidity, NotEqValidity, And, Or, Xor, Plus, Minus, Multiply}
-
--- two types are the same
-abbrev pub same_type : DataType → DataType → Bool
-same_type types.Int64 types.Int64 = true
-same_type types.String types.String = true
-same_type types.Boolean types.Boolean = true
-same_type (types.List t) (types.List u) = plain_number t == plain_number u
-same_type _ _ = false
-
--- two types are the same, and no lists
-abbrev pub same_plain : DataType → DataType → Bool
-same_plain t u = same_type t u && is_some (plain_type_of t)
 
 -- a type is there, and it is this one
 abbrev pub is_type : Option DataType → DataType → Bool
 is_type None t = false
 is_type (Some u) t = same_type u t
-
--- the type of a literal
-abbrev pub literal_type : LiteralValue → DataType
-literal_type (Null type) = plain type
-literal_type (Int64 number) = types.Int64
-literal_type (String text) = types.String
-literal_type (Boolean truth) = types.Boolean
-
--- both types are this one
-abbrev pub both_are : DataType → DataType → DataType → Bool
-both_are t u v = same_type t u && same_type t v
-
--- whether an operator takes operands of these types: a comparison two of one type that are no lists, logic truth values, arithmetic whole numbers
-abbrev pub takes : Operator → DataType → DataType → Bool
-takes Eq t u = same_plain t u
-takes NotEq t u = same_plain t u
-takes Lt t u = same_plain t u
-takes LtEq t u = same_plain t u
-takes Gt t u = same_plain t u
-takes GtEq t u = same_plain t u
-takes EqValidity t u = same_plain t u
-takes NotEqValidity t u = same_plain t u
-takes And t u = both_are types.Boolean t u
-takes Or t u = both_are types.Boolean t u
-takes Xor t u = both_are types.Boolean t u
-takes Plus t u = both_are types.Int64 t u
-takes Minus t u = both_are types.Int64 t u
-takes Multiply t u = both_are types.Int64 t u
-
--- the type of what an operator gives
-abbrev pub gives : Operator → DataType
-gives Eq = types.Boolean
-gives NotEq = types.Boolean
-gives Lt = types.Boolean
-gives LtEq = types.Boolean
-gives Gt = types.Boolean
-gives GtEq = types.Boolean
-gives EqValidity = types.Boolean
-gives NotEqValidity = types.Boolean
-gives And = types.Boolean
-gives Or = types.Boolean
-gives Xor = types.Boolean
-gives Plus = types.Int64
-gives Minus = types.Int64
-gives Multiply = types.Int64
 
 -- the type of an operator over two operands that have types, if it takes them
 abbrev pub operator_type : Operator → Option DataType → Option DataType → Option DataType

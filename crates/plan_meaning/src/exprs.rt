@@ -3,11 +3,11 @@ ghost use Rattle.std.specs.Prelude.{◌≡◌, All};
 ghost use Rattle.plan_expr.specs.Operands.{IsExpr};
 ghost use Rattle.plan_expr.specs.Exprs.{all_named_at, expr_at};
 ghost use Rattle.plan_expr.specs.Leaves.{leaves};
-ghost use Rattle.plan_meaning.specs.Exprs.{all_known, expr_type as type_of_expr, literal_type as type_of_literal, takes as is_taken, gives as is_given, operator_type as type_of_operator};
+ghost use Rattle.plan_meaning.specs.Exprs.{all_known, expr_type as type_of_expr, operator_type as type_of_operator};
 ghost use Rattle.plan_meaning.specs.Steps.{all_scalar as are_scalar};
 
 use plan_core::{Arena, DataType, Node, Schema};
-use plan_expr::{AExpr, ExprIR, LiteralValue, Operator, is_scalar};
+use plan_expr::{AExpr, ExprIR, Operator, is_scalar, literal_type};
 
 /// Whether each column of the expression is one of the schema's.
 pub fn reads_only(node: Node, ex: &Arena<AExpr>, schema: &Schema) -> bool
@@ -28,67 +28,12 @@ pub fn reads_only(node: Node, ex: &Arena<AExpr>, schema: &Schema) -> bool
     true
 }
 
-/// The type of a literal.
-fn literal_type(value: &LiteralValue) -> DataType
-    ensures { result ≡ type_of_literal value.now }
-{
-    match value {
-        LiteralValue::Null(plain) => DataType::from(*plain),
-        LiteralValue::Int64(_) => DataType::Int64,
-        LiteralValue::String(_) => DataType::String,
-        LiteralValue::Boolean(_) => DataType::Boolean,
-    }
-}
-
-/// Whether an operator takes operands of these types: a comparison two of one type that are no lists, logic
-/// truth values, arithmetic whole numbers.
-fn takes(op: Operator, left: DataType, right: DataType) -> bool
-    ensures { result ≡ is_taken op left right }
-{
-    match op {
-        Operator::Eq
-        | Operator::NotEq
-        | Operator::Lt
-        | Operator::LtEq
-        | Operator::Gt
-        | Operator::GtEq
-        | Operator::EqValidity
-        | Operator::NotEqValidity => left == right && left.plain_type().is_some(),
-        Operator::And | Operator::Or | Operator::Xor => {
-            left == DataType::Boolean && right == DataType::Boolean
-        }
-        Operator::Plus | Operator::Minus | Operator::Multiply => {
-            left == DataType::Int64 && right == DataType::Int64
-        }
-    }
-}
-
-/// The type of what an operator gives.
-fn gives(op: Operator) -> DataType
-    ensures { result ≡ is_given op }
-{
-    match op {
-        Operator::Plus | Operator::Minus | Operator::Multiply => DataType::Int64,
-        Operator::Eq
-        | Operator::NotEq
-        | Operator::Lt
-        | Operator::LtEq
-        | Operator::Gt
-        | Operator::GtEq
-        | Operator::EqValidity
-        | Operator::NotEqValidity
-        | Operator::And
-        | Operator::Or
-        | Operator::Xor => DataType::Boolean,
-    }
-}
-
 /// The type of an operator over two operands, where these have types that it takes.
 fn operator_type(op: Operator, left: Option<DataType>, right: Option<DataType>) -> Option<DataType>
     ensures { result ≡ type_of_operator op left right }
 {
     match (left, right) {
-        (Some(left), Some(right)) if takes(op, left, right) => Some(gives(op)),
+        (Some(left), Some(right)) => plan_expr::operator_type(op, left, right),
         _ => None,
     }
 }

@@ -22,7 +22,7 @@ pub use group::GroupbyOptions;
 pub use join::{
     IEJoinOptions, InequalityOperator, JoinArgs, JoinCoalesce, JoinType, MaintainOrderJoin,
 };
-pub use schemas::merge_schemas;
+pub use schemas::{item, merge_schemas};
 pub use sink::SinkType;
 pub use sort::SortMultipleOptions;
 pub use texts::{AsStr, comma_delimited};

@@ -43,7 +43,7 @@ fn append_all(alloc: Global, merged: &mut Schema, schema: &Schema) -> Result<boo
 }
 
 /// The item at a place, for a fault. A place above 4294967295 is given as 4294967295.
-fn item(place: usize) -> At
+pub fn item(place: usize) -> At
     ensures { result ≡ item_at (min place 4294967295) }
 {
     let place = if place >= 4294967295 {

@@ -1,6 +1,6 @@
 use Rattle.std.proofs.Common.{ap, sym, ◌∙◌}
 use Rattle.plan_dsl.specs.Names.{is_null}
-use Rattle.plan_dsl.proofs.ListLemmas.{answers_any}
+use Rattle.plan_expr.proofs.ListLemmas.{answers_any}
 use Rattle.plan_dsl.proofs.find.has_null.Goals as goal
 
 pub returns : goal.returns
