@@ -1,5 +1,5 @@
 -- Expressions that have a form in plans: those in them have one, and they have a name.
-use Rattle.std.proofs.Common.{◌≡◌, ℕ, zero, suc, ◌<◌, ◌≤◌, Bool, true, false, not, ◌&&◌, ◌||◌, nat_eq, List, [], ◌∷◌, ◌++◌, Option, Some, None, length, take, refl, ap, sym, ◌∙◌, arith, codes}
+use Rattle.std.proofs.Common.{◌≡◌, ℕ, zero, suc, ◌<◌, ◌≤◌, Bool, true, false, not, ◌&&◌, ◌||◌, nat_eq, List, [], ◌∷◌, Some, None, length, take, refl, ap, sym, ◌∙◌, arith, codes}
 use Rattle.std.specs.List.{slice_get, flat_map, filter_map, list_all, list_any}
 use Rattle.std.proofs.lemmas.List.Folds.{list_all-append}
 use Rattle.plan_dsl.specs.declared.expr.Expr.{Expr, size-Expr, size_is-Expr, items-the_row-Expr}
@@ -7,7 +7,7 @@ use Rattle.plan_dsl.specs.declared.expr.Expr.TheVariants as exprs
 use Rattle.plan_expr.specs.declared.function_expr.FunctionExpr.{FunctionExpr}
 use Rattle.plan_expr.specs.declared.function_expr.FunctionExpr.TheVariants as functions
 use Rattle.plan_expr.specs.Functions.{inputs_of}
-use Rattle.plan_dsl.specs.Names.{decision, decided, named_parts, output_name}
+use Rattle.plan_dsl.specs.Names.{decision, named_parts}
 use Rattle.plan_dsl.specs.Parts.{aggregated, children}
 use Rattle.plan_dsl.specs.Typing.{has_form, has_own_form}
 use Rattle.plan_dsl.specs.Walks.{preorder, walk_by}

@@ -6,7 +6,6 @@ use Rattle.plan_core.specs.Errors.{item_at}
 use Rattle.plan_core.specs.Names.{has}
 use Rattle.plan_core.specs.declared.data_type.DataType.{DataType}
 use Rattle.plan_core.specs.declared.data_type.DataType.TheVariants as types
-use Rattle.plan_core.specs.declared.error.At.{At}
 use Rattle.plan_core.specs.declared.error.PolarsError.{PolarsError}
 use Rattle.plan_core.specs.declared.error.PolarsError.TheVariants.{SchemaFieldNotFound, Duplicate, SchemaMismatch, InvalidOperation}
 use Rattle.plan_dsl.specs.declared.expr.Expr.{Expr}

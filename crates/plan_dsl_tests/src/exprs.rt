@@ -1,6 +1,6 @@
 //! Walks, names, mappings and copies of small expressions.
 use crate::made::{column, item, named, sum};
-use plan_core::{Items, PlSmallStr, PlainType, PolarsError, PolarsResult, UnitVec};
+use plan_core::{Items, PlSmallStr, PlainType, PolarsError, PolarsResult, TryClone, UnitVec};
 use plan_dsl::{
     Expr, ExprMapper, FunctionExpr, RewritingVisitor, expr_output_name, expr_to_leaf_column_name,
     expr_to_leaf_column_names, expr_to_leaf_column_names_iter, has_expr, has_null,

@@ -1,5 +1,4 @@
-use Rattle.std.proofs.Common.{◌≡◌, ◌∙◌, ap, sym, not, true, false, is_some}
-use Rattle.plan_core.specs.Columns.{type_of}
+use Rattle.std.proofs.Common.{◌∙◌, ap, sym, not, true, false}
 use Rattle.plan_dsl.proofs.SchemaLemmas.{has-typed, typed_there, with_type-new}
 use Rattle.plan_dsl.proofs.schema.add_column.Goals as goal
 
