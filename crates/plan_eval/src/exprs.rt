@@ -161,7 +161,8 @@ fn spread(alloc: Global, op: Operator, left: Values, right: Values) -> Result<Va
     }
 }
 
-/// The values of an expression over the rows of a table.
+/// The values of an expression over the rows of a table. Null stands for a choice, an aggregate, a function, a window and the
+/// number of rows, which no valid plan has yet.
 pub fn evaluate_expr(
     alloc: Global,
     node: Node,
@@ -180,5 +181,10 @@ pub fn evaluate_expr(
             let right = evaluate_expr(alloc, *right, ex, table)?;
             Ok(spread(alloc, *op, left, right)?)
         }
+        AExpr::Ternary { .. } => Ok(Values::One(AnyValue::Null)),
+        AExpr::Agg(_) => Ok(Values::One(AnyValue::Null)),
+        AExpr::Function { .. } => Ok(Values::One(AnyValue::Null)),
+        AExpr::Window { .. } => Ok(Values::One(AnyValue::Null)),
+        AExpr::Len => Ok(Values::One(AnyValue::Null)),
     }
 }

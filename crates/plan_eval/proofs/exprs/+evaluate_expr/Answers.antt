@@ -1,9 +1,11 @@
 use Rattle.std.proofs.Common.{◌∙◌, ap, ap₂, refl, sym, arith, Some}
-use Rattle.plan_expr.specs.Exprs.{Expr}
+use Rattle.plan_expr.specs.Exprs.{Expr, expr_op, exprs_at}
+use Rattle.plan_expr.specs.Operands.{operands_of}
+use Rattle.plan_expr.specs.declared.aexpr.AExpr.{AExpr}
 use Rattle.plan_expr.specs.declared.aexpr.AExpr.TheVariants.{Column, Literal, Alias, BinaryExpr}
 use Rattle.plan_expr.proofs.ExprLemmas.{expr_down, expr_open}
 use Rattle.plan_meaning.specs.Frames.{column_or}
-use Rattle.plan_meaning.specs.Meaning.{many, one, operated, spread, val}
+use Rattle.plan_meaning.specs.Meaning.{many, meaning, one, operated, spread, val, vals}
 use Rattle.plan_eval.specs.Shown.{frame_of}
 use Rattle.plan_eval.proofs.exprs.+evaluate_expr.Goals as goal
 
@@ -45,3 +47,28 @@ returns-in_ok-spread-in-BinaryExpr t c =
     c.in_ok-spread-in-BinaryExpr.ensures
     ∙ ap₂ (spread (operated c.in-BinaryExpr.op)) c.in_ok-left-in-BinaryExpr.ensures c.in_ok-right-in-BinaryExpr.ensures
     ∙ ap (λ (x : Expr). val x (frame_of c.args.table.now)) (sym (expr_open c.args.ex.now c.args.node (BinaryExpr c.in-BinaryExpr.left c.in-BinaryExpr.op c.in-BinaryExpr.right) c.requires (c.get.ensures.entry ∙ ap Some c.in-BinaryExpr.is)))
+
+pub returns-in-Ternary : goal.returns-in-Ternary
+returns-in-Ternary t c =
+    sym (ap (λ (x : Expr). val x (frame_of c.args.table.now)) (expr_open c.args.ex.now c.args.node c.get.result.now c.requires c.get.ensures.entry)
+    ∙ ap (λ (e : AExpr). meaning (expr_op e) (vals (exprs_at c.args.ex.now (operands_of c.get.result.now))) (frame_of c.args.table.now)) c.in-Ternary.is)
+
+pub returns-in-Agg : goal.returns-in-Agg
+returns-in-Agg t c =
+    sym (ap (λ (x : Expr). val x (frame_of c.args.table.now)) (expr_open c.args.ex.now c.args.node c.get.result.now c.requires c.get.ensures.entry)
+    ∙ ap (λ (e : AExpr). meaning (expr_op e) (vals (exprs_at c.args.ex.now (operands_of c.get.result.now))) (frame_of c.args.table.now)) c.in-Agg.is)
+
+pub returns-in-Function : goal.returns-in-Function
+returns-in-Function t c =
+    sym (ap (λ (x : Expr). val x (frame_of c.args.table.now)) (expr_open c.args.ex.now c.args.node c.get.result.now c.requires c.get.ensures.entry)
+    ∙ ap (λ (e : AExpr). meaning (expr_op e) (vals (exprs_at c.args.ex.now (operands_of c.get.result.now))) (frame_of c.args.table.now)) c.in-Function.is)
+
+pub returns-in-Window : goal.returns-in-Window
+returns-in-Window t c =
+    sym (ap (λ (x : Expr). val x (frame_of c.args.table.now)) (expr_open c.args.ex.now c.args.node c.get.result.now c.requires c.get.ensures.entry)
+    ∙ ap (λ (e : AExpr). meaning (expr_op e) (vals (exprs_at c.args.ex.now (operands_of c.get.result.now))) (frame_of c.args.table.now)) c.in-Window.is)
+
+pub returns-in-Len : goal.returns-in-Len
+returns-in-Len t c =
+    sym (ap (λ (x : Expr). val x (frame_of c.args.table.now)) (expr_open c.args.ex.now c.args.node c.get.result.now c.requires c.get.ensures.entry)
+    ∙ ap (λ (e : AExpr). meaning (expr_op e) (vals (exprs_at c.args.ex.now (operands_of c.get.result.now))) (frame_of c.args.table.now)) c.in-Len.is)
