@@ -6,8 +6,8 @@ ghost use Rattle.plan_dsl.specs.Typing.{has_form as is_formed, has_own_form as i
 
 use crate::expr::Expr;
 use crate::find::has_expr;
-use plan_expr::FunctionExpr;
 use plan_core::Schema;
+use plan_expr::FunctionExpr;
 use plan_options::FunctionOptions;
 
 impl FunctionExpr {

@@ -21,11 +21,11 @@ mod walk;
 pub use expr::{AggExpr, Expr};
 pub use expr_iter::ExprIter;
 pub use find::{has_expr, has_null};
-pub use plan_expr::FunctionExpr;
 pub use leaves::{
     LeafColumnNames, expr_to_leaf_column_name, expr_to_leaf_column_names,
     expr_to_leaf_column_names_iter,
 };
 pub use mapper::{ExprMapper, RewritingVisitor};
 pub use output_name::expr_output_name;
+pub use plan_expr::FunctionExpr;
 pub use schema::{Context, expressions_to_schema};

@@ -2,9 +2,9 @@
 ghost use Rattle.std.specs.Prelude.{◌≡◌};
 ghost use Rattle.plan_dsl.specs.Types.{aggregate_type as type_of_aggregate, binary_type as type_of_two, choice_type as type_of_choice, list_of as lists_of, unary_type as type_of_one};
 
-use plan_expr::FunctionExpr;
 use crate::parts::Aggregate;
 use plan_core::DataType;
+use plan_expr::FunctionExpr;
 
 /// The type of the lists of some values, where these are no lists.
 pub(crate) fn list_of(values: DataType) -> Option<DataType>

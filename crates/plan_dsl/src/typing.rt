@@ -5,10 +5,9 @@ ghost use Rattle.plan_dsl.specs.Types.{function_type as type_of_function};
 ghost use Rattle.plan_dsl.specs.Typing.{all_of, expr_type as type_of_expr};
 
 use crate::expr::Expr;
-use plan_expr::FunctionExpr;
 use crate::types::{aggregate_type, binary_type, choice_type, unary_type};
 use plan_core::{DataType, Schema};
-use plan_expr::{literal_type, operator_type};
+use plan_expr::{FunctionExpr, literal_type, operator_type};
 
 /// The type of the expression over the columns of a schema, if it has one.
 #[cycle(types)]
