@@ -1,5 +1,5 @@
 //! The checks on the plan of a document: its numbers, its levels, and then its nodes.
-ghost use Rattle.std.specs.Prelude.{◌≡◌, ◌<◌, ◌↔◌, ℕ, IfOk, IsTrue, Some};
+ghost use Rattle.std.specs.Prelude.{◌≡◌, IfOk};
 ghost use Rattle.plan_ir.specs.Parts.{IsPlan};
 ghost use Rattle.plan_meaning.specs.PlanAt.{plan_at};
 ghost use Rattle.plan_meaning.specs.Steps.{IsValid};
@@ -8,8 +8,9 @@ ghost use Rattle.plan_tool.specs.Checked.{Checks, LevelsChecked};
 use crate::stop::Stop;
 use plan_core::{Arena, Node, Schema};
 use plan_expr::AExpr;
-use plan_ir::{IR, expr_depth, expr_roots, plan_depth};
+use plan_ir::{IR, expr_roots};
 use plan_meaning::{check_nodes, check_tree};
+use plan_tree::is_deeper;
 use std::alloc::Global;
 
 /// A plan has at most so many levels.
@@ -18,29 +19,17 @@ const PLAN_LEVELS: usize = 256;
 /// An expression has at most so many levels.
 const EXPR_LEVELS: usize = 128;
 
-/// Whether there are levels, and more than a limit.
-fn is_deeper(levels: Option<usize>, limit: usize) -> bool
-    ensures { IsTrue result ↔ ((d : ℕ) × (levels ≡ Some d) × (limit < d)) }
-{
-    match levels {
-        Some(levels) => levels > limit,
-        None => false,
-    }
-}
-
 /// Checks the levels of the plan at `root`, and those of its expressions.
 fn check_levels(alloc: Global, root: Node, lp: &Arena<IR>, ex: &Arena<AExpr>) -> Result<(), Stop>
     requires { IsPlan lp.now ex.now root }
     ensures { LevelsChecked result lp.now ex.now root }
 {
-    if is_deeper(plan_depth(alloc, root, lp)?, PLAN_LEVELS) {
+    if is_deeper(alloc, lp, &[root], PLAN_LEVELS)? {
         return Err(Stop::Limit);
     }
     let roots = expr_roots(alloc, root, lp)?;
-    for node in roots.as_slice() {
-        if is_deeper(expr_depth(alloc, *node, ex)?, EXPR_LEVELS) {
-            return Err(Stop::Limit);
-        }
+    if is_deeper(alloc, ex, roots.as_slice(), EXPR_LEVELS)? {
+        return Err(Stop::Limit);
     }
     Ok(())
 }

@@ -1,7 +1,7 @@
 //! Walks over small arenas.
 ghost use Rattle.std.specs.Prelude.{◌≡◌, ◌++◌, OnOk};
 
-use crate::{Entry, Step, Walked, depth_of, walk};
+use crate::{Entry, Step, Walked, depth_of, is_deeper, walk};
 use plan_core::{Arena, Items, Node};
 use std::alloc::{AllocError, Global};
 use std::test::Fail;
@@ -128,5 +128,14 @@ fn counts_levels(rt: HostRuntime) -> Result<(), Fail> {
             "at {node}"
         );
     }
+    Ok(())
+}
+
+#[test]
+fn tells_trees_that_are_deeper(rt: HostRuntime) -> Result<(), Fail> {
+    let arena = forest(rt.alloc())?;
+    assert!(rt; is_deeper(rt.alloc(), &arena, &[Node(4), Node(0)], 2)?);
+    assert!(rt; !is_deeper(rt.alloc(), &arena, &[Node(0), Node(4)], 3)?);
+    assert!(rt; !is_deeper(rt.alloc(), &arena, &[], 0)?);
     Ok(())
 }
