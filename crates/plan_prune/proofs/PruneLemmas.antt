@@ -1,6 +1,6 @@
 -- What pruning does at each kind of node.
-use Rattle.std.proofs.Common.{◌≡◌, ℕ, ◌<◌, ◌≤◌, ◌&&◌, Bool, true, false, List, [], ◌∷◌, ◌++◌, length, Option, Some, refl, sym, ap, ◌∙◌, inl, inr, ◌⊎◌, arith, length-set, subst, append-nil}
-use Rattle.std.specs.List.{slice_get, slice_set}
+use Rattle.std.proofs.Common.{◌≡◌, ℕ, ◌<◌, ◌≤◌, ◌&&◌, Bool, true, false, List, [], ◌∷◌, ◌++◌, length, take, ◌+◌, Option, Some, None, refl, sym, ap, ◌∙◌, inl, inr, ◌⊎◌, arith, length-set, subst, append-nil}
+use Rattle.std.specs.List.{slice_get, slice_set, flat_map}
 use Rattle.std.proofs.lemmas.Option.{slice_get_within}
 use Rattle.plan_core.specs.declared.arena.Node.{Node}
 use Rattle.plan_core.specs.declared.options.FileScanOptions.{FileScanOptions}
@@ -20,7 +20,10 @@ use Rattle.plan_ir.specs.declared.ir.IR.TheVariants as nodes
 use Rattle.plan_ir.specs.declared.scan.FileInfo.{FileInfo}
 use Rattle.plan_ir.specs.declared.scan.FileScan.{FileScan}
 use Rattle.plan_ir.specs.declared.scan.ScanSources.{ScanSources}
-use Rattle.plan_expr.specs.Operands.{IsExpr}
+use Rattle.plan_expr.specs.Operands.{IsExpr, operands_of}
+use Rattle.plan_expr.specs.Walks.{column_name}
+use Rattle.plan_expr.proofs.LeafLemmas.{leaves_column, leaves_below}
+use Rattle.plan_expr.proofs.ListLemmas.{flat_map-next}
 use Rattle.plan_ir.specs.Parts.{plan_shape, inputs_of, is_invalid, roots_of, roots_in, IsPlan}
 use Rattle.plan_expr.specs.Exprs.{expr_at, Expr}
 use Rattle.plan_ir.specs.Plans.{Op, op_at, plans_of, plans_at, bare}
@@ -37,26 +40,17 @@ use Rattle.plan_prune.specs.Kept.{is_some_name}
 use Rattle.plan_prune.proofs.ListSteps.{with_names-append}
 use Rattle.plan_prune.proofs.PlaceLemmas.{place_equal, place_both, place_before, place_trans, place_without}
 
--- the names of an expression are added, kind by kind
+-- the names of an expression are added: its own, or those of its operands one after another
 module _ (ex : List AExpr) (n : Node) (h : IsExpr ex n) where
-  pub adds-column : (names : List Name) (a : Name) → slice_get ex n.0 ≡ Some (exprs.Column a) → with_name names a ≡ with_names names (leaves (expr_at ex n))
-  adds-column names a e = ap (λ (x : Expr). with_names names (leaves x)) (sym (expr_open ex n (exprs.Column a) h e))
+  pub adds-column : (names : List Name) (p : AExpr) (a : Name) → slice_get ex n.0 ≡ Some p → column_name p ≡ Some a → with_name names a ≡ with_names names (leaves (expr_at ex n))
+  adds-column names p a e c = ap (with_names names) (sym (leaves_column ex n p h e a c))
 
-  pub adds-literal : (names : List Name) (v : LiteralValue) → slice_get ex n.0 ≡ Some (exprs.Literal v) → names ≡ with_names names (leaves (expr_at ex n))
-  adds-literal names v e = ap (λ (x : Expr). with_names names (leaves x)) (sym (expr_open ex n (exprs.Literal v) h e))
+  pub adds-below : (names : List Name) (p : AExpr) → slice_get ex n.0 ≡ Some p → column_name p ≡ None → with_names names (flat_map (λ (m : Node). leaves (expr_at ex m)) (operands_of p)) ≡ with_names names (leaves (expr_at ex n))
+  adds-below names p e c = ap (with_names names) (sym (leaves_below ex n p h e c))
 
-  pub adds-alias : (names : List Name) (i : Node) (a : Name) → slice_get ex n.0 ≡ Some (exprs.Alias i a) → with_names names (leaves (expr_at ex i)) ≡ with_names names (leaves (expr_at ex n))
-  adds-alias names i a e =
-      ap (with_names names) (sym (append-nil (leaves (expr_at ex i))))
-      ∙ ap (λ (x : Expr). with_names names (leaves x)) (sym (expr_open ex n (exprs.Alias i a) h e))
-
-  pub adds-binary : (names : List Name) (l r : Node) (o : Operator) → slice_get ex n.0 ≡ Some (exprs.BinaryExpr l o r) → with_names (with_names names (leaves (expr_at ex l))) (leaves (expr_at ex r)) ≡ with_names names (leaves (expr_at ex n))
-  adds-binary names l r o e =
-      let a = leaves (expr_at ex l) in
-      let b = leaves (expr_at ex r) in
-      sym (with_names-append names a b)
-      ∙ ap (λ (x : List Name). with_names names (a ++ x)) (sym (append-nil b))
-      ∙ ap (λ (x : Expr). with_names names (leaves x)) (sym (expr_open ex n (exprs.BinaryExpr l o r) h e))
+-- the names of one operand more
+pub adds_next : (names : List Name) (f : Node → List Name) (ns : List Node) (i : ℕ) (m : Node) → slice_get ns i ≡ Some m → with_names (with_names names (flat_map f (take i ns))) (f m) ≡ with_names names (flat_map f (take (i + 1) ns))
+adds_next names f ns i m e = sym (with_names-append names (flat_map f (take i ns)) (f m)) ∙ ap (with_names names) (sym (flat_map-next f ns i m e))
 
 -- what a call on the input of a node asks, once the node is taken
 pub record Asks (a b : List IR) (ex : List AExpr) (n i : Node) : Type 0 where

@@ -16,22 +16,17 @@ pub fn add_names(names: &mut Names, node: Node, ex: &Arena<AExpr>) -> Result<(),
     requires { IsExpr ex.now node }
     ensures { OnOk result (names.new ≡ with_names names.old (leaves (expr_at ex.now node))) }
 {
-    match ex.get(node) {
-        AExpr::Column(name) => {
-            let _ = names.add(name.as_str())?;
-            Ok(())
-        }
-        AExpr::Literal(_) => Ok(()),
-        AExpr::Alias(input, _) => {
-            add_names(names, *input, ex)?;
-            Ok(())
-        }
-        AExpr::BinaryExpr { left, right, .. } => {
-            add_names(names, *left, ex)?;
-            add_names(names, *right, ex)?;
-            Ok(())
-        }
+    let expr = ex.get(node);
+    if let Some(name) = expr.column_name() {
+        let _ = names.add(name)?;
+        return Ok(());
     }
+    let mut place = 0;
+    while let Some(operand) = expr.operand(place) {
+        add_names(names, operand, ex)?;
+        place += 1;
+    }
+    Ok(())
 }
 
 /// Adds the names of the columns of the expressions, in walk order.

@@ -1,45 +1,51 @@
-use Rattle.std.proofs.Common.{◌∙◌, ap, refl, arith, Some, List, [], ◌∷◌}
+use Rattle.std.proofs.Common.{◌≡◌, ◌∙◌, ap, sym, arith, None, Some, List, take}
+use Rattle.std.specs.List.{slice_get, flat_map}
+use Rattle.std.proofs.lemmas.List.{take_all}
+use Rattle.std.proofs.lemmas.Option.{slice_get_within}
+use Rattle.plan_core.specs.declared.arena.Node.{Node}
 use Rattle.plan_core.specs.Names.{with_names}
-use Rattle.plan_expr.specs.declared.aexpr.AExpr.TheVariants.{Alias, BinaryExpr}
 use Rattle.plan_expr.specs.Exprs.{expr_at}
-use Rattle.plan_expr.proofs.ExprLemmas.{expr_down}
 use Rattle.plan_expr.specs.Leaves.{Name, leaves}
-use Rattle.plan_prune.proofs.PruneLemmas.{adds-column, adds-literal, adds-alias, adds-binary}
+use Rattle.plan_expr.specs.Operands.{operands_of}
+use Rattle.plan_expr.proofs.ExprLemmas.{expr_down}
+use Rattle.plan_expr.proofs.ListLemmas.{past}
+use Rattle.plan_prune.proofs.PruneLemmas.{adds-column, adds-below, adds_next}
 use Rattle.plan_prune.proofs.push_down.exprs.+add_names.Goals as goal
 
 pub add_names-requires : goal.add_names-requires
 add_names-requires t c =
-    let e = c.get.ensures.entry ∙ ap Some c.in-Alias.is in
-    let down = expr_down c.args.ex.now c.args.node c.in-Alias.input (Alias c.in-Alias.input c.in-Alias.field-1) 0 c.requires e refl in
+    let p = c.get-expr.result.now in
+    let there : slice_get (operands_of p) c.loop-operand.place ≡ Some c.in-Some-operand.operand = sym c.operand.ensures.there ∙ c.in-Some-operand.is in
+    let down = expr_down c.args.ex.now c.args.node c.in-Some-operand.operand p c.loop-operand.place c.requires c.get-expr.ensures.entry there in
     (omega (arith, down.0, c.decreases), down.1)
 
-pub add_names-requires-in-BinaryExpr : goal.add_names-requires-in-BinaryExpr
-add_names-requires-in-BinaryExpr t c =
-    let e = c.get.ensures.entry ∙ ap Some c.in-BinaryExpr.is in
-    let down = expr_down c.args.ex.now c.args.node c.in-BinaryExpr.left (BinaryExpr c.in-BinaryExpr.left c.in-BinaryExpr.op c.in-BinaryExpr.right) 0 c.requires e refl in
-    (omega (arith, down.0, c.decreases), down.1)
+pub returns-in-Some : goal.returns-in-Some
+returns-in-Some t c =
+    c.in_ok-add.ensures.after
+    ∙ adds-column c.args.ex.now c.args.node c.requires c.args.names.now c.get-expr.result.now c.in-Some.name.now c.get-expr.ensures.entry c.in-Some.ensures.some
 
-pub add_names-requires-in-BinaryExpr-2 : goal.add_names-requires-in-BinaryExpr-2
-add_names-requires-in-BinaryExpr-2 t c =
-    let e = c.get.ensures.entry ∙ ap Some c.in-BinaryExpr.is in
-    let down = expr_down c.args.ex.now c.args.node c.in-BinaryExpr.right (BinaryExpr c.in-BinaryExpr.left c.in-BinaryExpr.op c.in-BinaryExpr.right) 1 c.requires e refl in
-    (omega (arith, down.0, c.decreases), down.1)
+pub loop-operand-smaller : goal.loop-operand-smaller
+loop-operand-smaller t c =
+    let p = c.get-expr.result.now in
+    let there : slice_get (operands_of p) c.loop-operand.place ≡ Some c.in-Some-operand.operand = sym c.operand.ensures.there ∙ c.in-Some-operand.is in
+    let within = slice_get_within (operands_of p) c.loop-operand.place c.in-Some-operand.operand there in
+    omega (arith, within)
 
-pub returns-in_ok-add-in-Column : goal.returns-in_ok-add-in-Column
-returns-in_ok-add-in-Column t c =
-    c.in_ok-add-in-Column.ensures.after
-    ∙ ap (λ (a : Name). with_names c.args.names.now (a ∷ [])) c.as_str.ensures
-    ∙ adds-column c.args.ex.now c.args.node c.requires c.args.names.now c.in-Column.name (c.get.ensures.entry ∙ ap Some c.in-Column.is)
+pub loop-operand-preserved : goal.loop-operand-preserved
+loop-operand-preserved t c =
+    let p = c.get-expr.result.now in
+    let f : Node → List Name = λ k. leaves (expr_at c.args.ex.now k) in
+    let m = c.in-Some-operand.operand in
+    let there : slice_get (operands_of p) c.loop-operand.place ≡ Some m = sym c.operand.ensures.there ∙ c.in-Some-operand.is in
+    c.in_ok-add_names.ensures
+    ∙ ap (λ (l : List Name). with_names l (f m)) c.loop-operand.invariant
+    ∙ adds_next c.args.names.now f (operands_of p) c.loop-operand.place m there
 
-pub returns-in-Literal : goal.returns-in-Literal
-returns-in-Literal t c = adds-literal c.args.ex.now c.args.node c.requires c.args.names.now c.in-Literal.field-0 (c.get.ensures.entry ∙ ap Some c.in-Literal.is)
-
-pub returns-in_ok-add_names-in-BinaryExpr-2 : goal.returns-in_ok-add_names-in-BinaryExpr-2
-returns-in_ok-add_names-in-BinaryExpr-2 t c =
-    c.in_ok-add_names-in-BinaryExpr-2.ensures
-    ∙ ap (λ (l : List Name). with_names l (leaves (expr_at c.args.ex.now c.in-BinaryExpr.right))) c.in_ok-add_names-in-BinaryExpr.ensures
-    ∙ adds-binary c.args.ex.now c.args.node c.requires c.args.names.now c.in-BinaryExpr.left c.in-BinaryExpr.right c.in-BinaryExpr.op (c.get.ensures.entry ∙ ap Some c.in-BinaryExpr.is)
-
-pub returns-in_ok-add_names-in-Alias : goal.returns-in_ok-add_names-in-Alias
-returns-in_ok-add_names-in-Alias t c =
-    c.in_ok-add_names-in-Alias.ensures ∙ adds-alias c.args.ex.now c.args.node c.requires c.args.names.now c.in-Alias.input c.in-Alias.field-1 (c.get.ensures.entry ∙ ap Some c.in-Alias.is)
+pub returns : goal.returns
+returns t c =
+    let p = c.get-expr.result.now in
+    let f : Node → List Name = λ k. leaves (expr_at c.args.ex.now k) in
+    let none : slice_get (operands_of p) c.loop-operand.place ≡ None = sym c.operand.ensures.there ∙ c.in_default-operand.is in
+    c.loop-operand.invariant
+    ∙ ap (λ (ns : List Node). with_names c.args.names.now (flat_map f ns)) (take_all c.loop-operand.place (operands_of p) (past (operands_of p) c.loop-operand.place none))
+    ∙ adds-below c.args.ex.now c.args.node c.requires c.args.names.now p c.get-expr.ensures.entry c.in_default.ensures.none
