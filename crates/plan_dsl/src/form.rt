@@ -1,38 +1,11 @@
 //! Expressions that plans have: which they are, and which of them have one value.
-ghost use Rattle.std.specs.Prelude.{◌≡◌, ◌↔◌, IsTrue, not};
+ghost use Rattle.std.specs.Prelude.{◌≡◌, not};
 ghost use Rattle.std.specs.List.{list_all};
-ghost use Rattle.plan_expr.specs.Functions.{carries_own as is_carried, inputs_of, options_of};
 ghost use Rattle.plan_dsl.specs.Typing.{has_form as is_formed, has_own_form as is_formed_itself, is_known as is_found, is_scalar as is_single, reads_only as reads_found};
 
 use crate::expr::Expr;
 use crate::find::has_expr;
 use plan_core::Schema;
-use plan_expr::FunctionExpr;
-use plan_options::FunctionOptions;
-
-impl FunctionExpr {
-    /// How many inputs the function takes.
-    fn inputs(&self) -> usize
-        ensures { result ≡ inputs_of self.now }
-    {
-        match self {
-            FunctionExpr::FillNull => 2,
-            FunctionExpr::Not
-            | FunctionExpr::IsNull
-            | FunctionExpr::IsNotNull
-            | FunctionExpr::Reverse
-            | FunctionExpr::CumSum => 1,
-        }
-    }
-
-    /// Whether these are the options that the function must carry.
-    fn carries(&self, options: &FunctionOptions) -> bool
-        ensures value { result ≡ is_carried self.now options.now }
-        ensures own { IsTrue result ↔ (options.now ≡ options_of self.now) }
-    {
-        *options == self.options()
-    }
-}
 
 impl Expr {
     /// Whether the expression has one value, whatever the frame. Kinds that plans don't have are left out.

@@ -1,5 +1,5 @@
 //! Functions over columns.
-ghost use Rattle.std.specs.Prelude.{◌≡◌};
+ghost use Rattle.std.specs.Prelude.{◌≡◌, ◌↔◌, IsTrue};
 
 use plan_options::{ApplyOptions, FunctionOptions};
 
@@ -21,7 +21,7 @@ pub enum FunctionExpr {
 }
 
 impl FunctionExpr {
-    ghost use Rattle.plan_expr.specs.Functions.{is_row_wise, options_of};
+    ghost use Rattle.plan_expr.specs.Functions.{carries_own as is_carried, inputs_of, is_row_wise, options_of};
 
     /// The options that the function must carry.
     pub fn options(&self) -> FunctionOptions
@@ -38,6 +38,28 @@ impl FunctionExpr {
             collect_groups,
             ..FunctionOptions::default()
         }
+    }
+
+    /// How many inputs the function takes.
+    pub fn inputs(&self) -> usize
+        ensures { result ≡ inputs_of self.now }
+    {
+        match self {
+            FunctionExpr::FillNull => 2,
+            FunctionExpr::Not
+            | FunctionExpr::IsNull
+            | FunctionExpr::IsNotNull
+            | FunctionExpr::Reverse
+            | FunctionExpr::CumSum => 1,
+        }
+    }
+
+    /// Whether these are the options that the function must carry.
+    pub fn carries(&self, options: &FunctionOptions) -> bool
+        ensures value { result ≡ is_carried self.now options.now }
+        ensures own { IsTrue result ↔ (options.now ≡ options_of self.now) }
+    {
+        *options == self.options()
     }
 
     /// Whether each value that the function gives comes of one row alone.

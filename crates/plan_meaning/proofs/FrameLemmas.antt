@@ -42,12 +42,41 @@ all_append t (x ∷ xs) ys h g = (h.0, all_append t xs ys h.1 g)
 
 pub same_type_eq : (t u : DataType) → same_type t u ≡ true → t ≡ u
 same_type_eq types.Int64 types.Int64 e = refl
+same_type_eq types.Int64 types.String e = cc
+same_type_eq types.Int64 types.Boolean e = cc
+same_type_eq types.Int64 (types.List plains.Int64) e = cc
+same_type_eq types.Int64 (types.List plains.String) e = cc
+same_type_eq types.Int64 (types.List plains.Boolean) e = cc
+same_type_eq types.String types.Int64 e = cc
 same_type_eq types.String types.String e = refl
+same_type_eq types.String types.Boolean e = cc
+same_type_eq types.String (types.List plains.Int64) e = cc
+same_type_eq types.String (types.List plains.String) e = cc
+same_type_eq types.String (types.List plains.Boolean) e = cc
+same_type_eq types.Boolean types.Int64 e = cc
+same_type_eq types.Boolean types.String e = cc
 same_type_eq types.Boolean types.Boolean e = refl
+same_type_eq types.Boolean (types.List plains.Int64) e = cc
+same_type_eq types.Boolean (types.List plains.String) e = cc
+same_type_eq types.Boolean (types.List plains.Boolean) e = cc
+same_type_eq (types.List plains.Int64) types.Int64 e = cc
+same_type_eq (types.List plains.Int64) types.String e = cc
+same_type_eq (types.List plains.Int64) types.Boolean e = cc
 same_type_eq (types.List plains.Int64) (types.List plains.Int64) e = refl
+same_type_eq (types.List plains.Int64) (types.List plains.String) e = cc
+same_type_eq (types.List plains.Int64) (types.List plains.Boolean) e = cc
+same_type_eq (types.List plains.String) types.Int64 e = cc
+same_type_eq (types.List plains.String) types.String e = cc
+same_type_eq (types.List plains.String) types.Boolean e = cc
+same_type_eq (types.List plains.String) (types.List plains.Int64) e = cc
 same_type_eq (types.List plains.String) (types.List plains.String) e = refl
+same_type_eq (types.List plains.String) (types.List plains.Boolean) e = cc
+same_type_eq (types.List plains.Boolean) types.Int64 e = cc
+same_type_eq (types.List plains.Boolean) types.String e = cc
+same_type_eq (types.List plains.Boolean) types.Boolean e = cc
+same_type_eq (types.List plains.Boolean) (types.List plains.Int64) e = cc
+same_type_eq (types.List plains.Boolean) (types.List plains.String) e = cc
 same_type_eq (types.List plains.Boolean) (types.List plains.Boolean) e = refl
-same_type_eq t u e = cc
 
 pub is_type_some : (o : Option DataType) (t : DataType) → is_type o t ≡ true → o ≡ Some t
 is_type_some None t e = cc
