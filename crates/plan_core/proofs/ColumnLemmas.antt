@@ -58,3 +58,8 @@ flip_false x y h = go (bytes_eq y x) refl
     go : (b : Bool) → bytes_eq y x ≡ b → b ≡ false
     go false e = refl
     go true e = let q : y ≡ x = (bytes_eq-Decides y x).0 e in let u : bytes_eq x y ≡ true = (bytes_eq-Decides x y).1 (sym q) in cc
+
+-- no names are distinct
+pub HasDistinctNames-none : HasDistinctNames []
+unfolding IsDistinct
+HasDistinctNames-none = tt

@@ -10,37 +10,77 @@ use crate::error::{At, PolarsError, PolarsResult};
 use crate::schema_iter::SchemaIter;
 use crate::text::PlSmallStr;
 use crate::try_clone::TryClone;
-use indexmap::IndexMap;
+use indexmap::{IndexMap, map};
 use std::alloc::{AllocError, Global};
 use std::marker::Model;
 
 /// Columns by name, in order. A contract sees the list of the names with their types.
 #[derive(Drop, Debug)]
 pub struct Schema {
-    fields: IndexMap<String, DataType>,
+    alloc: Global,
+    // On the heap, so that what has a schema is small; absent while there are no columns.
+    fields: Option<Box<IndexMap<String, DataType>>>,
 }
 
 impl Model for Schema {
-    ghost use Rattle.std.specs.Prelude.{List, ℕ, map, string_bytes};
+    ghost use Rattle.std.specs.Prelude.{List, ℕ, [], map, option_map, string_bytes, unwrap_or};
     ghost use Rattle.plan_core.specs.declared.data_type.DataType.{DataType};
 
     ghost Value = { List (List ℕ × DataType) };
 
-    ghost view = { λ s. map (λ p. (string_bytes p.0, p.1)) s.fields.entries };
+    ghost view = { λ s. unwrap_or (option_map (λ b. map (λ p. (string_bytes p.0, p.1)) b.value.entries) s.fields) [] };
 
     ghost use Rattle.plan_core.specs.Columns.{HasDistinctNames};
 
     // No name comes twice.
-    ghost invariant = { λ s. HasDistinctNames (map (λ p. (string_bytes p.0, p.1)) s.fields.entries) };
+    ghost invariant = { λ s. HasDistinctNames (unwrap_or (option_map (λ b. map (λ p. (string_bytes p.0, p.1)) b.value.entries) s.fields) []) };
 }
 
 impl Schema {
+    ghost use Rattle.std.specs.Prelude.{map as map_list, string_bytes};
+
+    /// The columns by name, if there are any.
+    fn fields(&self) -> Option<&IndexMap<String, DataType>>
+        ensures some { IfSome result (λ m. map_list (λ p. (string_bytes p.0, p.1)) m.now.entries ≡ self.now) }
+        ensures none { IfNone result (self.now ≡ []) }
+        ensures distinct { HasDistinctNames self.now }
+    {
+        let Some(fields) = &self.fields else {
+            return None;
+        };
+        Some(fields.as_ref())
+    }
+
+    /// The columns, as a run of entries.
+    fn entries(&self) -> map::Slice<'_, String, DataType>
+        ensures columns { map_list (λ p. (string_bytes p.0, p.1)) result ≡ self.now }
+        ensures distinct { HasDistinctNames self.now }
+    {
+        let Some(fields) = self.fields() else {
+            return map::Slice::new();
+        };
+        fields.as_slice()
+    }
+
+    /// The columns by value, for writing: the caller puts them back. Refuses for want of memory alone.
+    fn take_fields(&mut self) -> Result<Box<IndexMap<String, DataType>>, AllocError>
+        ensures taken { IfOk result (λ b. map_list (λ p. (string_bytes p.0, p.1)) b.value.entries ≡ self.old) }
+        ensures unchanged { OnErr result (self.new ≡ self.old) }
+        ensures distinct { HasDistinctNames self.old }
+    {
+        match self.fields.take() {
+            Some(fields) => Ok(fields),
+            None => Ok(Box::new(self.alloc, IndexMap::new(self.alloc))?),
+        }
+    }
+
     /// A schema without columns.
     pub fn new(alloc: Global) -> Self
         ensures { result ≡ [] }
     {
         Schema {
-            fields: IndexMap::new(alloc),
+            alloc,
+            fields: None,
         }
     }
 
@@ -50,14 +90,18 @@ impl Schema {
         ensures distinct { HasDistinctNames self.now }
         ensures small { result < 2 ^ 63 }
     {
-        self.fields.len()
+        let Some(fields) = self.fields() else {
+            return 0;
+        };
+        fields.len()
     }
 
     /// The type of a column, if it is there.
     pub fn get(&self, name: &str) -> Option<&DataType>
         ensures { option_copied result ≡ type_of self.now name.now }
     {
-        self.fields.get(name)
+        let fields = self.fields()?;
+        fields.get(name)
     }
 
     /// The type of a column. It refuses with `SchemaFieldNotFound` at place 0, of no node,
@@ -82,7 +126,8 @@ impl Schema {
         ensures stands { IfSome result (StandsAt self.now name.now) }
         ensures absent { IfNone result (type_of self.now name.now ≡ None) }
     {
-        self.fields.get_index_of(name)
+        let fields = self.fields()?;
+        fields.get_index_of(name)
     }
 
     /// The name and type of a column by its place.
@@ -91,7 +136,7 @@ impl Schema {
         ensures none { IfNone result (slice_get self.now index ≡ None) }
         ensures within { IsSome result ↔ (index < length self.now) }
     {
-        match self.fields.get_index(index) {
+        match self.entries().get_index(index) {
             None => None,
             Some((name, dtype)) => Some((name.as_str(), dtype)),
         }
@@ -104,7 +149,7 @@ impl Schema {
         ensures runs { ShowsInOrder (deref_pair {K = List ℕ} {X = DataType}) }
         ensures distinct { HasDistinctNames self.now }
     {
-        SchemaIter::new(self.fields.iter())
+        SchemaIter::new(self.entries().iter())
     }
 
     /// Gives a column a type: a new one goes last, and one that is there keeps its place.
@@ -118,7 +163,10 @@ impl Schema {
         ensures after { OnOk result (self.new ≡ with_type self.old name dtype) }
         ensures unchanged { OnErr result (self.new ≡ self.old) }
     {
-        Ok(self.fields.insert(name.into_string(), dtype)?)
+        let mut fields = self.take_fields()?;
+        let old = fields.insert(name.into_string(), dtype);
+        self.fields = Some(fields);
+        Ok(old?)
     }
 
     /// Gives each column of the other, in order, its type there, as `with_column` does. It
@@ -127,9 +175,13 @@ impl Schema {
         ensures after { OnOk result (self.new ≡ with_types self.old other) }
         ensures unchanged { OnErr result (self.new ≡ self.old) }
     {
-        let Schema { mut fields } = other;
-        self.fields.append(&mut fields)?;
-        Ok(())
+        let Some(mut others) = other.fields else {
+            return Ok(());
+        };
+        let mut fields = self.take_fields()?;
+        let appended = fields.append(&mut others);
+        self.fields = Some(fields);
+        Ok(appended?)
     }
 
     /// Puts a new column at a place, and those from there on move down. It refuses only where
@@ -145,7 +197,10 @@ impl Schema {
         ensures after { OnOk result (self.new ≡ insert self.old index (name, dtype)) }
         ensures unchanged { OnErr result (self.new ≡ self.old) }
     {
-        let _ = self.fields.shift_insert(index, name.into_string(), dtype)?;
+        let mut fields = self.take_fields()?;
+        let inserted = fields.shift_insert(index, name.into_string(), dtype);
+        self.fields = Some(fields);
+        let _ = inserted?;
         Ok(())
     }
 
@@ -154,7 +209,10 @@ impl Schema {
         ensures given { result ≡ type_of self.old name.now }
         ensures after { self.new ≡ without self.old name.now }
     {
-        self.fields.shift_remove(name)
+        let mut fields = self.fields.take()?;
+        let removed = fields.shift_remove(name);
+        self.fields = Some(fields);
+        removed
     }
 }
 
@@ -184,7 +242,7 @@ impl PartialEq for Schema {
         ensures value { result ≡ same_columns self.now other.now }
         ensures same { IsTrue result ↔ (self.now ≡ other.now) }
     {
-        self.fields.as_slice() == other.fields.as_slice()
+        self.entries() == other.entries()
     }
 }
 
