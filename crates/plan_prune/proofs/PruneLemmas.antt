@@ -11,10 +11,7 @@ use Rattle.plan_tree.proofs.TreeLemmas.{opened, nth, height_at, Stands-nth, Stan
 use Rattle.plan_tree.proofs.ReadLemmas.{trees_at-is}
 use Rattle.plan_tree.proofs.Frames.{Rewrites-refl, Rewrites-back, Rewrites-above, StandsOnce-set, StandsOnce-first, descend, Keeps-trans, Keeps-set, Keeps-append, slice_get-append_last}
 use Rattle.plan_expr.specs.declared.aexpr.AExpr.{AExpr}
-use Rattle.plan_expr.specs.declared.aexpr.AExpr.TheVariants as exprs
 use Rattle.plan_expr.specs.declared.expr_ir.ExprIR.{ExprIR}
-use Rattle.plan_expr.specs.declared.operator.Operator.{Operator}
-use Rattle.plan_expr.specs.declared.literal.LiteralValue.{LiteralValue}
 use Rattle.plan_ir.specs.declared.ir.IR.{IR}
 use Rattle.plan_ir.specs.declared.ir.IR.TheVariants as nodes
 use Rattle.plan_ir.specs.declared.scan.FileInfo.{FileInfo}
@@ -25,9 +22,8 @@ use Rattle.plan_expr.specs.Walks.{column_name}
 use Rattle.plan_expr.proofs.LeafLemmas.{leaves_column, leaves_below}
 use Rattle.plan_expr.proofs.ListLemmas.{flat_map-next}
 use Rattle.plan_ir.specs.Parts.{plan_shape, inputs_of, is_invalid, roots_of, roots_in, IsPlan}
-use Rattle.plan_expr.specs.Exprs.{expr_at, Expr}
+use Rattle.plan_expr.specs.Exprs.{expr_at}
 use Rattle.plan_ir.specs.Plans.{Op, op_at, plans_of, plans_at, bare}
-use Rattle.plan_expr.proofs.ExprLemmas.{expr_open}
 use Rattle.plan_ir.proofs.PlanLemmas.{plan_down}
 use Rattle.plan_core.specs.Names.{with_names, with_name}
 use Rattle.plan_expr.specs.Leaves.{Name, leaves}
