@@ -109,3 +109,19 @@ fn a_bad_number_has_a_place(rt: HostRuntime) -> Result<(), Fail> {
     }
     Ok(())
 }
+
+#[test]
+fn a_length_has_no_type_yet(rt: HostRuntime) -> Result<(), Fail> {
+    let alloc = rt.alloc();
+    let lp = nodes(alloc, 2)?;
+    let mut ex = exprs(alloc, 2)?;
+    if ex.len() == 3 {
+        ex.put(Node(2), AExpr::Len);
+    }
+    let wanted = PolarsError::SchemaMismatch(At {
+        node: Some(Node(1)),
+        place: 1,
+    });
+    assert_eq!(rt; check_plan(alloc, Node(0), &lp, &ex).err(), Some(wanted));
+    Ok(())
+}

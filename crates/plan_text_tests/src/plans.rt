@@ -4,7 +4,7 @@ use plan_core::{
     Arena, DataType, FileScanOptions, Items, Node, PlSmallStr, PlainType, ProjectionOptions,
     RowIndex, Schema,
 };
-use plan_expr::{AExpr, ExprIR, LiteralValue, Operator, OutputName};
+use plan_expr::{AExpr, ExprIR, FunctionExpr, IRAggExpr, LiteralValue, Operator, OutputName};
 use plan_ir::{FileInfo, FileScan, IR, PlanCopy, ScanSources};
 use std::alloc::{AllocError, Global};
 
@@ -110,6 +110,37 @@ pub fn no_plan(alloc: Global) -> PlanCopy {
         lp: Arena::new(alloc),
         ex: Arena::new(alloc),
     }
+}
+
+fn links(alloc: Global, numbers: &[usize]) -> Result<Items<Node>, AllocError> {
+    let mut nodes = Items::new(alloc);
+    for number in numbers {
+        nodes.push(Node(*number))?;
+    }
+    Ok(nodes)
+}
+
+// A choice, two aggregates, a function, a window and the number of rows.
+pub fn all_kinds(alloc: Global) -> Result<PlanCopy, AllocError> {
+    let mut plan = no_plan(alloc);
+    let _ = plan.ex.add(AExpr::Ternary {
+        predicate: Node(1),
+        truthy: Node(2),
+        falsy: Node(3),
+    })?;
+    let _ = plan.ex.add(AExpr::Agg(IRAggExpr::Count(Node(4), false)))?;
+    let _ = plan.ex.add(AExpr::Agg(IRAggExpr::Count(Node(4), true)))?;
+    let _ = plan.ex.add(AExpr::Function {
+        input: links(alloc, &[1, 4])?,
+        function: FunctionExpr::FillNull,
+        options: FunctionExpr::FillNull.options(),
+    })?;
+    let _ = plan.ex.add(AExpr::Window {
+        function: Node(5),
+        partition_by: links(alloc, &[3, 2])?,
+    })?;
+    let _ = plan.ex.add(AExpr::Len)?;
+    Ok(plan)
 }
 
 fn some_rows(alloc: Global) -> Result<FileScanOptions, AllocError> {

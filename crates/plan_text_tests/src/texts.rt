@@ -1,6 +1,6 @@
 //! Whole texts, as they must be written.
 
-use crate::plans::{all_operators, full_plan, more_plan, names, schema, simple_plan};
+use crate::plans::{all_kinds, all_operators, full_plan, more_plan, names, schema, simple_plan};
 use plan_core::{At, DataType, Node, PolarsError};
 use plan_ir::PlanCopy;
 use plan_text::{write_fault, write_listing, write_plan, write_schema};
@@ -18,6 +18,9 @@ const MORE_PLAN: &str =
 
 const OPERATORS: &str =
     r#"{"exprs":[{"left":0,"op":"BinaryExpr","operator":"Eq","right":1},{"left":0,"op":"BinaryExpr","operator":"NotEq","right":1},{"left":0,"op":"BinaryExpr","operator":"Lt","right":1},{"left":0,"op":"BinaryExpr","operator":"LtEq","right":1},{"left":0,"op":"BinaryExpr","operator":"Gt","right":1},{"left":0,"op":"BinaryExpr","operator":"GtEq","right":1},{"left":0,"op":"BinaryExpr","operator":"EqValidity","right":1},{"left":0,"op":"BinaryExpr","operator":"NotEqValidity","right":1},{"left":0,"op":"BinaryExpr","operator":"And","right":1},{"left":0,"op":"BinaryExpr","operator":"Or","right":1},{"left":0,"op":"BinaryExpr","operator":"Xor","right":1},{"left":0,"op":"BinaryExpr","operator":"Plus","right":1},{"left":0,"op":"BinaryExpr","operator":"Minus","right":1},{"left":0,"op":"BinaryExpr","operator":"Multiply","right":1}],"nodes":[],"root":0}"#;
+
+const KINDS: &str =
+    r#"{"exprs":[{"falsy":3,"op":"Ternary","predicate":1,"truthy":2},{"input":4,"kind":"Count","op":"Agg"},{"input":4,"kind":"CountAll","op":"Agg"},{"inputs":[1,4],"name":"FillNull","op":"Function"},{"function":5,"op":"Window","partition_by":[3,2]},{"op":"Len"}],"nodes":[],"root":0}"#;
 
 fn is_written(
     rt: &impl Abort,
@@ -52,6 +55,12 @@ fn writes_further_nodes(rt: HostRuntime) -> Result<(), AllocError> {
 fn writes_each_operator(rt: HostRuntime) -> Result<(), AllocError> {
     let plan = all_operators(rt.alloc())?;
     is_written(&rt, rt.alloc(), &plan, OPERATORS)
+}
+
+#[test]
+fn writes_each_kind_of_expression(rt: HostRuntime) -> Result<(), AllocError> {
+    let plan = all_kinds(rt.alloc())?;
+    is_written(&rt, rt.alloc(), &plan, KINDS)
 }
 
 #[test]
