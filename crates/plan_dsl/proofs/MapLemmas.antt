@@ -4,7 +4,7 @@ use denote.Param.Weighed.{most, most-append}
 use Rattle.plan_core.specs.declared.error.PolarsError.{PolarsError}
 use Rattle.plan_dsl.specs.declared.expr.Expr.{Expr, size-Expr}
 use Rattle.plan_dsl.specs.declared.expr.Expr.TheVariants as exprs
-use Rattle.plan_dsl.specs.Maps.{Maps, none, next, MapsUntil, here, below, later, StopsAt}
+use Rattle.plan_dsl.specs.Maps.{Maps, none, next, MapsSome, no_more, some_below, one_more, MapsUntil, here, below, later, StopsAt}
 use Rattle.plan_dsl.specs.Parts.{children, head_of, Takes}
 
 -- an expression is made of as many as its kind takes
@@ -49,6 +49,23 @@ module _ {F : Type 0} (Answers : F → Expr → Expr → F → Type 0) where
   length-maps _ _ [] (r ∷ rs) x = elim x [ ]
   length-maps _ _ (e ∷ es) [] x = elim x [ ]
 
+  -- all of some, and then some of others
+  maps_some : (f g h : F) (es more rs : List Expr) → Maps Answers f es rs g → MapsSome Answers g more h → MapsSome Answers f (es ++ more) h
+  maps_some f g h [] more [] none b = b
+  maps_some f g h (e ∷ es) more (r ∷ rs) (next a i s rest) b = one_more (next a i s none) (maps_some _ _ _ _ _ _ rest b)
+  maps_some _ _ h [] more (r ∷ rs) x b = elim x [ ]
+  maps_some _ _ h (e ∷ es) more [] x b = elim x [ ]
+
+  -- some of a list are some of a longer one
+  some_longer : (f g : F) (es more : List Expr) → MapsSome Answers f es g → MapsSome Answers f (es ++ more) g
+  some_longer f g es more no_more = no_more
+  some_longer f g es more (some_below a) = some_below a
+  some_longer f g es more (one_more a b) = one_more a (some_longer _ _ _ more b)
+
+  -- an expression of which all those that it is made of are mapped
+  pub some_children : (f g : F) (e : Expr) (rs : List Expr) → Maps Answers f (children e) rs g → MapsSome Answers f (e ∷ []) g
+  some_children f g e rs maps = some_below (subst (λ (es : List Expr). MapsSome Answers f es g) (append-nil (children e)) (maps_some f g g (children e) [] rs maps no_more))
+
   -- a front of all is mapped
   pub record MapsFront (f : F) (all left rs : List Expr) (g : F) : Type 0 where
     pub gone : List Expr
@@ -81,6 +98,10 @@ module _ {F : Type 0} (Answers : F → Expr → Expr → F → Type 0) where
       let here_is : most size-Expr left ≡ max (size-Expr e) (most size-Expr rest) = ap (most size-Expr) is in
       omega arith
 
+  -- those of the front are some of all
+  pub front_some : (f g : F) (all left rs : List Expr) → MapsFront f all left rs g → MapsSome Answers f all g
+  front_some f g all left rs m = subst (λ (es : List Expr). MapsSome Answers f es g) m.whole (maps_some f g g m.gone left rs m.maps no_more)
+
 module _ {F : Type 0} (Answers : F → Expr → Expr → F → Type 0) (Refuses : F → Expr → PolarsError → F → Type 0) where
   -- some expressions, and then a refusal
   pub maps_until : (f g h : F) (es more rs : List Expr) (x : PolarsError) → Maps Answers f es rs g → MapsUntil Answers Refuses g more x h → MapsUntil Answers Refuses f (es ++ more) x h
@@ -98,12 +119,14 @@ module _ {F : Type 0} (Answers : F → Expr → Expr → F → Type 0) (Refuses 
 
   -- the next one stops it
   pub front_stop : (f g h : F) (all left rest rs : List Expr) (e : Expr) (x : PolarsError) → MapsFront Answers f all left rs g → left ≡ e ∷ rest → StopsAt Answers Refuses g (e ∷ []) x h → StopsAt Answers Refuses f all x h
-  front_stop f g h all left rest rs e x m is (inl short) = inl short
+  front_stop f g h all left rest rs e x m is (inl short) =
+      let whole : m.gone ++ e ∷ rest ≡ all = ap (λ (es : List Expr). m.gone ++ es) (sym is) ∙ m.whole in
+      inl (short.0, subst (λ (es : List Expr). MapsSome Answers f es h) whole (maps_some Answers f g h m.gone (e ∷ rest) rs m.maps (some_longer Answers g h (e ∷ []) rest short.1)))
   front_stop f g h all left rest rs e x m is (inr until) =
       let whole : m.gone ++ e ∷ rest ≡ all = ap (λ (es : List Expr). m.gone ++ es) (sym is) ∙ m.whole in
       inr (subst (λ (es : List Expr). MapsUntil Answers Refuses f es x h) whole (maps_until f g h m.gone (e ∷ rest) rs x m.maps (until_more g h (e ∷ []) rest x until)))
 
   -- it stops below an expression
   pub stop_below : (f g : F) (e : Expr) (x : PolarsError) → StopsAt Answers Refuses f (children e) x g → StopsAt Answers Refuses f (e ∷ []) x g
-  stop_below f g e x (inl short) = inl short
+  stop_below f g e x (inl short) = inl (short.0, some_below short.1)
   stop_below f g e x (inr until) = inr (below until)

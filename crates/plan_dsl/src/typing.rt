@@ -9,7 +9,8 @@ use crate::types::{aggregate_type, binary_type, choice_type, unary_type};
 use plan_core::{DataType, Schema};
 use plan_expr::{FunctionExpr, literal_type, operator_type};
 
-/// The type of the expression over the columns of a schema, if it has one.
+/// The type of the expression over the columns of a schema, if it has one. Kinds that plans don't have
+/// have none.
 #[cycle(types)]
 pub(crate) fn expr_type(expr: &Expr, schema: &Schema) -> Option<DataType>
     ensures { result ≡ type_of_expr schema.now expr.now }
@@ -19,14 +20,9 @@ pub(crate) fn expr_type(expr: &Expr, schema: &Schema) -> Option<DataType>
         Expr::Column(name) => schema.get(name.as_str()).copied(),
         Expr::Literal(value) => Some(literal_type(value)),
         Expr::BinaryExpr { left, op, right } => {
-            let left = expr_type(left, schema)?;
-            let right = expr_type(right, schema)?;
-            operator_type(*op, left, right)
+            operator_type(*op, expr_type(left, schema)?, expr_type(right, schema)?)
         }
-        Expr::Agg(agg) => {
-            let values = expr_type(agg.input(), schema)?;
-            aggregate_type(agg.aggregate(), values)
-        }
+        Expr::Agg(agg) => aggregate_type(agg.aggregate(), expr_type(agg.input(), schema)?),
         Expr::Ternary {
             predicate,
             truthy,
@@ -53,21 +49,7 @@ pub(crate) fn expr_type(expr: &Expr, schema: &Schema) -> Option<DataType>
             }
         }
         Expr::Len => Some(DataType::Int64),
-        Expr::Columns(_)
-        | Expr::DtypeColumn(_)
-        | Expr::IndexColumn(_)
-        | Expr::Cast { .. }
-        | Expr::Sort { .. }
-        | Expr::Gather { .. }
-        | Expr::SortBy { .. }
-        | Expr::Explode(_)
-        | Expr::Filter { .. }
-        | Expr::Wildcard
-        | Expr::Slice { .. }
-        | Expr::Exclude(_, _)
-        | Expr::KeepName(_)
-        | Expr::RenameAlias { .. }
-        | Expr::Nth(_) => None,
+        _ => None,
     }
 }
 

@@ -6,18 +6,18 @@ use Rattle.plan_dsl.specs.Typing.{expr_type}
 use Rattle.plan_dsl.proofs.TypeLemmas.{agg_typed, function_many, row_typed-is, row_types-is}
 use Rattle.plan_dsl.proofs.typing.+types.Goals as goal
 
-pub expr_type-returns-in_err-values-in-Agg : goal.expr_type-returns-in_err-values-in-Agg
-expr_type-returns-in_err-values-in-Agg t c =
+pub expr_type-returns-in_err-expr_type-in-Agg : goal.expr_type-returns-in_err-expr_type-in-Agg
+expr_type-returns-in_err-expr_type-in-Agg t c =
     let none : c.expr_type-in-Agg.result ≡ None = search rules in
     let typed = agg_typed c.args.schema.now c.args.expr.now c.input.result.now c.in-Agg.agg c.expr_type-in-Agg.result None c.in-Agg.is c.input.ensures c.expr_type-in-Agg.ensures none in
-    let given : c.from_residual-in_err-values-in-Agg.result ≡ None = search rules in
+    let given : c.from_residual-in_err-expr_type-in-Agg.result ≡ None = search rules in
     given ∙ sym typed
 
-pub expr_type-returns-in_ok-values-in-Agg : goal.expr_type-returns-in_ok-values-in-Agg
-expr_type-returns-in_ok-values-in-Agg t c =
-    let there : c.expr_type-in-Agg.result ≡ Some c.in_ok-values-in-Agg.values = search rules in
-    let typed = agg_typed c.args.schema.now c.args.expr.now c.input.result.now c.in-Agg.agg c.expr_type-in-Agg.result (Some c.in_ok-values-in-Agg.values) c.in-Agg.is c.input.ensures c.expr_type-in-Agg.ensures there in
-    c.aggregate_type.ensures ∙ ap (λ k. aggregate_type k c.in_ok-values-in-Agg.values) c.aggregate.ensures ∙ sym typed
+pub expr_type-returns-in_ok-expr_type-in-Agg : goal.expr_type-returns-in_ok-expr_type-in-Agg
+expr_type-returns-in_ok-expr_type-in-Agg t c =
+    let there : c.expr_type-in-Agg.result ≡ Some c.in_ok-expr_type-in-Agg.field-0 = search rules in
+    let typed = agg_typed c.args.schema.now c.args.expr.now c.input.result.now c.in-Agg.agg c.expr_type-in-Agg.result (Some c.in_ok-expr_type-in-Agg.field-0) c.in-Agg.is c.input.ensures c.expr_type-in-Agg.ensures there in
+    c.aggregate_type.ensures ∙ ap (λ k. aggregate_type k c.in_ok-expr_type-in-Agg.field-0) c.aggregate.ensures ∙ sym typed
 
 pub expr_type-returns-in-Function : goal.expr_type-returns-in-Function
 expr_type-returns-in-Function t c = search (rules, the_lemmas, row_types-is)
