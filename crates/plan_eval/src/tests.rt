@@ -196,6 +196,7 @@ fn shown_value(alloc: Global, value: &AnyValue) -> Result<String, AllocError> {
         AnyValue::Int64(number) => format!(in alloc; "{number}"),
         AnyValue::String(text) => String::from_str(alloc, text.as_str()),
         AnyValue::Boolean(truth) => format!(in alloc; "{truth}"),
+        AnyValue::List(values) => format!(in alloc; "list of {}", values.len()),
     }
 }
 

@@ -131,11 +131,29 @@ fn counts_levels(rt: HostRuntime) -> Result<(), Fail> {
     Ok(())
 }
 
+/// Whether the tree at a number has more levels than a limit, if a tree stands there.
+fn deeper(
+    alloc: Global,
+    arena: &Arena<Part>,
+    node: usize,
+    limit: usize,
+) -> Result<Option<bool>, AllocError> {
+    match depth_of(alloc, arena, Node(node))? {
+        None => Ok(None),
+        Some(_) => Ok(Some(is_deeper(alloc, arena, &[Node(node)], limit)?)),
+    }
+}
+
 #[test]
 fn tells_trees_that_are_deeper(rt: HostRuntime) -> Result<(), Fail> {
     let arena = forest(rt.alloc())?;
-    assert!(rt; is_deeper(rt.alloc(), &arena, &[Node(4), Node(0)], 2)?);
-    assert!(rt; !is_deeper(rt.alloc(), &arena, &[Node(0), Node(4)], 3)?);
-    assert!(rt; !is_deeper(rt.alloc(), &arena, &[], 0)?);
+    for (node, limit, wanted) in [(0, 2, true), (0, 3, false), (4, 0, true), (4, 1, false)] {
+        assert_eq!(rt;
+            deeper(rt.alloc(), &arena, node, limit)?,
+            Some(wanted),
+            "at {node}"
+        );
+    }
+    assert!(rt; deeper(rt.alloc(), &arena, 5, 0)?.is_none());
     Ok(())
 }
