@@ -243,26 +243,46 @@ fn frame_of_one(alloc: Global) -> Result<IR, AllocError> {
     })
 }
 
-pub fn more_plan(alloc: Global) -> Result<PlanCopy, AllocError> {
-    let slice = IR::Slice {
+fn slice_of_many() -> IR {
+    IR::Slice {
         input: Node(1),
         offset: -3,
         len: 4294967295,
-    };
-    let no_frame = IR::DataFrameScan {
+    }
+}
+
+fn no_frame(alloc: Global) -> IR {
+    IR::DataFrameScan {
         df: None,
         schema: Schema::new(alloc),
         output_schema: None,
-    };
-    let mut lp = Arena::new(alloc);
-    let _ = lp.add(slice)?;
+    }
+}
+
+fn add_made(alloc: Global, lp: &mut Arena<IR>) -> Result<(), AllocError> {
     let _ = lp.add(select_of_two(alloc)?)?;
     let _ = lp.add(hstack_of_one(alloc)?)?;
+    Ok(())
+}
+
+fn add_frames(alloc: Global, lp: &mut Arena<IR>) -> Result<(), AllocError> {
     let _ = lp.add(frame_of_one(alloc)?)?;
-    let _ = lp.add(no_frame)?;
+    let _ = lp.add(no_frame(alloc))?;
+    Ok(())
+}
+
+fn more_nodes(alloc: Global) -> Result<Arena<IR>, AllocError> {
+    let mut lp = Arena::new(alloc);
+    let _ = lp.add(slice_of_many())?;
+    add_made(alloc, &mut lp)?;
+    add_frames(alloc, &mut lp)?;
+    Ok(lp)
+}
+
+pub fn more_plan(alloc: Global) -> Result<PlanCopy, AllocError> {
     Ok(PlanCopy {
         root: Node(0),
-        lp,
+        lp: more_nodes(alloc)?,
         ex: more_exprs(alloc)?,
     })
 }
