@@ -301,32 +301,50 @@ fn put_out(
     exprs.push(ExprIR::new(node, output_name))
 }
 
-#[test]
-fn a_filter_keeps_the_rows_that_are_true(rt: HostRuntime) -> Result<(), Fail> {
-    let alloc = rt.alloc();
+/// What a node gives over tables, whose expressions stand in `ex` and whose inputs in `lp`.
+fn given_by(
+    alloc: Global,
+    node: IR,
+    lp: &mut Arena<IR>,
+    ex: &Arena<AExpr>,
+    tables: &Tables,
+) -> Result<String, AllocError> {
+    let root = lp.add(node)?;
+    given(alloc, root, lp, ex, tables)
+}
+
+/// What a projection of a over a filter of the scan gives.
+fn filtered(alloc: Global) -> Result<String, AllocError> {
     let mut lp = Arena::new(alloc);
     let mut ex = Arena::new(alloc);
-    let node = scan(alloc, &mut lp)?;
-    let node = filter(alloc, node, &mut lp, &mut ex)?;
-    let root = lp.add(IR::SimpleProjection {
-        input: node,
-        columns: columns(alloc, &["a"])?,
-    })?;
-    let text = given(alloc, root, &lp, &ex, &files(alloc)?)?;
-    assert_eq!(rt; text.as_str(), "2; a 1 3");
+    let input = scan(alloc, &mut lp)?;
+    let input = filter(alloc, input, &mut lp, &mut ex)?;
+    let columns = columns(alloc, &["a"])?;
+    let node = IR::SimpleProjection { input, columns };
+    given_by(alloc, node, &mut lp, &ex, &files(alloc)?)
+}
+
+#[test]
+fn a_filter_keeps_the_rows_that_are_true(rt: HostRuntime) -> Result<(), Fail> {
+    assert_eq!(rt; filtered(rt.alloc())?.as_str(), "2; a 1 3");
     Ok(())
+}
+
+/// What a filter of the scan gives over tables.
+fn filtered_over(alloc: Global, tables: &Tables) -> Result<String, AllocError> {
+    let mut lp = Arena::new(alloc);
+    let mut ex = Arena::new(alloc);
+    let input = scan(alloc, &mut lp)?;
+    let root = filter(alloc, input, &mut lp, &mut ex)?;
+    given(alloc, root, &lp, &ex, tables)
 }
 
 #[test]
 fn null_is_no_true_row(rt: HostRuntime) -> Result<(), Fail> {
     let alloc = rt.alloc();
-    let mut lp = Arena::new(alloc);
-    let mut ex = Arena::new(alloc);
-    let node = scan(alloc, &mut lp)?;
-    let root = filter(alloc, node, &mut lp, &mut ex)?;
     let key = SourceKey::Path(PlSmallStr::new(alloc, "t")?);
     let tables = tables(alloc, key, &["2", "null", "5"], &["d"])?;
-    let text = given(alloc, root, &lp, &ex, &tables)?;
+    let text = filtered_over(alloc, &tables)?;
     assert_eq!(rt; text.as_str(), "2; a 1 3; b 2 5; c x z");
     Ok(())
 }
@@ -342,116 +360,168 @@ fn sliced(alloc: Global, offset: i64, len: u32) -> Result<String, AllocError> {
 
 #[test]
 fn slices_are_cut_to_the_rows(rt: HostRuntime) -> Result<(), Fail> {
-    let alloc = rt.alloc();
-    assert_eq!(rt; sliced(alloc, -2, 5)?.as_str(), "2; a 2 3; b 1 5; c y z");
-    assert_eq!(rt; sliced(alloc, 1, 1)?.as_str(), "1; a 2; b 1; c y");
-    assert_eq!(rt; sliced(alloc, -5, 3)?.as_str(), "1; a 1; b 2; c x");
-    assert_eq!(rt; sliced(alloc, 3, 1)?.as_str(), "0; a; b; c");
-    assert_eq!(rt;
-        sliced(alloc, -9223372036854775808, 4294967295)?.as_str(),
-        "0; a; b; c"
-    );
+    for (offset, len, wanted) in [
+        (-2, 5, "2; a 2 3; b 1 5; c y z"),
+        (1, 1, "1; a 2; b 1; c y"),
+        (-5, 3, "1; a 1; b 2; c x"),
+        (3, 1, "0; a; b; c"),
+        (-9223372036854775808, 4294967295, "0; a; b; c"),
+    ] {
+        assert_eq!(rt; sliced(rt.alloc(), offset, len)?.as_str(), wanted);
+    }
     Ok(())
+}
+
+/// What a selection of the scan gives.
+fn selected(
+    alloc: Global,
+    expr: Items<ExprIR>,
+    names: &[&str],
+    ex: &Arena<AExpr>,
+) -> Result<String, AllocError> {
+    let mut lp = Arena::new(alloc);
+    let input = scan(alloc, &mut lp)?;
+    let schema = columns(alloc, names)?;
+    let options = ProjectionOptions::default();
+    let node = IR::Select {
+        input,
+        expr,
+        schema,
+        options,
+    };
+    given_by(alloc, node, &mut lp, ex, &files(alloc)?)
+}
+
+/// The number 1, put out as x.
+fn one_as_x(alloc: Global, ex: &mut Arena<AExpr>) -> Result<Items<ExprIR>, AllocError> {
+    let one = ex.add(AExpr::Literal(LiteralValue::Int64(1)))?;
+    let mut exprs = Items::new(alloc);
+    put_out(alloc, one, "x", &mut exprs)?;
+    Ok(exprs)
+}
+
+/// What a selection of 1 gives.
+fn only_a_scalar(alloc: Global) -> Result<String, AllocError> {
+    let mut ex = Arena::new(alloc);
+    let exprs = one_as_x(alloc, &mut ex)?;
+    selected(alloc, exprs, &["x"], &ex)
+}
+
+/// What a selection of 1 and a sum of a column gives.
+fn a_scalar_beside(alloc: Global) -> Result<String, AllocError> {
+    let mut ex = Arena::new(alloc);
+    let mut exprs = one_as_x(alloc, &mut ex)?;
+    let sum = compared(alloc, "a", Operator::Plus, 10, &mut ex)?;
+    put_out(alloc, sum, "y", &mut exprs)?;
+    selected(alloc, exprs, &["x", "y"], &ex)
 }
 
 #[test]
 fn scalars_are_spread(rt: HostRuntime) -> Result<(), Fail> {
     let alloc = rt.alloc();
-    let mut lp = Arena::new(alloc);
-    let mut ex = Arena::new(alloc);
-    let input = scan(alloc, &mut lp)?;
-    let one = ex.add(AExpr::Literal(LiteralValue::Int64(1)))?;
-    let mut expr = Items::new(alloc);
-    put_out(alloc, one, "x", &mut expr)?;
-    let options = ProjectionOptions::default();
-    let root = lp.add(IR::Select {
-        input,
-        expr,
-        schema: columns(alloc, &["x"])?,
-        options,
-    })?;
-    let text = given(alloc, root, &lp, &ex, &files(alloc)?)?;
-    assert_eq!(rt; text.as_str(), "1; x 1");
-    let mut expr = Items::new(alloc);
-    put_out(alloc, one, "x", &mut expr)?;
-    let sum = compared(alloc, "a", Operator::Plus, 10, &mut ex)?;
-    put_out(alloc, sum, "y", &mut expr)?;
-    let root = lp.add(IR::Select {
-        input,
-        expr,
-        schema: columns(alloc, &["x", "y"])?,
-        options,
-    })?;
-    let text = given(alloc, root, &lp, &ex, &files(alloc)?)?;
-    assert_eq!(rt; text.as_str(), "3; x 1 1 1; y 11 12 13");
+    assert_eq!(rt; only_a_scalar(alloc)?.as_str(), "1; x 1");
+    assert_eq!(rt; a_scalar_beside(alloc)?.as_str(), "3; x 1 1 1; y 11 12 13");
     Ok(())
+}
+
+/// The double of b, put out as a, and b and 1, put out as d.
+fn two_of_b(alloc: Global, ex: &mut Arena<AExpr>) -> Result<Items<ExprIR>, AllocError> {
+    let product = compared(alloc, "b", Operator::Multiply, 2, ex)?;
+    let sum = compared(alloc, "b", Operator::Plus, 1, ex)?;
+    let mut exprs = Items::new(alloc);
+    put_out(alloc, product, "a", &mut exprs)?;
+    put_out(alloc, sum, "d", &mut exprs)?;
+    Ok(exprs)
+}
+
+/// What an addition to the scan gives.
+fn added(
+    alloc: Global,
+    exprs: Items<ExprIR>,
+    names: &[&str],
+    ex: &Arena<AExpr>,
+) -> Result<String, AllocError> {
+    let mut lp = Arena::new(alloc);
+    let input = scan(alloc, &mut lp)?;
+    let schema = columns(alloc, names)?;
+    let options = ProjectionOptions::default();
+    let node = IR::HStack {
+        input,
+        exprs,
+        schema,
+        options,
+    };
+    given_by(alloc, node, &mut lp, ex, &files(alloc)?)
 }
 
 #[test]
 fn an_addition_takes_the_place_of_its_name(rt: HostRuntime) -> Result<(), Fail> {
     let alloc = rt.alloc();
-    let mut lp = Arena::new(alloc);
     let mut ex = Arena::new(alloc);
-    let input = scan(alloc, &mut lp)?;
-    let product = compared(alloc, "b", Operator::Multiply, 2, &mut ex)?;
-    let mut exprs = Items::new(alloc);
-    put_out(alloc, product, "a", &mut exprs)?;
-    let sum = compared(alloc, "b", Operator::Plus, 1, &mut ex)?;
-    put_out(alloc, sum, "d", &mut exprs)?;
-    let root = lp.add(IR::HStack {
-        input,
-        exprs,
-        schema: columns(alloc, &["a", "b", "c", "d"])?,
-        options: ProjectionOptions::default(),
-    })?;
-    let text = given(alloc, root, &lp, &ex, &files(alloc)?)?;
+    let exprs = two_of_b(alloc, &mut ex)?;
+    let text = added(alloc, exprs, &["a", "b", "c", "d"], &ex)?;
     assert_eq!(rt; text.as_str(), "3; a 4 2 10; b 2 1 5; c x y z; d 3 2 6");
     Ok(())
+}
+
+/// What the frame 7 gives, of whose columns c is put out.
+fn frame_seven(alloc: Global, tables: &Tables) -> Result<String, AllocError> {
+    let schema = columns(alloc, &["a", "c"])?;
+    let output = columns(alloc, &["c"])?;
+    let node = IR::DataFrameScan {
+        df: Some(7),
+        schema,
+        output_schema: Some(output),
+    };
+    given_by(
+        alloc,
+        node,
+        &mut Arena::new(alloc),
+        &Arena::new(alloc),
+        tables,
+    )
+}
+
+/// What a frame without a number gives.
+fn no_frame(alloc: Global) -> Result<String, AllocError> {
+    let node = IR::DataFrameScan {
+        df: None,
+        schema: Schema::new(alloc),
+        output_schema: None,
+    };
+    let mut lp = Arena::new(alloc);
+    given_by(
+        alloc,
+        node,
+        &mut lp,
+        &Arena::new(alloc),
+        &Tables::new(alloc),
+    )
 }
 
 #[test]
 fn frames_are_handed_in_by_number(rt: HostRuntime) -> Result<(), Fail> {
     let alloc = rt.alloc();
-    let mut lp = Arena::new(alloc);
-    let ex = Arena::new(alloc);
     let handed = tables(alloc, SourceKey::Frame(7), &["2", "1", "5"], &[])?;
-    let root = lp.add(IR::DataFrameScan {
-        df: Some(7),
-        schema: columns(alloc, &["a", "c"])?,
-        output_schema: Some(columns(alloc, &["c"])?),
-    })?;
-    assert_eq!(rt;
-        given(alloc, root, &lp, &ex, &handed)?.as_str(),
-        "3; c x y z"
-    );
-    assert_eq!(rt;
-        given(alloc, root, &lp, &ex, &files(alloc)?)?.as_str(),
-        "unfit"
-    );
-    let root = lp.add(IR::DataFrameScan {
-        df: None,
-        schema: Schema::new(alloc),
-        output_schema: None,
-    })?;
-    assert_eq!(rt;
-        given(alloc, root, &lp, &ex, &Tables::new(alloc))?.as_str(),
-        "0"
-    );
+    assert_eq!(rt; frame_seven(alloc, &handed)?.as_str(), "3; c x y z");
+    assert_eq!(rt; frame_seven(alloc, &files(alloc)?)?.as_str(), "unfit");
+    assert_eq!(rt; no_frame(alloc)?.as_str(), "0");
     Ok(())
+}
+
+/// What the scan gives over tables.
+fn scanned(alloc: Global, tables: &Tables) -> Result<String, AllocError> {
+    let mut lp = Arena::new(alloc);
+    let root = scan(alloc, &mut lp)?;
+    given(alloc, root, &lp, &Arena::new(alloc), tables)
 }
 
 #[test]
 fn tables_fit_by_names_and_types(rt: HostRuntime) -> Result<(), Fail> {
     let alloc = rt.alloc();
-    let mut lp = Arena::new(alloc);
-    let root = scan(alloc, &mut lp)?;
-    let ex = Arena::new(alloc);
     let path = PlSmallStr::new(alloc, "t")?;
     let typed = tables(alloc, SourceKey::Path(path), &["x", "y", "z"], &[])?;
-    assert_eq!(rt; given(alloc, root, &lp, &ex, &typed)?.as_str(), "unfit");
-    assert_eq!(rt;
-        given(alloc, root, &lp, &ex, &Tables::new(alloc))?.as_str(),
-        "unfit"
-    );
+    assert_eq!(rt; scanned(alloc, &typed)?.as_str(), "unfit");
+    assert_eq!(rt; scanned(alloc, &Tables::new(alloc))?.as_str(), "unfit");
     Ok(())
 }
