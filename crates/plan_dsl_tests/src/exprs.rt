@@ -115,6 +115,27 @@ fn mappings(rt: HostRuntime) -> Result<(), Fail> {
     Ok(())
 }
 
+// A column a becomes what is held, once; all else stays.
+fn exchanged(e: Expr, held: &mut Option<Expr>) -> Expr {
+    let is_a = matches!(&e, Expr::Column(name) if name.as_str() == "a");
+    if !is_a {
+        return e;
+    }
+    match held.take() {
+        Some(other) => other,
+        None => e,
+    }
+}
+
+#[test]
+fn a_column_is_exchanged(rt: HostRuntime) -> Result<(), Fail> {
+    let alloc = rt.alloc();
+    let mut held = Some(Expr::Column(PlSmallStr::new(alloc, "z")?));
+    let mapped = sum(alloc, "a", "b")?.map_expr(alloc, |e: Expr| exchanged(e, &mut held))?;
+    assert!(rt; mapped == sum(alloc, "z", "b")?);
+    Ok(())
+}
+
 #[test]
 fn copies_and_options(rt: HostRuntime) -> Result<(), Fail> {
     let alloc = rt.alloc();
