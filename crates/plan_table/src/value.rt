@@ -5,7 +5,7 @@ use plan_core::{Items, PlSmallStr, TryClone};
 use std::alloc::{AllocError, Global};
 
 /// A single value, which is no list.
-#[derive(Drop, PartialEq, Eq, Debug)]
+#[derive(Drop, PartialEq, Eq, Hash, Debug)]
 pub enum PlainValue {
     /// No value.
     Null,
@@ -31,7 +31,7 @@ impl TryClone for PlainValue {
 }
 
 /// A value in a row of a column.
-#[derive(Drop, PartialEq, Eq, Debug)]
+#[derive(Drop, PartialEq, Eq, Hash, Debug)]
 pub enum AnyValue {
     /// No value.
     Null,
