@@ -1,6 +1,8 @@
 -- What stands at the number of an expression, and at those of its operands.
-use Rattle.std.proofs.Common.{◌≡◌, ℕ, ◌<◌, List, [], ◌∷◌, refl, sym, ap, ap₂, ◌∙◌, Some}
+use Rattle.std.proofs.Common.{◌≡◌, ℕ, ◌<◌, List, [], ◌∷◌, All, refl, sym, ap, ap₂, ◌∙◌, Some}
 use Rattle.std.specs.List.{slice_get}
+use Rattle.std.proofs.lemmas.List.Elements.{All-from_get_or}
+use Rattle.std.proofs.lemmas.Option.{slice_get-get_or}
 use Rattle.plan_core.specs.declared.arena.Node.{Node}
 use Rattle.plan_tree.specs.Rose.{Roses, rose, no_roses, more}
 use Rattle.plan_tree.specs.Stands.{Trees, StandsOnce}
@@ -42,3 +44,7 @@ expr_open ex n p h e =
 -- an operand stands below
 pub expr_down : (ex : List AExpr) (n i : Node) (p : AExpr) (j : ℕ) → IsExpr ex n → slice_get ex n.0 ≡ Some p → slice_get (operands_of p) j ≡ Some i → (height_at expr_shape ex i < height_at expr_shape ex n) × IsExpr ex i
 expr_down ex n i p j h e k = (height-falls expr_shape ex n i p h.0 j h.1 e k, StandsOnce-input expr_shape ex n i p j h e k)
+
+-- and so do all
+pub exprs_down : (ex : List AExpr) (n : Node) (p : AExpr) → IsExpr ex n → slice_get ex n.0 ≡ Some p → All (IsExpr ex) (operands_of p)
+exprs_down ex n p h e = All-from_get_or (IsExpr ex) (operands_of p) n (λ j lt. (expr_down ex n _ p j h e (slice_get-get_or (operands_of p) j n lt)).1)

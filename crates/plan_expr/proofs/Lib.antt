@@ -5,5 +5,6 @@ pub mod ListLemmas
 pub mod LeafLemmas
 pub mod NameLemmas
 pub mod ScalarLemmas
+pub mod FormLemmas
 mod WalkLemmas
 mod ReachLemmas

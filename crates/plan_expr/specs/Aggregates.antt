@@ -1,19 +1,9 @@
 -- Aggregates: the expression that they take, and what they are beside it.
-use Rattle.std.specs.Prelude.{Bool}
 use Rattle.plan_core.specs.declared.arena.Node.{Node}
+use Rattle.plan_expr.specs.declared.agg.Aggregate.{Aggregate}
+use Rattle.plan_expr.specs.declared.agg.Aggregate.TheVariants as kinds
 use Rattle.plan_expr.specs.declared.agg.IRAggExpr.{IRAggExpr}
 use Rattle.plan_expr.specs.declared.agg.IRAggExpr.TheVariants.{Min, Max, Sum, Count, NUnique, First, Last, Implode}
-
--- what an aggregate is beside its expression
-pub data AggOp : Type 0 where
-  min_of : AggOp
-  max_of : AggOp
-  sum_of : AggOp
-  count_of : (include_nulls : Bool) → AggOp
-  n_unique_of : AggOp
-  first_of : AggOp
-  last_of : AggOp
-  implode_of : AggOp
 
 -- the number of the expression whose values it takes
 abbrev pub agg_input : IRAggExpr → Node
@@ -38,12 +28,12 @@ agg_over (Last input) other = Last other
 agg_over (Implode input) other = Implode other
 
 -- what an aggregate is, without its expression
-abbrev pub agg_op : IRAggExpr → AggOp
-agg_op (Min input) = min_of
-agg_op (Max input) = max_of
-agg_op (Sum input) = sum_of
-agg_op (Count input include_nulls) = count_of include_nulls
-agg_op (NUnique input) = n_unique_of
-agg_op (First input) = first_of
-agg_op (Last input) = last_of
-agg_op (Implode input) = implode_of
+abbrev pub agg_op : IRAggExpr → Aggregate
+agg_op (Min input) = kinds.Min
+agg_op (Max input) = kinds.Max
+agg_op (Sum input) = kinds.Sum
+agg_op (Count input include_nulls) = kinds.Count include_nulls
+agg_op (NUnique input) = kinds.NUnique
+agg_op (First input) = kinds.First
+agg_op (Last input) = kinds.Last
+agg_op (Implode input) = kinds.Implode

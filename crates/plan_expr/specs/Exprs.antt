@@ -6,13 +6,14 @@ use Rattle.plan_tree.specs.Read.{tree_at}
 use Rattle.plan_tree.specs.Rose.{Rose, Roses, rose, no_roses, more, map_roses}
 use Rattle.plan_expr.specs.declared.aexpr.AExpr.{AExpr}
 use Rattle.plan_expr.specs.declared.aexpr.AExpr.TheVariants as exprs
+use Rattle.plan_expr.specs.declared.agg.Aggregate.{Aggregate}
 use Rattle.plan_expr.specs.declared.expr_ir.ExprIR.{ExprIR}
 use Rattle.plan_expr.specs.declared.expr_ir.OutputName.{OutputName}
 use Rattle.plan_expr.specs.declared.function_expr.FunctionExpr.{FunctionExpr}
 use Rattle.plan_expr.specs.declared.literal.LiteralValue.{LiteralValue}
 use Rattle.plan_expr.specs.declared.operator.Operator.{Operator}
 use Rattle.plan_options.specs.declared.function.FunctionOptions.{FunctionOptions}
-use Rattle.plan_expr.specs.Aggregates.{AggOp, agg_op}
+use Rattle.plan_expr.specs.Aggregates.{agg_op}
 use Rattle.plan_expr.specs.Operands.{expr_shape}
 
 -- what an expression is beside its operands
@@ -22,7 +23,7 @@ pub data ExprOp : Type 0 where
   alias : (name : List ℕ) → ExprOp
   binary : (op : Operator) → ExprOp
   ternary : ExprOp
-  aggregate : (op : AggOp) → ExprOp
+  aggregate : (op : Aggregate) → ExprOp
   call : (function : FunctionExpr) (options : FunctionOptions) → ExprOp
   window : ExprOp
   len : ExprOp

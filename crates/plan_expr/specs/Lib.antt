@@ -6,6 +6,7 @@ pub mod Exprs
 pub mod Leaves
 pub mod Naming
 pub mod Scalars
+pub mod Forms
 pub mod Walks
 pub mod Refusals
 pub mod Types

@@ -5,6 +5,7 @@ mod aexpr;
 mod agg;
 mod expr_ir;
 mod find;
+mod form;
 mod function_expr;
 mod iterator;
 mod leaves;
@@ -18,9 +19,10 @@ mod tests;
 mod types;
 
 pub use aexpr::AExpr;
-pub use agg::IRAggExpr;
+pub use agg::{Aggregate, IRAggExpr};
 pub use expr_ir::{ExprIR, OutputName};
 pub use find::{has_aexpr, has_aexpr_literal, has_aexpr_window};
+pub use form::has_form;
 pub use function_expr::FunctionExpr;
 pub use iterator::{AExprIter, ArenaExprIter};
 pub use leaves::{
@@ -31,4 +33,6 @@ pub use literal::LiteralValue;
 pub use names::{Naming, aexpr_output_name, decided_name, may_be_named, output_name};
 pub use operator::Operator;
 pub use scalar::{is_elementwise, is_scalar};
-pub use types::{literal_type, operator_type};
+pub use types::{
+    aggregate_type, binary_type, choice_type, list_of, literal_type, operator_type, unary_type,
+};
