@@ -9,8 +9,8 @@ use Rattle.plan_dsl.specs.declared.expr.AggExpr.{AggExpr}
 use Rattle.plan_dsl.specs.declared.expr.AggExpr.TheVariants as aggs
 use Rattle.plan_dsl.specs.Parts.{aggregate_of, aggregated}
 use Rattle.plan_expr.specs.declared.function_expr.FunctionExpr.{FunctionExpr}
-use Rattle.plan_dsl.specs.Types.{aggregate_type, function_type}
-use Rattle.plan_dsl.specs.Typing.{agg_type, all_of, are_scalar, expr_type, is_scalar, row_typed, row_types}
+use Rattle.plan_expr.specs.Types.{aggregate_type, all_of, function_type}
+use Rattle.plan_dsl.specs.Typing.{agg_type, are_scalar, expr_type, is_scalar, row_typed, row_types}
 
 -- the types of the expressions of a row
 pub row_types-is : (s : Columns) {m : _} (row : Row_of-Expr m) → row_types s row ≡ map (expr_type s) (items-the_row-Expr m row)

@@ -8,6 +8,5 @@ pub mod Naming
 pub mod Owned
 pub mod Parts
 pub mod Schemas
-pub mod Types
 pub mod Typing
 pub mod Walks

@@ -4,10 +4,12 @@ use Rattle.plan_dsl.specs.declared.expr.Expr.{Expr, items-the_row-Expr}
 use Rattle.plan_dsl.specs.declared.expr.Expr.TheVariants as exprs
 use Rattle.plan_dsl.specs.declared.expr.AggExpr.{AggExpr}
 use Rattle.plan_dsl.specs.declared.expr.AggExpr.TheVariants as aggs
+use Rattle.plan_dsl.specs.declared.arity.Arity.{Arity}
+use Rattle.plan_dsl.specs.declared.arity.Arity.TheVariants.{Zero, One, Two, Three, All, Before}
 use Rattle.plan_dsl.specs.declared.parts.Head.{Head}
 use Rattle.plan_dsl.specs.declared.parts.Head.TheVariants as heads
-use Rattle.plan_dsl.specs.declared.parts.Aggregate.{Aggregate}
-use Rattle.plan_dsl.specs.declared.parts.Aggregate.TheVariants as kinds
+use Rattle.plan_expr.specs.declared.agg.Aggregate.{Aggregate}
+use Rattle.plan_expr.specs.declared.agg.Aggregate.TheVariants as kinds
 
 -- the expression that is aggregated
 abbrev pub aggregated : AggExpr → Expr
@@ -85,22 +87,35 @@ head_of (exprs.RenameAlias' p e) = heads.RenameAlias
 head_of exprs.Len = heads.Len
 head_of (exprs.Nth place) = heads.Nth place
 
+-- of how many expressions an expression is made that is this
+abbrev pub arity_of : Head → Arity
+arity_of (heads.Column name) = Zero
+arity_of (heads.Columns names) = Zero
+arity_of (heads.DtypeColumn types) = Zero
+arity_of (heads.IndexColumn places) = Zero
+arity_of (heads.Literal value) = Zero
+arity_of heads.Wildcard = Zero
+arity_of heads.Len = Zero
+arity_of (heads.Nth place) = Zero
+arity_of (heads.BinaryExpr op) = Two
+arity_of (heads.Gather returns_scalar) = Two
+arity_of heads.Filter = Two
+arity_of heads.Ternary = Three
+arity_of heads.Slice = Three
+arity_of (heads.Function function options) = All
+arity_of heads.Window = Before
+arity_of heads.SortBy = Before
+arity_of _ = One
+
+-- an expression of this arity is made of so many
+abbrev pub Counts : Arity → ℕ → Type 0
+Counts Zero n = n ≡ 0
+Counts One n = n ≡ 1
+Counts Two n = n ≡ 2
+Counts Three n = n ≡ 3
+Counts All n = Unit {0}
+Counts Before n = 0 < n
+
 -- an expression that is this is made of so many
 abbrev pub Takes : Head → ℕ → Type 0
-Takes (heads.Column name) n = n ≡ 0
-Takes (heads.Columns names) n = n ≡ 0
-Takes (heads.DtypeColumn types) n = n ≡ 0
-Takes (heads.IndexColumn places) n = n ≡ 0
-Takes (heads.Literal value) n = n ≡ 0
-Takes heads.Wildcard n = n ≡ 0
-Takes heads.Len n = n ≡ 0
-Takes (heads.Nth place) n = n ≡ 0
-Takes (heads.BinaryExpr op) n = n ≡ 2
-Takes (heads.Gather returns_scalar) n = n ≡ 2
-Takes heads.Filter n = n ≡ 2
-Takes heads.Ternary n = n ≡ 3
-Takes heads.Slice n = n ≡ 3
-Takes (heads.Function function options) n = Unit {0}
-Takes heads.Window n = 0 < n
-Takes heads.SortBy n = 0 < n
-Takes _ n = n ≡ 1
+Takes head n = Counts (arity_of head) n

@@ -12,7 +12,7 @@ use Rattle.plan_dsl.specs.declared.expr.Expr.{Expr}
 use Rattle.plan_dsl.specs.declared.schema.Context.{Context}
 use Rattle.plan_dsl.specs.declared.schema.Context.TheVariants.{Aggregation, Default}
 use Rattle.plan_dsl.specs.Names.{output_name}
-use Rattle.plan_dsl.specs.Types.{list_of}
+use Rattle.plan_expr.specs.Types.{list_of}
 use Rattle.plan_dsl.specs.Typing.{expr_type, has_form, is_scalar, reads_only}
 
 -- the type of a column in a context: in an aggregation what isn't scalar is the list of its values

@@ -4,14 +4,13 @@ use Rattle.std.specs.List.{list_all}
 use Rattle.plan_core.specs.Columns.{Columns, type_of}
 use Rattle.plan_core.specs.declared.data_type.DataType.{DataType}
 use Rattle.plan_core.specs.declared.data_type.DataType.TheVariants as types
-use Rattle.plan_expr.specs.Types.{literal_type, operator_type}
+use Rattle.plan_expr.specs.Types.{aggregate_type, all_of, choice_type, function_type, literal_type, operator_type}
 use Rattle.plan_dsl.specs.declared.expr.Expr.{Expr, Row_of-Expr, end_of-Expr, more_of-Expr, items-the_row-Expr}
 use Rattle.plan_dsl.specs.declared.expr.Expr.TheVariants as exprs
 use Rattle.plan_dsl.specs.declared.expr.AggExpr.{AggExpr}
 use Rattle.plan_dsl.specs.declared.expr.AggExpr.TheVariants as aggs
-use Rattle.plan_dsl.specs.declared.parts.Aggregate.TheVariants as kinds
+use Rattle.plan_expr.specs.declared.agg.Aggregate.TheVariants as kinds
 use Rattle.plan_expr.specs.Functions.{carries_own, inputs_of}
-use Rattle.plan_dsl.specs.Types.{aggregate_type, choice_type, function_type}
 use Rattle.plan_dsl.specs.Walks.{preorder}
 
 -- whether an expression has one value, whatever the frame; kinds that plans don't have are left out
@@ -64,11 +63,6 @@ of_two f p q = option_and_then (λ x. option_and_then (f x) q) p
 -- what comes of three values, if they are there
 abbrev pub of_three : {X Y : Type 0} → (X → X → X → Option Y) → Option X → Option X → Option X → Option Y
 of_three f p q r = option_and_then (λ x. of_two (f x) q r) p
-
--- the values, if all are there
-abbrev pub all_of : {X : Type 0} → List (Option X) → Option (List X)
-all_of [] = Some []
-all_of (p ∷ ps) = option_and_then (λ x. option_and_then (λ xs. Some (x ∷ xs)) (all_of ps)) p
 
 -- the type of an expression over some columns, if it has one: each kind has its own from the types of those that it is made of,
 -- and a kind that plans don't have has none

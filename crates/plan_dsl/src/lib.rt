@@ -1,6 +1,8 @@
 //! Expressions as trees, and the calls that walk, name and rewrite them.
 #![tactic(auto)]
 
+mod apart;
+mod arity;
 mod children;
 mod copy;
 mod expr;
@@ -14,7 +16,6 @@ mod output_name;
 mod over;
 mod parts;
 mod schema;
-mod types;
 mod typing;
 mod walk;
 

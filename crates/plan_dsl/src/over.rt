@@ -1,27 +1,27 @@
 //! Expressions put together of what they are and those that they are made of.
 ghost use Rattle.std.specs.Prelude.{◌≡◌, ◌<◌, ◌∷◌, [], length, IfOk};
-ghost use Rattle.plan_dsl.specs.Parts.{aggregated, aggregate_of, children, head_of, Takes};
+ghost use Rattle.plan_dsl.specs.Parts.{aggregated, aggregate_of, arity_of, children, head_of, Takes};
 
+use crate::arity::Arity;
 use crate::expr::{AggExpr, Expr};
-use crate::parts::{Aggregate, Head};
+use crate::parts::Head;
+use plan_expr::Aggregate;
 use std::alloc::{AllocError, Global};
 
-impl Aggregate {
-    /// The aggregate of an expression.
-    fn over(self, input: Box<Expr>) -> AggExpr
-        ensures aggregate { aggregate_of result ≡ self }
-        ensures input { aggregated result ≡ input.value }
-    {
-        match self {
-            Aggregate::Min => AggExpr::Min(input),
-            Aggregate::Max => AggExpr::Max(input),
-            Aggregate::Sum => AggExpr::Sum(input),
-            Aggregate::Count(nulls) => AggExpr::Count(input, nulls),
-            Aggregate::NUnique => AggExpr::NUnique(input),
-            Aggregate::First => AggExpr::First(input),
-            Aggregate::Last => AggExpr::Last(input),
-            Aggregate::Implode => AggExpr::Implode(input),
-        }
+/// The aggregate of an expression.
+fn aggregate_over(aggregate: Aggregate, input: Box<Expr>) -> AggExpr
+    ensures aggregate { aggregate_of result ≡ aggregate }
+    ensures input { aggregated result ≡ input.value }
+{
+    match aggregate {
+        Aggregate::Min => AggExpr::Min(input),
+        Aggregate::Max => AggExpr::Max(input),
+        Aggregate::Sum => AggExpr::Sum(input),
+        Aggregate::Count(nulls) => AggExpr::Count(input, nulls),
+        Aggregate::NUnique => AggExpr::NUnique(input),
+        Aggregate::First => AggExpr::First(input),
+        Aggregate::Last => AggExpr::Last(input),
+        Aggregate::Implode => AggExpr::Implode(input),
     }
 }
 
@@ -32,85 +32,148 @@ impl Head {
         ensures head { IfOk result (λ e. head_of e ≡ self) }
         ensures parts { IfOk result (λ e. children e ≡ parts.items) }
     {
+        match self.arity() {
+            Arity::Zero => Ok(self.over_none()),
+            Arity::One => Ok(self.over_one(only(alloc, parts)?)),
+            Arity::Two => {
+                let (first, second) = both(alloc, parts)?;
+                Ok(self.over_two(first, second))
+            }
+            Arity::Three => {
+                let (first, second, third) = all_three(alloc, parts)?;
+                Ok(self.over_three(first, second, third))
+            }
+            Arity::All => Ok(self.over_all(parts)),
+            Arity::Before => {
+                let (first, rest) = first_and_rest(alloc, parts)?;
+                Ok(self.over_before(first, rest))
+            }
+        }
+    }
+
+    /// The expression that is this, made of none.
+    fn over_none(self) -> Expr
+        requires { arity_of self ≡ Arity.Zero }
+        ensures head { head_of result ≡ self }
+        ensures parts { children result ≡ [] }
+    {
         match self {
-            Head::Column(name) => Ok(Expr::Column(name)),
-            Head::Columns(names) => Ok(Expr::Columns(names)),
-            Head::DtypeColumn(types) => Ok(Expr::DtypeColumn(types)),
-            Head::IndexColumn(places) => Ok(Expr::IndexColumn(places)),
-            Head::Literal(value) => Ok(Expr::Literal(value)),
-            Head::Wildcard => Ok(Expr::Wildcard),
-            Head::Len => Ok(Expr::Len),
-            Head::Nth(place) => Ok(Expr::Nth(place)),
-            Head::Alias(name) => Ok(Expr::Alias(only(alloc, parts)?, name)),
-            Head::Cast(dtype) => {
-                let expr = only(alloc, parts)?;
-                Ok(Expr::Cast { expr, dtype })
-            }
-            Head::Sort(descending, nulls_last) => {
-                let expr = only(alloc, parts)?;
-                Ok(Expr::Sort {
-                    expr,
-                    descending,
-                    nulls_last,
-                })
-            }
-            Head::Agg(aggregate) => Ok(Expr::Agg(aggregate.over(only(alloc, parts)?))),
-            Head::Explode => Ok(Expr::Explode(only(alloc, parts)?)),
-            Head::Exclude(names) => Ok(Expr::Exclude(only(alloc, parts)?, names)),
-            Head::KeepName => Ok(Expr::KeepName(only(alloc, parts)?)),
-            Head::RenameAlias => {
-                let expr = only(alloc, parts)?;
-                Ok(Expr::RenameAlias { expr })
-            }
-            Head::BinaryExpr(op) => {
-                let (left, right) = both(alloc, parts)?;
-                Ok(Expr::BinaryExpr { left, op, right })
-            }
-            Head::Gather(returns_scalar) => {
-                let (expr, idx) = both(alloc, parts)?;
-                Ok(Expr::Gather {
-                    expr,
-                    idx,
-                    returns_scalar,
-                })
-            }
-            Head::Filter => {
-                let (input, by) = both(alloc, parts)?;
-                Ok(Expr::Filter { input, by })
-            }
-            Head::Ternary => {
-                let (truthy, falsy, predicate) = all_three(alloc, parts)?;
-                Ok(Expr::Ternary {
-                    predicate,
-                    truthy,
-                    falsy,
-                })
-            }
-            Head::Slice => {
-                let (input, offset, length) = all_three(alloc, parts)?;
-                Ok(Expr::Slice {
-                    input,
-                    offset,
-                    length,
-                })
-            }
-            Head::Function(function, options) => Ok(Expr::Function {
-                input: parts,
+            Head::Column(name) => Expr::Column(name),
+            Head::Columns(names) => Expr::Columns(names),
+            Head::DtypeColumn(types) => Expr::DtypeColumn(types),
+            Head::IndexColumn(places) => Expr::IndexColumn(places),
+            Head::Literal(value) => Expr::Literal(value),
+            Head::Wildcard => Expr::Wildcard,
+            Head::Len => Expr::Len,
+            Head::Nth(place) => Expr::Nth(place),
+            _ => unreachable!(),
+        }
+    }
+
+    /// The expression that is this, made of one.
+    fn over_one(self, expr: Box<Expr>) -> Expr
+        requires { arity_of self ≡ Arity.One }
+        ensures head { head_of result ≡ self }
+        ensures parts { children result ≡ expr.value ∷ [] }
+    {
+        match self {
+            Head::Alias(name) => Expr::Alias(expr, name),
+            Head::Cast(dtype) => Expr::Cast { expr, dtype },
+            Head::Sort(descending, nulls_last) => Expr::Sort {
+                expr,
+                descending,
+                nulls_last,
+            },
+            Head::Agg(aggregate) => Expr::Agg(aggregate_over(aggregate, expr)),
+            Head::Explode => Expr::Explode(expr),
+            Head::Exclude(names) => Expr::Exclude(expr, names),
+            Head::KeepName => Expr::KeepName(expr),
+            Head::RenameAlias => Expr::RenameAlias { expr },
+            _ => unreachable!(),
+        }
+    }
+
+    /// The expression that is this, made of two.
+    fn over_two(self, first: Box<Expr>, second: Box<Expr>) -> Expr
+        requires { arity_of self ≡ Arity.Two }
+        ensures head { head_of result ≡ self }
+        ensures parts { children result ≡ first.value ∷ second.value ∷ [] }
+    {
+        match self {
+            Head::BinaryExpr(op) => Expr::BinaryExpr {
+                left: first,
+                op,
+                right: second,
+            },
+            Head::Gather(returns_scalar) => Expr::Gather {
+                expr: first,
+                idx: second,
+                returns_scalar,
+            },
+            Head::Filter => Expr::Filter {
+                input: first,
+                by: second,
+            },
+            _ => unreachable!(),
+        }
+    }
+
+    /// The expression that is this, made of three.
+    fn over_three(self, first: Box<Expr>, second: Box<Expr>, third: Box<Expr>) -> Expr
+        requires { arity_of self ≡ Arity.Three }
+        ensures head { head_of result ≡ self }
+        ensures parts { children result ≡ first.value ∷ second.value ∷ third.value ∷ [] }
+    {
+        match self {
+            Head::Ternary => Expr::Ternary {
+                predicate: third,
+                truthy: first,
+                falsy: second,
+            },
+            Head::Slice => Expr::Slice {
+                input: first,
+                offset: second,
+                length: third,
+            },
+            _ => unreachable!(),
+        }
+    }
+
+    /// The expression that is this, made of those of a list.
+    fn over_all(self, input: Vec<Expr>) -> Expr
+        requires { arity_of self ≡ Arity.All }
+        ensures head { head_of result ≡ self }
+        ensures parts { children result ≡ input.items }
+    {
+        match self {
+            Head::Function(function, options) => Expr::Function {
+                input,
                 function,
                 options,
-            }),
-            Head::Window => {
-                let (function, partition_by) = first_and_rest(alloc, parts)?;
-                Ok(Expr::Window {
-                    function,
-                    partition_by,
-                })
-            }
+            },
+            _ => unreachable!(),
+        }
+    }
+
+    /// The expression that is this, made of one, and then of those of a list.
+    fn over_before(self, first: Box<Expr>, mut rest: Vec<Expr>) -> Expr
+        requires { arity_of self ≡ Arity.Before }
+        ensures head { head_of result ≡ self }
+        ensures parts { children result ≡ first.value ∷ rest.items }
+    {
+        match self {
+            Head::Window => Expr::Window {
+                function: first,
+                partition_by: rest,
+            },
             Head::SortBy => {
-                let (expr, mut by) = first_and_rest(alloc, parts)?;
-                by.reverse();
-                Ok(Expr::SortBy { expr, by })
+                rest.reverse();
+                Expr::SortBy {
+                    expr: first,
+                    by: rest,
+                }
             }
+            _ => unreachable!(),
         }
     }
 }

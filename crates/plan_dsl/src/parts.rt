@@ -1,12 +1,12 @@
 //! What an expression is beside the expressions that it is made of, and those by value.
 ghost use Rattle.std.specs.Prelude.{◌≡◌, ◌∷◌, [], ◌++◌, length, reverse, OnOk, OnErr, IfOk, MatchOption};
-ghost use Rattle.plan_dsl.specs.Parts.{aggregated, aggregate_of, children, head_of};
+ghost use Rattle.plan_dsl.specs.Parts.{aggregate_of, head_of};
 ghost use Rattle.plan_dsl.specs.Owned.{owned};
 ghost use Rattle.plan_dsl.specs.Appends.{AppendsFront};
 
 use crate::expr::{AggExpr, Expr};
 use plan_core::{DataType, Items, PlSmallStr, TryClone, UnitVec};
-use plan_expr::{FunctionExpr, LiteralValue, Operator};
+use plan_expr::{Aggregate, FunctionExpr, LiteralValue, Operator};
 use plan_options::FunctionOptions;
 use std::alloc::{AllocError, Global};
 use std::mem;
@@ -38,19 +38,6 @@ pub(crate) enum Head {
     RenameAlias,
     Len,
     Nth(i64),
-}
-
-/// An aggregate without its expression.
-#[derive(Clone, Copy)]
-pub(crate) enum Aggregate {
-    Min,
-    Max,
-    Sum,
-    Count(bool),
-    NUnique,
-    First,
-    Last,
-    Implode,
 }
 
 /// Expressions by value, in walk order. Those that stand alone keep their boxes, so that one that is
@@ -131,107 +118,9 @@ impl AggExpr {
             AggExpr::Implode(_) => Aggregate::Implode,
         }
     }
-
-    /// The aggregate, and the expression that is aggregated.
-    pub(crate) fn into_parts(self) -> (Aggregate, Box<Expr>)
-        ensures aggregate { result.0 ≡ aggregate_of self }
-        ensures input { result.1.value ≡ aggregated self }
-    {
-        match self {
-            AggExpr::Min(input) => (Aggregate::Min, input),
-            AggExpr::Max(input) => (Aggregate::Max, input),
-            AggExpr::Sum(input) => (Aggregate::Sum, input),
-            AggExpr::Count(input, nulls) => (Aggregate::Count(nulls), input),
-            AggExpr::NUnique(input) => (Aggregate::NUnique, input),
-            AggExpr::First(input) => (Aggregate::First, input),
-            AggExpr::Last(input) => (Aggregate::Last, input),
-            AggExpr::Implode(input) => (Aggregate::Implode, input),
-        }
-    }
 }
 
 impl Expr {
-    /// What the expression is, and the expressions that it is made of.
-    pub(crate) fn into_parts(self) -> (Head, Owned)
-        ensures head { result.0 ≡ head_of self }
-        ensures children { owned result.1 ≡ children self }
-    {
-        match self {
-            Expr::Alias(expr, name) => (Head::Alias(name), Owned::One(expr)),
-            Expr::Column(name) => (Head::Column(name), Owned::Zero),
-            Expr::Columns(names) => (Head::Columns(names), Owned::Zero),
-            Expr::DtypeColumn(types) => (Head::DtypeColumn(types), Owned::Zero),
-            Expr::IndexColumn(places) => (Head::IndexColumn(places), Owned::Zero),
-            Expr::Literal(value) => (Head::Literal(value), Owned::Zero),
-            Expr::BinaryExpr { left, op, right } => {
-                let sides = Owned::Two(left, right);
-                (Head::BinaryExpr(op), sides)
-            }
-            Expr::Cast { expr, dtype } => (Head::Cast(dtype), Owned::One(expr)),
-            Expr::Sort {
-                expr,
-                descending,
-                nulls_last,
-            } => (Head::Sort(descending, nulls_last), Owned::One(expr)),
-            Expr::Gather {
-                expr,
-                idx,
-                returns_scalar,
-            } => {
-                let parts = Owned::Two(expr, idx);
-                (Head::Gather(returns_scalar), parts)
-            }
-            Expr::SortBy { expr, mut by } => {
-                by.reverse();
-                (Head::SortBy, Owned::Before(expr, by))
-            }
-            Expr::Agg(agg) => {
-                let (aggregate, input) = agg.into_parts();
-                (Head::Agg(aggregate), Owned::One(input))
-            }
-            Expr::Ternary {
-                predicate,
-                truthy,
-                falsy,
-            } => { (Head::Ternary, Owned::Three(truthy, falsy, predicate)) }
-            Expr::Function {
-                input,
-                function,
-                options,
-            } => (Head::Function(function, options), Owned::All(input)),
-            Expr::Explode(expr) => (Head::Explode, Owned::One(expr)),
-            Expr::Filter { input, by } => {
-                let parts = Owned::Two(input, by);
-                (Head::Filter, parts)
-            }
-            Expr::Window {
-                function,
-                partition_by,
-            } => {
-                let parts = Owned::Before(function, partition_by);
-                (Head::Window, parts)
-            }
-            Expr::Wildcard => (Head::Wildcard, Owned::Zero),
-            Expr::Slice {
-                input,
-                offset,
-                length,
-            } => { (Head::Slice, Owned::Three(input, offset, length)) }
-            Expr::Exclude(expr, names) => { (Head::Exclude(names), Owned::One(expr)) }
-            Expr::KeepName(expr) => (Head::KeepName, Owned::One(expr)),
-            Expr::RenameAlias { expr } => (Head::RenameAlias, Owned::One(expr)),
-            Expr::Len => (Head::Len, Owned::Zero),
-            Expr::Nth(place) => (Head::Nth(place), Owned::Zero),
-        }
-    }
-
-    /// The expressions that the expression is made of.
-    pub(crate) fn into_children(self) -> Owned
-        ensures { owned result ≡ children self }
-    {
-        self.into_parts().1
-    }
-
     /// What the expression is beside those that it is made of.
     pub(crate) fn head(&self, alloc: Global) -> Result<Head, AllocError>
         ensures { IfOk result (λ head. head ≡ head_of self.now) }

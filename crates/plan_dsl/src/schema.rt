@@ -9,9 +9,9 @@ ghost use Rattle.plan_dsl.specs.Schemas.{column_type as type_of_column, expr_fau
 ghost use Rattle.plan_dsl.specs.Typing.{has_form};
 
 use crate::expr::Expr;
-use crate::types::list_of;
 use crate::typing::expr_type;
 use plan_core::{DataType, PlSmallStr, PolarsError, PolarsResult, Schema};
+use plan_expr::list_of;
 use plan_options::item;
 use std::alloc::{AllocError, Global};
 

@@ -1,13 +1,14 @@
 //! Expressions over some columns: their types.
 ghost use Rattle.std.specs.Prelude.{◌≡◌, map, is_some, option_and_then};
 ghost use Rattle.std.specs.List.{list_all};
-ghost use Rattle.plan_dsl.specs.Types.{function_type as type_of_function};
-ghost use Rattle.plan_dsl.specs.Typing.{all_of, expr_type as type_of_expr};
+ghost use Rattle.plan_expr.specs.Types.{all_of, function_type as type_of_function};
+ghost use Rattle.plan_dsl.specs.Typing.{expr_type as type_of_expr};
 
 use crate::expr::Expr;
-use crate::types::{aggregate_type, binary_type, choice_type, unary_type};
 use plan_core::{DataType, Schema};
-use plan_expr::{FunctionExpr, literal_type, operator_type};
+use plan_expr::{
+    FunctionExpr, aggregate_type, binary_type, choice_type, literal_type, operator_type, unary_type,
+};
 
 /// The type of the expression over the columns of a schema, if it has one. Kinds that plans don't have
 /// have none.

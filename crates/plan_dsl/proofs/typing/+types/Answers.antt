@@ -1,7 +1,7 @@
 use Rattle.std.proofs.Common.{◌≡◌, ◌∙◌, ap, sym, rules, Bool, true, false, if◌then◌else◌, is_some, None, Some}
 use Rattle.std.specs.List.{list_all}
 use Rattle.plan_dsl.specs.declared.expr.AggExpr.TheViews.{the_lemmas}
-use Rattle.plan_dsl.specs.Types.{aggregate_type}
+use Rattle.plan_expr.specs.Types.{aggregate_type}
 use Rattle.plan_dsl.specs.Typing.{expr_type}
 use Rattle.plan_dsl.proofs.TypeLemmas.{agg_typed, function_many, row_typed-is, row_types-is}
 use Rattle.plan_dsl.proofs.typing.+types.Goals as goal
