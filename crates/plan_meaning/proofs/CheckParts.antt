@@ -4,17 +4,18 @@ use Rattle.std.specs.List.{AllByRecursion}
 use Rattle.std.proofs.lemmas.Bool.{and_parts}
 use Rattle.plan_core.specs.declared.error.At.{At}
 use Rattle.plan_core.specs.declared.error.PolarsError.{PolarsError}
-use Rattle.plan_core.specs.declared.error.PolarsError.TheVariants.{SchemaFieldNotFound, SchemaMismatch}
+use Rattle.plan_core.specs.declared.error.PolarsError.TheVariants.{InvalidOperation, SchemaFieldNotFound, SchemaMismatch}
 use Rattle.plan_core.specs.declared.options.FileScanOptions.{FileScanOptions}
 use Rattle.plan_core.specs.Columns.{Columns, type_of, same_columns}
 use Rattle.plan_core.specs.Names.{has}
 use Rattle.plan_ir.specs.declared.scan.FileInfo.{FileInfo}
 use Rattle.plan_expr.specs.Exprs.{Named}
+use Rattle.plan_expr.specs.Forms.{has_form}
 use Rattle.plan_core.specs.declared.data_type.DataType.{DataType}
 use Rattle.plan_expr.specs.Leaves.{Name, leaves}
 use Rattle.plan_expr.specs.Naming.{naming, may_be_named}
 use Rattle.plan_meaning.specs.Exprs.{all_known, expr_type}
-use Rattle.plan_meaning.specs.Typing.{Check, each, each_new, names_or, columns_or, file_columns, put_out_checks, scan_name_checks, is_built_scan, scan_column_checks, scan_checks, frame_checks, is_known, is_column, is_empty, number_checks, made_schema, leaf_checks, type_checks, once_checks, stored_checks, naming_checks, made_checks, out_names, AllHold}
+use Rattle.plan_meaning.specs.Typing.{Check, each, each_new, names_or, columns_or, file_columns, put_out_checks, scan_name_checks, is_built_scan, scan_column_checks, scan_checks, frame_checks, is_known, is_column, is_empty, number_checks, made_schema, form_checks, leaf_checks, type_checks, once_checks, stored_checks, naming_checks, made_checks, out_names, AllHold}
 use Rattle.plan_meaning.proofs.NameSets.{has_cons, has_first, has_later}
 
 pub hold_front : (xs ys : List Check) → AllHold (xs ++ ys) → AllHold xs
@@ -118,6 +119,7 @@ good_frame df schema outs g =
 
 -- what the checks on expressions that make columns say, part by part
 pub record MadeGood (base : Columns) (es : List Named) (stored s : Columns) : Type 0 where
+  pub formed : AllByRecursion (λ (e : Named). has_form e.expr ≡ true) es
   pub known : AllByRecursion (λ (e : Named). all_known (leaves e.expr) s ≡ true) es
   pub typed : AllByRecursion (λ (e : Named). is_some (expr_type e.expr s) ≡ true) es
   pub once : AllHold (each_new 1 [] (out_names es))
@@ -125,18 +127,21 @@ pub record MadeGood (base : Columns) (es : List Named) (stored s : Columns) : Ty
   pub named : AllByRecursion (λ (e : Named). may_be_named e.name (naming e.expr) ≡ true) es
 
 pub made_good : (base : Columns) (es : List Named) (stored s : Columns) → AllHold (made_checks base es stored s) → MadeGood base es stored s
-unfolding made_checks leaf_checks type_checks once_checks stored_checks naming_checks
+unfolding made_checks form_checks leaf_checks type_checks once_checks stored_checks naming_checks
 made_good base es stored s h =
+    let f = form_checks es in
     let a = leaf_checks es s in
     let b = type_checks es s in
     let c = once_checks es in
     let d = naming_checks es in
     let n = stored_checks stored (made_schema base es s) in
-    let bcd = hold_back a (b ++ (c ++ (n ++ d))) h in
+    let abcd = hold_back f (a ++ (b ++ (c ++ (n ++ d)))) h in
+    let bcd = hold_back a (b ++ (c ++ (n ++ d))) abcd in
     let cd = hold_back b (c ++ (n ++ d)) bcd in
     let last = hold_back c (n ++ d) cd in
     record {
-      known = each_pass SchemaFieldNotFound 1 (λ (e : Named). all_known (leaves e.expr) s) es (hold_front a (b ++ (c ++ (n ++ d))) h);
+      formed = each_pass InvalidOperation 1 (λ (e : Named). has_form e.expr) es (hold_front f (a ++ (b ++ (c ++ (n ++ d)))) h);
+      known = each_pass SchemaFieldNotFound 1 (λ (e : Named). all_known (leaves e.expr) s) es (hold_front a (b ++ (c ++ (n ++ d))) abcd);
       typed = each_pass SchemaMismatch 1 (λ (e : Named). is_some (expr_type e.expr s)) es (hold_front b (c ++ (n ++ d)) bcd);
       once = hold_front c (n ++ d) cd;
       same = last.0;
@@ -144,13 +149,15 @@ made_good base es stored s h =
     }
 
 pub good_made : (base : Columns) (es : List Named) (stored s : Columns) → MadeGood base es stored s → AllHold (made_checks base es stored s)
-unfolding made_checks leaf_checks type_checks once_checks stored_checks naming_checks
+unfolding made_checks form_checks leaf_checks type_checks once_checks stored_checks naming_checks
 good_made base es stored s g =
+    let f = form_checks es in
     let a = leaf_checks es s in
     let b = type_checks es s in
     let c = once_checks es in
     let d = naming_checks es in
     let n = stored_checks stored (made_schema base es s) in
-    hold_join a (b ++ (c ++ (n ++ d))) (pass_each SchemaFieldNotFound 1 (λ (e : Named). all_known (leaves e.expr) s) es g.known)
+    hold_join f (a ++ (b ++ (c ++ (n ++ d)))) (pass_each InvalidOperation 1 (λ (e : Named). has_form e.expr) es g.formed)
+    (hold_join a (b ++ (c ++ (n ++ d))) (pass_each SchemaFieldNotFound 1 (λ (e : Named). all_known (leaves e.expr) s) es g.known)
     (hold_join b (c ++ (n ++ d)) (pass_each SchemaMismatch 1 (λ (e : Named). is_some (expr_type e.expr s)) es g.typed)
-    (hold_join c (n ++ d) g.once (g.same, pass_each SchemaMismatch 1 (λ (e : Named). may_be_named e.name (naming e.expr)) es g.named)))
+    (hold_join c (n ++ d) g.once (g.same, pass_each SchemaMismatch 1 (λ (e : Named). may_be_named e.name (naming e.expr)) es g.named))))

@@ -122,7 +122,7 @@ FairAll _ _ = ⊥
 
 -- per node: what it asks can be asked of its inputs
 pub fair_asks : (op : Op) (a : Asked) (ss : List Columns) → AllHold (checks op ss) → IsFair a (schema_by op ss) → FairAll (asks op a ss) ss
-fair_asks (filter predicate) a (s ∷ []) good f = (fair_more (leaves predicate.expr) a s (λ b i. known_leaf (leaves predicate.expr) s b good.0 i) f, tt)
+fair_asks (filter predicate) a (s ∷ []) good f = (fair_more (leaves predicate.expr) a s (λ b i. known_leaf (leaves predicate.expr) s b good.1.0 i) f, tt)
 fair_asks (scan sources info predicate output kind options) a [] good f = tt
 fair_asks (simple_projection cols) a (s ∷ []) good f =
     let known = each_pass SchemaFieldNotFound 1 (λ (c : Name × DataType). is_known s c.0) cols (hold_front (each SchemaFieldNotFound 1 (λ (c : Name × DataType). is_known s c.0) cols) (each SchemaMismatch 1 (is_column s) cols) good.1) in

@@ -36,7 +36,7 @@ pub length-map : {X Y : Type 0} (f : X → Y) (xs : List X) → length (map f xs
 length-map f [] = refl
 length-map f (x ∷ xs) = ap suc (length-map f xs)
 
-all_append : (t : DataType) (xs ys : List Value) → AllOf t xs → AllOf t ys → AllOf t (xs ++ ys)
+pub all_append : (t : DataType) (xs ys : List Value) → AllOf t xs → AllOf t ys → AllOf t (xs ++ ys)
 all_append t [] ys h g = g
 all_append t (x ∷ xs) ys h g = (h.0, all_append t xs ys h.1 g)
 

@@ -9,7 +9,10 @@ mod TypedLemmas
 mod InputLemmas
 pub mod NameSets
 pub mod FrameLemmas
+pub mod SameValues
 pub mod Depends
+mod Spreads
+mod TypedValues
 pub mod Sound
 pub mod CheckParts
 pub mod MadeColumns

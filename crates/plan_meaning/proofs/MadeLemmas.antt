@@ -6,7 +6,7 @@ use Rattle.std.proofs.lemmas.Option.{slice_get-get_or, slice_get-map}
 use Rattle.std.proofs.lemmas.List.{length-map}
 use Rattle.plan_core.specs.Columns.{Columns, with_type}
 use Rattle.plan_core.specs.declared.data_type.DataType.TheVariants.{Int64}
-use Rattle.plan_core.specs.declared.error.PolarsError.TheVariants.{SchemaFieldNotFound, SchemaMismatch}
+use Rattle.plan_core.specs.declared.error.PolarsError.TheVariants.{InvalidOperation, SchemaFieldNotFound, SchemaMismatch}
 use Rattle.plan_expr.specs.declared.aexpr.AExpr.{AExpr}
 use Rattle.plan_expr.specs.declared.expr_ir.ExprIR.{ExprIR}
 use Rattle.plan_expr.specs.declared.expr_ir.OutputName.TheVariants.{None}
@@ -17,13 +17,18 @@ use Rattle.plan_ir.specs.Parts.{exprs_of, IsPlan}
 use Rattle.plan_ir.proofs.PlanLemmas.{plan_expr}
 use Rattle.plan_expr.specs.Exprs.{Named, named_at, all_named_at, expr_at}
 use Rattle.plan_ir.proofs.MovedLemmas.{map_twice}
+use Rattle.plan_expr.specs.Forms.{has_form}
 use Rattle.plan_expr.specs.Leaves.{leaves}
 use Rattle.plan_expr.specs.Naming.{naming, may_be_named, name_of}
 use Rattle.plan_meaning.specs.Exprs.{all_known, expr_type}
-use Rattle.plan_meaning.specs.Typing.{each, each_new, leaf_checks, type_checks, once_checks, naming_checks, made_schema}
+use Rattle.plan_meaning.specs.Typing.{each, each_new, form_checks, leaf_checks, type_checks, once_checks, naming_checks, made_schema}
 use Rattle.plan_meaning.proofs.CheckLemmas.{each-map}
 
 module _ (ex : List AExpr) (es : List ExprIR) where
+  pub form-at : form_checks (all_named_at ex es) ≡ each InvalidOperation 1 (λ (e : ExprIR). has_form (expr_at ex e.node)) es
+  unfolding form_checks
+  form-at = sym (each-map InvalidOperation 1 (λ (n : Named). has_form n.expr) (named_at ex) es)
+
   pub leaf-at : (s : Columns) → leaf_checks (all_named_at ex es) s ≡ each SchemaFieldNotFound 1 (λ (e : ExprIR). all_known (leaves (expr_at ex e.node)) s) es
   unfolding leaf_checks
   leaf-at s = sym (each-map SchemaFieldNotFound 1 (λ (n : Named). all_known (leaves n.expr) s) (named_at ex) es)

@@ -1,10 +1,12 @@
 -- The definitions that contracts cite.
 pub mod Exprs
+pub mod Firsts
 pub mod Typing
 pub mod TreeFaults
 pub mod Typed
 pub mod Values
 pub mod Frames
+pub mod Aggregates
 pub mod Meaning
 pub mod Contents
 pub mod Steps

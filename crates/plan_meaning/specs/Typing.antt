@@ -11,6 +11,7 @@ use Rattle.plan_core.specs.Names.{has}
 use Rattle.plan_tree.specs.Rose.{Rose, Roses, rose, no_roses, more}
 use Rattle.plan_ir.specs.declared.scan.FileInfo.{FileInfo}
 use Rattle.plan_expr.specs.Exprs.{Named}
+use Rattle.plan_expr.specs.Forms.{has_form}
 use Rattle.plan_ir.specs.Plans.{Op, slice, filter, scan, frame_scan, simple_projection, select, hstack, invalid}
 use Rattle.plan_expr.specs.Leaves.{Name, leaves}
 use Rattle.plan_expr.specs.Naming.{naming, may_be_named, name_of}
@@ -110,10 +111,11 @@ abbrev pub has_columns : Option (List Name) → Name → Bool
 has_columns None a = true
 has_columns (Some given) a = has given a
 
--- a filter's predicate reads columns of the input, is Boolean, and is named as it may be
+-- a filter's predicate has a form, reads columns of the input, is Boolean, and is named as it may be
 abbrev pub filter_checks : Named → Columns → List Check
 filter_checks e s =
-    check SchemaFieldNotFound 1 (all_known (leaves e.expr) s)
+    check InvalidOperation 1 (has_form e.expr)
+    ∷ check SchemaFieldNotFound 1 (all_known (leaves e.expr) s)
     ∷ check SchemaMismatch 1 (is_type (expr_type e.expr s) types.Boolean)
     ∷ check SchemaMismatch 1 (may_be_named e.name (naming e.expr))
     ∷ []
@@ -179,6 +181,10 @@ frame_checks df schema outs =
 abbrev pub out_names : List Named → List Name
 out_names es = map (λ (e : Named). name_of e.name) es
 
+-- each expression has a form
+unfoldable pub form_checks : List Named → List Check
+form_checks es = each InvalidOperation 1 (λ (e : Named). has_form e.expr) es
+
 -- each expression reads columns that there are
 unfoldable pub leaf_checks : List Named → Columns → List Check
 leaf_checks es s = each SchemaFieldNotFound 1 (λ (e : Named). all_known (leaves e.expr) s) es
@@ -195,14 +201,15 @@ once_checks es = each_new 1 [] (out_names es)
 unfoldable pub naming_checks : List Named → List Check
 naming_checks es = each SchemaMismatch 1 (λ (e : Named). may_be_named e.name (naming e.expr)) es
 
--- expressions read some columns and have types there, no two have one name, the stored columns are those that they make beside others, and each is named as it may be
+-- expressions have forms, read some columns and have types there, no two have one name, the stored columns are those that they make beside others, and each is named as it may be
 unfoldable pub made_checks : Columns → List Named → Columns → Columns → List Check
 made_checks base es stored s =
-    leaf_checks es s
+    form_checks es
+    ++ (leaf_checks es s
     ++ (type_checks es s
     ++ (once_checks es
     ++ (stored_checks stored (made_schema base es s)
-    ++ naming_checks es)))
+    ++ naming_checks es))))
 
 -- the checks where a node has no inputs; else one that fails
 abbrev pub with_none : List Columns → List Check → List Check

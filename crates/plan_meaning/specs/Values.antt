@@ -3,7 +3,7 @@ use Rattle.std.specs.Prelude.{ℕ, ℤ, Bool, true, false, not, List}
 use Rattle.std.specs.List.{AllByRecursion}
 use Rattle.std.specs.declared.cmp.Ordering.{Ordering}
 use Rattle.std.specs.declared.cmp.Ordering.TheVariants.{Equal}
-use Rattle.std.specs.Ordering.{int_cmp, int_eq, nat_cmp, bool_cmp, is_eq}
+use Rattle.std.specs.Ordering.{int_cmp, int_eq, nat_cmp, bool_cmp}
 use Rattle.std.specs.Cmp.Lexicographic.{slice_cmp, pointwise}
 use Rattle.std.specs.Str.{bytes_eq}
 use Rattle.plan_core.specs.declared.data_type.DataType.{DataType}
@@ -54,7 +54,7 @@ value_cmp (text a) (text b) = slice_cmp nat_cmp a b
 value_cmp (truth a) (truth b) = bool_cmp a b
 value_cmp _ _ = Equal
 
--- whether two values in lists of one type are the same, null being the same as null alone
+-- whether two values in lists are the same, null being the same as null alone
 abbrev pub same_single : Single → Single → Bool
 same_single no_single no_single = true
 same_single (single_whole a) (single_whole b) = int_eq a b
@@ -63,13 +63,20 @@ same_single (single_truth true) (single_truth b) = b
 same_single (single_truth false) (single_truth b) = not b
 same_single _ _ = false
 
--- whether two values of one type are the same, null being the same as null alone, and lists value by value
+-- whether two values are the same, null being the same as null alone, and lists value by value
 abbrev pub same_value : Value → Value → Bool
 same_value null null = true
-same_value null y = false
-same_value x null = false
+same_value (whole a) (whole b) = int_eq a b
+same_value (text a) (text b) = bytes_eq a b
+same_value (truth true) (truth b) = b
+same_value (truth false) (truth b) = not b
 same_value (listed xs) (listed ys) = pointwise same_single xs ys
-same_value x y = is_eq (value_cmp x y)
+same_value _ _ = false
+
+-- whether a value is null
+abbrev pub is_null : Value → Bool
+is_null null = true
+is_null _ = false
 
 -- whether a value is the truth value true
 abbrev pub is_true : Value → Bool

@@ -1,13 +1,19 @@
 //! Expressions over some columns: whether these are found, and the type.
-ghost use Rattle.std.specs.Prelude.{◌≡◌, All};
-ghost use Rattle.plan_expr.specs.Operands.{IsExpr};
-ghost use Rattle.plan_expr.specs.Exprs.{all_named_at, expr_at};
+ghost use Rattle.std.specs.Prelude.{◌≡◌, ◌∷◌, [], ◌++◌, All, List, length};
+ghost use Rattle.plan_core.specs.declared.data_type.DataType.{DataType};
+ghost use Rattle.plan_expr.specs.Operands.{IsExpr, operands_of};
+ghost use Rattle.plan_expr.specs.Exprs.{all_named_at, expr_at, expr_op};
+ghost use Rattle.plan_expr.specs.Types.{function_type as type_of_function};
 ghost use Rattle.plan_expr.specs.Leaves.{leaves};
-ghost use Rattle.plan_meaning.specs.Exprs.{all_known, expr_type as type_of_expr, operator_type as type_of_operator};
+ghost use Rattle.plan_meaning.specs.Exprs.{all_known, expr_type as type_of_expr, op_type};
+ghost use Rattle.plan_meaning.specs.Firsts.{first_types};
 ghost use Rattle.plan_meaning.specs.Steps.{all_scalar as are_scalar};
 
 use plan_core::{Arena, DataType, Node, Schema};
-use plan_expr::{AExpr, ExprIR, Operator, is_scalar, literal_type};
+use plan_expr::{
+    AExpr, ExprIR, FunctionExpr, aggregate_type, binary_type, choice_type, is_scalar, literal_type,
+    operator_type, unary_type,
+};
 
 /// Whether each column of the expression is one of the schema's.
 pub fn reads_only(node: Node, ex: &Arena<AExpr>, schema: &Schema) -> bool
@@ -28,37 +34,79 @@ pub fn reads_only(node: Node, ex: &Arena<AExpr>, schema: &Schema) -> bool
     true
 }
 
-/// The type of an operator over two operands, where these have types that it takes.
-fn operator_type(op: Operator, left: Option<DataType>, right: Option<DataType>) -> Option<DataType>
-    ensures { result ≡ type_of_operator op left right }
+/// The types of the first three of some operands, from the first one on, where there are so many.
+#[derive(Clone, Copy)]
+pub(crate) struct FirstTypes {
+    first: Option<DataType>,
+    second: Option<DataType>,
+    third: Option<DataType>,
+}
+
+/// The first three types where there is one more.
+fn with_one(types: FirstTypes, dtype: DataType) -> FirstTypes
+    ensures { (ts : List DataType) → types ≡ first_types ts → result ≡ first_types (ts ++ dtype ∷ []) }
 {
-    match (left, right) {
-        (Some(left), Some(right)) => plan_expr::operator_type(op, left, right),
+    match (types.first, types.second, types.third) {
+        (None, _, _) => FirstTypes {
+            first: Some(dtype),
+            ..types
+        },
+        (_, None, _) => FirstTypes {
+            second: Some(dtype),
+            ..types
+        },
+        (_, _, None) => FirstTypes {
+            third: Some(dtype),
+            ..types
+        },
+        _ => types,
+    }
+}
+
+/// The type of a function over inputs of these types, if it takes them.
+fn function_type(function: FunctionExpr, types: FirstTypes) -> Option<DataType>
+    ensures { (ts : List DataType) → types ≡ first_types ts → result ≡ type_of_function function ts }
+{
+    match (types.first, types.second, types.third) {
+        (Some(only), None, _) => unary_type(function, only),
+        (Some(first), Some(second), None) => binary_type(function, first, second),
         _ => None,
     }
 }
 
-/// The type of the expression over the columns of a schema, if it has one. Choices, aggregates, functions, windows and the
-/// number of rows have none yet.
+/// The type of an expression over the columns of a schema, from the types of all its operands, if it has one.
+fn type_over(expr: &AExpr, types: FirstTypes, schema: &Schema) -> Option<DataType>
+    ensures { (ts : List DataType) → types ≡ first_types ts → length ts ≡ length (operands_of expr.now) → result ≡ op_type (expr_op expr.now) schema.now ts }
+{
+    match expr {
+        AExpr::Column(name) => schema.get(name.as_str()).copied(),
+        AExpr::Literal(value) => Some(literal_type(value)),
+        AExpr::Alias(..) | AExpr::Window { .. } => types.first,
+        AExpr::BinaryExpr { op, .. } => operator_type(*op, types.first?, types.second?),
+        AExpr::Ternary { .. } => choice_type(types.third?, types.first?, types.second?),
+        AExpr::Agg(agg) => aggregate_type(agg.aggregate(), types.first?),
+        AExpr::Function { function, .. } => function_type(*function, types),
+        AExpr::Len => Some(DataType::Int64),
+    }
+}
+
+/// The type of the expression over the columns of a schema, if it has one.
 pub fn expr_type(node: Node, ex: &Arena<AExpr>, schema: &Schema) -> Option<DataType>
     requires { IsExpr ex.now node }
     ensures { result ≡ type_of_expr (expr_at ex.now node) schema.now }
 {
-    match ex.get(node) {
-        AExpr::Column(name) => schema.get(name.as_str()).copied(),
-        AExpr::Literal(value) => Some(literal_type(value)),
-        AExpr::Alias(input, _) => expr_type(*input, ex, schema),
-        AExpr::BinaryExpr { left, op, right } => {
-            let left = expr_type(*left, ex, schema);
-            let right = expr_type(*right, ex, schema);
-            operator_type(*op, left, right)
-        }
-        AExpr::Ternary { .. } => None,
-        AExpr::Agg(_) => None,
-        AExpr::Function { .. } => None,
-        AExpr::Window { .. } => None,
-        AExpr::Len => None,
+    let expr = ex.get(node);
+    let mut types = FirstTypes {
+        first: None,
+        second: None,
+        third: None,
+    };
+    let mut place = 0;
+    while let Some(operand) = expr.operand(place) {
+        types = with_one(types, expr_type(operand, ex, schema)?);
+        place += 1;
     }
+    type_over(expr, types, schema)
 }
 
 /// Whether the expressions are scalar throughout.

@@ -3,7 +3,7 @@ use super::*;
 use plan_core::{
     Arena, At, DataType, FileScanOptions, Items, Node, PlSmallStr, PolarsError, Schema, TryClone,
 };
-use plan_expr::{AExpr, ExprIR, LiteralValue, Operator, OutputName};
+use plan_expr::{AExpr, ExprIR, FunctionExpr, LiteralValue, Operator, OutputName};
 use plan_ir::{FileInfo, FileScan, IR, ScanSources, expr_depth, plan_depth};
 use std::alloc::{AllocError, Global};
 use std::test::Fail;
@@ -110,18 +110,44 @@ fn a_bad_number_has_a_place(rt: HostRuntime) -> Result<(), Fail> {
     Ok(())
 }
 
-#[test]
-fn a_length_has_no_type_yet(rt: HostRuntime) -> Result<(), Fail> {
-    let alloc = rt.alloc();
+// What is told of the small plan where the right side of its predicate is this expression.
+fn told_of(alloc: Global, right: AExpr) -> Result<Option<PolarsError>, AllocError> {
     let lp = nodes(alloc, 2)?;
     let mut ex = exprs(alloc, 2)?;
-    if ex.len() == 3 {
-        ex.put(Node(2), AExpr::Len);
+    let _ = ex.add(AExpr::Len)?;
+    if ex.len() == 4 {
+        ex.put(Node(2), right);
     }
-    let wanted = PolarsError::SchemaMismatch(At {
+    Ok(check_plan(alloc, Node(0), &lp, &ex).err())
+}
+
+// The fault of an expression without a form, in the predicate of the small plan.
+fn no_form() -> PolarsError {
+    PolarsError::InvalidOperation(At {
         node: Some(Node(1)),
         place: 1,
-    });
-    assert_eq!(rt; check_plan(alloc, Node(0), &lp, &ex).err(), Some(wanted));
+    })
+}
+
+#[test]
+fn a_window_has_keys(rt: HostRuntime) -> Result<(), Fail> {
+    let window = AExpr::Window {
+        function: Node(3),
+        partition_by: Items::new(rt.alloc()),
+    };
+    assert_eq!(rt; told_of(rt.alloc(), window)?, Some(no_form()));
+    Ok(())
+}
+
+#[test]
+fn a_function_carries_its_own_options(rt: HostRuntime) -> Result<(), Fail> {
+    let mut input = Items::new(rt.alloc());
+    input.push(Node(3))?;
+    let function = AExpr::Function {
+        input,
+        function: FunctionExpr::Reverse,
+        options: FunctionExpr::Not.options(),
+    };
+    assert_eq!(rt; told_of(rt.alloc(), function)?, Some(no_form()));
     Ok(())
 }

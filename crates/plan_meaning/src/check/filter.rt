@@ -1,4 +1,4 @@
-//! A filter: its predicate reads columns of the input, is Boolean, and is named as it may be.
+//! A filter: its predicate has a form, reads columns of the input, is Boolean, and is named as it may be.
 ghost use Rattle.std.specs.Prelude.{◌≡◌, [], ◌∷◌};
 ghost use Rattle.plan_expr.specs.Operands.{IsExpr};
 ghost use Rattle.plan_expr.specs.Exprs.{named_at};
@@ -11,7 +11,7 @@ ghost use Rattle.plan_meaning.specs.Typed.{IsNodeTyped};
 use crate::check::place::at;
 use crate::exprs::{expr_type, reads_only};
 use plan_core::{Arena, DataType, Node, PolarsError, PolarsResult, Schema};
-use plan_expr::{AExpr, ExprIR, may_be_named};
+use plan_expr::{AExpr, ExprIR, has_form, may_be_named};
 
 /// Whether the type is Boolean.
 fn is_boolean(dtype: Option<DataType>) -> bool
@@ -20,8 +20,9 @@ fn is_boolean(dtype: Option<DataType>) -> bool
     matches!(dtype, Some(DataType::Boolean))
 }
 
-/// Checks a filter over the columns of its input. Each fault is at place 1: `SchemaFieldNotFound` where the predicate
-/// reads another column, and then `SchemaMismatch` where it isn't Boolean or isn't named as it may be.
+/// Checks a filter over the columns of its input. Each fault is at place 1: `InvalidOperation` where the predicate
+/// has no form, `SchemaFieldNotFound` where it reads another column, and then `SchemaMismatch` where it isn't Boolean or isn't
+/// named as it may be.
 pub fn check_filter(
     node: Node,
     predicate: &ExprIR,
@@ -31,6 +32,9 @@ pub fn check_filter(
     requires { IsExpr ex.now predicate.now.node }
     ensures { Says result (first_fault node (filter_checks (named_at ex.now predicate.now) schema.now)) }
 {
+    if !has_form(predicate.node, ex) {
+        return Err(PolarsError::InvalidOperation(at(node, 1)));
+    }
     if !reads_only(predicate.node, ex, schema) {
         return Err(PolarsError::SchemaFieldNotFound(at(node, 1)));
     }

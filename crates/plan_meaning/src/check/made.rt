@@ -1,12 +1,12 @@
-//! The columns that expressions make, in a selection or beside the columns of the input: the expressions read columns of
-//! the input and have types there, no two have one name, the stored columns are those that they make, and each is named
+//! The columns that expressions make, in a selection or beside the columns of the input: the expressions have forms, read
+//! columns of the input and have types there, no two have one name, the stored columns are those that they make, and each is named
 //! as it may be.
 ghost use Rattle.std.specs.Prelude.{◌≡◌, [], ◌∷◌, All, IfOk};
 ghost use Rattle.plan_core.specs.declared.options.ProjectionOptions.{ProjectionOptions};
 ghost use Rattle.plan_expr.specs.Operands.{IsExpr};
 ghost use Rattle.plan_expr.specs.Exprs.{all_named_at};
 ghost use Rattle.plan_ir.specs.Plans.{hstack, select};
-ghost use Rattle.plan_meaning.specs.Typing.{leaf_checks, type_checks, once_checks, naming_checks, made_schema as schema_made, first_fault, Says, IsMade};
+ghost use Rattle.plan_meaning.specs.Typing.{form_checks, leaf_checks, type_checks, once_checks, naming_checks, made_schema as schema_made, first_fault, Says, IsMade};
 ghost use Rattle.plan_meaning.specs.Typed.{IsNodeTyped};
 
 use crate::check::columns::check_stored;
@@ -15,8 +15,21 @@ use crate::exprs::{expr_type, reads_only};
 use plan_core::{
     Arena, DataType, Names, Node, PlSmallStr, PolarsError, PolarsResult, Schema, TryClone,
 };
-use plan_expr::{AExpr, ExprIR, may_be_named, output_name};
+use plan_expr::{AExpr, ExprIR, has_form, may_be_named, output_name};
 use std::alloc::{AllocError, Global};
+
+/// Each expression has a form; the first expression stands at place 1.
+fn check_forms(node: Node, exprs: &[ExprIR], ex: &Arena<AExpr>) -> PolarsResult<()>
+    requires { All (λ e. IsExpr ex.now e.node) exprs.now }
+    ensures { Says result (first_fault node (form_checks (all_named_at ex.now exprs.now))) }
+{
+    for (i, expr) in exprs.iter().enumerate() {
+        if !has_form(expr.node, ex) {
+            return Err(PolarsError::InvalidOperation(at(node, 1 + i)));
+        }
+    }
+    Ok(())
+}
 
 /// Each expression reads columns of the schema; the first expression stands at place 1.
 fn check_leaves(
@@ -109,6 +122,7 @@ pub fn check_made(
     requires { All (λ e. IsExpr ex.now e.node) exprs.now }
     ensures { IsMade result node base (all_named_at ex.now exprs.now) stored.now schema.now }
 {
+    check_forms(node, exprs, ex)?;
     check_leaves(node, exprs, ex, schema)?;
     check_types(node, exprs, ex, schema)?;
     check_outputs(alloc, node, exprs, ex)?;

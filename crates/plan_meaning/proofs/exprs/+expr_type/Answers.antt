@@ -1,62 +1,46 @@
-use Rattle.std.proofs.Common.{◌≡◌, ◌∙◌, ap, ap₂, refl, arith, rules, Some}
-use Rattle.plan_expr.specs.declared.aexpr.AExpr.TheVariants.{Alias, BinaryExpr}
+use Rattle.std.proofs.Common.{◌≡◌, ◌∙◌, sym, arith, rules, None, Some}
+use Rattle.std.specs.List.{slice_get}
+use Rattle.std.proofs.lemmas.Option.{slice_get_within}
+use Rattle.plan_expr.specs.Operands.{operands_of}
 use Rattle.plan_expr.proofs.ExprLemmas.{expr_down}
-use Rattle.plan_meaning.specs.Exprs.{operator_type, type_by}
-use Rattle.plan_expr.specs.declared.aexpr.AExpr.{AExpr}
-use Rattle.plan_expr.specs.Exprs.{expr_op}
-use Rattle.plan_meaning.proofs.ExprSteps.{type-column, type-literal, type-alias, type-binary, type-none}
+use Rattle.plan_expr.proofs.ListLemmas.{past}
+use Rattle.plan_meaning.proofs.ExprSteps.{typed-none, typed-next, typed-bad, typed-end}
 use Rattle.plan_meaning.proofs.exprs.+expr_type.Goals as goal
+
+pub loop-operand-init : goal.loop-operand-init
+loop-operand-init t c = typed-none c.args.ex.now c.args.schema.now (operands_of c.get-expr.result.now)
 
 pub expr_type-requires : goal.expr_type-requires
 expr_type-requires t c =
-    let e = c.get.ensures.entry ∙ ap Some c.in-Alias.is in
-    let d = expr_down c.args.ex.now c.args.node c.in-Alias.input (Alias c.in-Alias.input c.in-Alias.field-1) 0 c.requires e refl in
-    (omega (arith, d.0, c.decreases), d.1)
+    let p = c.get-expr.result.now in
+    let there : slice_get (operands_of p) c.loop-operand.place ≡ Some c.in-Some.operand = sym c.operand.ensures.there ∙ c.in-Some.is in
+    let down = expr_down c.args.ex.now c.args.node c.in-Some.operand p c.loop-operand.place c.requires c.get-expr.ensures.entry there in
+    (omega (arith, down.0, c.decreases), down.1)
 
-pub expr_type-left-requires : goal.expr_type-left-requires
-expr_type-left-requires t c =
-    let e = c.get.ensures.entry ∙ ap Some c.in-BinaryExpr.is in
-    let d = expr_down c.args.ex.now c.args.node c.in-BinaryExpr.left (BinaryExpr c.in-BinaryExpr.left c.in-BinaryExpr.op c.in-BinaryExpr.right) 0 c.requires e refl in
-    (omega (arith, d.0, c.decreases), d.1)
+pub returns-in_err-expr_type : goal.returns-in_err-expr_type
+returns-in_err-expr_type t c =
+    let p = c.get-expr.result.now in
+    let there : slice_get (operands_of p) c.loop-operand.place ≡ Some c.in-Some.operand = sym c.operand.ensures.there ∙ c.in-Some.is in
+    let none : c.expr_type.result ≡ None = search rules in
+    let gives : c.from_residual.result ≡ None = search rules in
+    gives ∙ typed-bad c.args.ex.now c.args.node c.in-Some.operand p c.loop-operand.place c.args.schema.now c.requires c.get-expr.ensures.entry there (sym c.expr_type.ensures ∙ none)
 
-pub expr_type-right-requires : goal.expr_type-right-requires
-expr_type-right-requires t c =
-    let e = c.get.ensures.entry ∙ ap Some c.in-BinaryExpr.is in
-    let d = expr_down c.args.ex.now c.args.node c.in-BinaryExpr.right (BinaryExpr c.in-BinaryExpr.left c.in-BinaryExpr.op c.in-BinaryExpr.right) 1 c.requires e refl in
-    (omega (arith, d.0, c.decreases), d.1)
+pub loop-operand-smaller : goal.loop-operand-smaller
+loop-operand-smaller t c =
+    let p = c.get-expr.result.now in
+    let there : slice_get (operands_of p) c.loop-operand.place ≡ Some c.in-Some.operand = sym c.operand.ensures.there ∙ c.in-Some.is in
+    let within = slice_get_within (operands_of p) c.loop-operand.place c.in-Some.operand there in
+    omega (arith, within)
 
-pub returns-in-Column : goal.returns-in-Column
-returns-in-Column t c =
-    let is : c.copied.result ≡ _ = search rules in
-    is ∙ type-column c.args.ex.now c.args.node c.requires c.in-Column.name c.args.schema.now (c.get.ensures.entry ∙ ap Some c.in-Column.is)
+pub loop-operand-preserved : goal.loop-operand-preserved
+loop-operand-preserved t c =
+    let p = c.get-expr.result.now in
+    let there : slice_get (operands_of p) c.loop-operand.place ≡ Some c.in-Some.operand = sym c.operand.ensures.there ∙ c.in-Some.is in
+    let some : c.expr_type.result ≡ Some c.in_ok-expr_type.field-0 = search rules in
+    typed-next c.args.ex.now c.args.schema.now (operands_of p) c.loop-operand.place c.in-Some.operand c.in_ok-expr_type.field-0 c.loop-operand.types c.with_one-types.result there (sym c.expr_type.ensures ∙ some) c.loop-operand.invariant c.with_one-types.ensures
 
-pub returns-in-Literal : goal.returns-in-Literal
-returns-in-Literal t c = ap Some c.literal_type.ensures ∙ type-literal c.args.ex.now c.args.node c.requires c.in-Literal.value c.args.schema.now (c.get.ensures.entry ∙ ap Some c.in-Literal.is)
-
-pub returns-in-Alias : goal.returns-in-Alias
-returns-in-Alias t c = c.expr_type.ensures ∙ type-alias c.args.ex.now c.args.node c.requires c.in-Alias.input c.in-Alias.field-1 c.args.schema.now (c.get.ensures.entry ∙ ap Some c.in-Alias.is)
-
-pub returns-in-BinaryExpr : goal.returns-in-BinaryExpr
-returns-in-BinaryExpr t c =
-    c.operator_type.ensures ∙ ap₂ (operator_type c.in-BinaryExpr.op) c.expr_type-left.ensures c.expr_type-right.ensures
-    ∙ type-binary c.args.ex.now c.args.node c.requires c.in-BinaryExpr.left c.in-BinaryExpr.right c.in-BinaryExpr.op c.args.schema.now (c.get.ensures.entry ∙ ap Some c.in-BinaryExpr.is)
-
-pub returns-in-Ternary : goal.returns-in-Ternary
-returns-in-Ternary t c =
-    type-none c.args.ex.now c.args.node c.requires c.get.result.now c.args.schema.now c.get.ensures.entry (λ ts. ap (λ (e : AExpr). type_by (expr_op e) ts c.args.schema.now) c.in-Ternary.is)
-
-pub returns-in-Agg : goal.returns-in-Agg
-returns-in-Agg t c =
-    type-none c.args.ex.now c.args.node c.requires c.get.result.now c.args.schema.now c.get.ensures.entry (λ ts. ap (λ (e : AExpr). type_by (expr_op e) ts c.args.schema.now) c.in-Agg.is)
-
-pub returns-in-Function : goal.returns-in-Function
-returns-in-Function t c =
-    type-none c.args.ex.now c.args.node c.requires c.get.result.now c.args.schema.now c.get.ensures.entry (λ ts. ap (λ (e : AExpr). type_by (expr_op e) ts c.args.schema.now) c.in-Function.is)
-
-pub returns-in-Window : goal.returns-in-Window
-returns-in-Window t c =
-    type-none c.args.ex.now c.args.node c.requires c.get.result.now c.args.schema.now c.get.ensures.entry (λ ts. ap (λ (e : AExpr). type_by (expr_op e) ts c.args.schema.now) c.in-Window.is)
-
-pub returns-in-Len : goal.returns-in-Len
-returns-in-Len t c =
-    type-none c.args.ex.now c.args.node c.requires c.get.result.now c.args.schema.now c.get.ensures.entry (λ ts. ap (λ (e : AExpr). type_by (expr_op e) ts c.args.schema.now) c.in-Len.is)
+pub returns : goal.returns
+returns t c =
+    let p = c.get-expr.result.now in
+    let none : slice_get (operands_of p) c.loop-operand.place ≡ None = sym c.operand.ensures.there ∙ c.in_default.is in
+    typed-end c.args.ex.now c.args.node p c.loop-operand.place c.args.schema.now c.loop-operand.types c.type_over.result c.requires c.get-expr.ensures.entry (past (operands_of p) c.loop-operand.place none) c.loop-operand.invariant c.type_over.ensures

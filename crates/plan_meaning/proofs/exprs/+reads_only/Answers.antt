@@ -1,5 +1,5 @@
-use Rattle.std.proofs.Common.{◌≡◌, ◌∙◌, Bool, true, false, sym, arith, rules, None, Some}
-use Rattle.std.specs.List.{slice_get, list_all}
+use Rattle.std.proofs.Common.{◌≡◌, ◌∙◌, Bool, sym, arith, rules, None, Some}
+use Rattle.std.specs.List.{slice_get}
 use Rattle.std.proofs.lemmas.Option.{slice_get_within}
 use Rattle.plan_core.specs.declared.arena.Node.{Node}
 use Rattle.plan_expr.specs.Exprs.{expr_at}
