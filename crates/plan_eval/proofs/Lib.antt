@@ -8,3 +8,8 @@ mod ColumnLemmas
 mod MadeLemmas
 mod PlanLemmas
 mod SameLemmas
+mod AggregateLemmas
+mod GroupLemmas
+mod EvaluationLemmas
+mod WindowLemmas
+mod ReadLemmas

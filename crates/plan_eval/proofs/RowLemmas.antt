@@ -1,6 +1,7 @@
 -- Rows, one after another.
-use Rattle.std.proofs.Common.{◌≡◌, ◌++◌, ◌+◌, ◌-◌, ◌<◌, ◌≤◌, length, get_or, ℕ, zero, suc, Bool, true, false, cond, List, [], ◌∷◌, None, Some, refl, ap, sym, ◌∙◌, arith, add-one}
+use Rattle.std.proofs.Common.{◌≡◌, ◌++◌, ◌+◌, ◌-◌, ◌<◌, ◌≤◌, length, get_or, ℕ, zero, suc, Bool, true, false, cond, List, map, [], ◌∷◌, None, Some, refl, ap, sym, ◌∙◌, arith, add-one}
 use Rattle.std.specs.List.{slice_get, range_with_len}
+use Rattle.std.proofs.lemmas.List.{map-append}
 use Rattle.std.proofs.lemmas.Option.{slice_get-get_or, slice_get_past}
 use Rattle.plan_table.specs.declared.value.AnyValue.{AnyValue}
 use Rattle.plan_meaning.specs.Values.{Value, null}
@@ -76,3 +77,12 @@ pub zip-right : (f : Value → Value → Value) (xs ys : List AnyValue) → leng
 zip-right f [] ys h = refl
 zip-right f (x ∷ xs) [] h = refl
 zip-right f (x ∷ xs) (y ∷ ys) h = absurd (omega (arith, h))
+
+-- the values of so many rows, and the next one
+pub values-rows : (at : ℕ → Value) (n : ℕ) → map at (range_with_len 0 (n + 1)) ≡ map at (range_with_len 0 n) ++ at n ∷ []
+values-rows at n =
+    let q : 0 + n ≡ n = omega arith in
+    ap (λ (k : ℕ). map at (range_with_len 0 k)) (add-one n)
+    ∙ ap (map at) (range-more 0 n)
+    ∙ map-append at (range_with_len 0 n) ((0 + n) ∷ [])
+    ∙ ap (λ (k : ℕ). map at (range_with_len 0 n) ++ at k ∷ []) q

@@ -2,4 +2,6 @@
 pub mod Shown
 pub mod Fitting
 pub mod Given
+pub mod Pairs
 pub mod Stacks
+pub mod Groups

@@ -1,10 +1,14 @@
 //! Which tables fit a plan, and the table that a plan gives over them.
 #![tactic(auto)]
 
+mod aggregates;
+mod choices;
 mod exprs;
 mod filter;
 mod fitting;
 mod frame_scan;
+mod functions;
+mod groups;
 mod hstack;
 mod inputs;
 mod made;
@@ -15,6 +19,7 @@ mod rows;
 mod scan;
 mod select;
 mod slice;
+mod spread;
 mod stack;
 #[cfg(test)]
 mod tests;

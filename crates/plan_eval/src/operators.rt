@@ -10,7 +10,7 @@ use plan_table::AnyValue;
 use std::cmp::Ordering;
 
 /// How two values of one type, which is no list, stand: numbers by size, texts by their bytes, false before true.
-fn ordering(left: &AnyValue, right: &AnyValue) -> Ordering
+pub fn ordering(left: &AnyValue, right: &AnyValue) -> Ordering
     ensures { result ≡ value_cmp (value_of left.now) (value_of right.now) }
 {
     match (left, right) {
@@ -31,17 +31,12 @@ fn known(left: &AnyValue, right: &AnyValue, truth: bool) -> AnyValue
     }
 }
 
-/// Whether two values of one type are the same, null being the same as null alone, and lists value by value.
-#[tactic(auto, using(crate::proofs::SameLemmas::lists_same))]
-fn same(left: &AnyValue, right: &AnyValue) -> bool
+/// Whether two values are the same, null being the same as null alone, and lists value by value.
+#[tactic(auto, using(crate::proofs::SameLemmas::values_same))]
+pub fn same(left: &AnyValue, right: &AnyValue) -> bool
     ensures { result ≡ same_value (value_of left.now) (value_of right.now) }
 {
-    match (left, right) {
-        (AnyValue::Null, AnyValue::Null) => true,
-        (AnyValue::Null, _) | (_, AnyValue::Null) => false,
-        (AnyValue::List(a), AnyValue::List(b)) => a == b,
-        _ => ordering(left, right).is_eq(),
-    }
+    left == right
 }
 
 /// False where a side is false, true where both are true, else null.

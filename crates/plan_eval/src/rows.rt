@@ -1,15 +1,15 @@
 //! Rows of a table, by their numbers.
 ghost use Rattle.std.specs.Prelude.{◌≡◌, IfOk};
-ghost use Rattle.plan_meaning.specs.Frames.{picked as picked_of, row as row_of, rows_at as rows_of};
+ghost use Rattle.plan_meaning.specs.Frames.{Agree, picked as picked_of, row as row_of, rows_at as rows_of};
 ghost use Rattle.plan_eval.specs.Given.{schema_of};
 ghost use Rattle.plan_eval.specs.Shown.{column_shown, frame_of, value_of, values_of};
 
-use plan_core::{Items, TryClone};
+use plan_core::{Items, PlSmallStr, TryClone};
 use plan_table::{AnyValue, Column, Columns, Table};
 use std::alloc::{AllocError, Global};
 
 /// The value in a row; null where there is no such row.
-fn value_in(alloc: Global, values: &[AnyValue], row: usize) -> Result<AnyValue, AllocError>
+pub fn value_in(alloc: Global, values: &[AnyValue], row: usize) -> Result<AnyValue, AllocError>
     ensures { IfOk result (λ v. value_of v ≡ row_of (values_of values.now) row) }
 {
     match values.get(row) {
@@ -19,7 +19,11 @@ fn value_in(alloc: Global, values: &[AnyValue], row: usize) -> Result<AnyValue, 
 }
 
 /// The values in these rows, in this order.
-fn picked(alloc: Global, values: &[AnyValue], rows: &[usize]) -> Result<Items<AnyValue>, AllocError>
+pub fn picked(
+    alloc: Global,
+    values: &[AnyValue],
+    rows: &[usize],
+) -> Result<Items<AnyValue>, AllocError>
     ensures { IfOk result (λ vs. values_of vs ≡ picked_of rows.now (values_of values.now)) }
 {
     let mut picked = Items::new(alloc);
@@ -49,6 +53,27 @@ pub fn rows_at(alloc: Global, table: &Table, rows: &[usize]) -> Result<Table, Al
     let mut columns = Columns::new(alloc);
     for column in table.columns.iter() {
         columns.with_column(picked_column(alloc, column, rows)?)?;
+    }
+    Ok(Table {
+        height: rows.len(),
+        columns,
+    })
+}
+
+/// The table of these rows of a table, in this order, with its columns of some names alone.
+pub fn rows_of_columns(
+    alloc: Global,
+    table: &Table,
+    rows: &[usize],
+    names: &[PlSmallStr],
+) -> Result<Table, AllocError>
+    ensures { IfOk result (λ t. Agree names.now (frame_of t) (rows_of rows.now (frame_of table.now))) }
+{
+    let mut columns = Columns::new(alloc);
+    for name in names {
+        if let Some(column) = table.columns.get(name.as_str()) {
+            columns.with_column(picked_column(alloc, column, rows)?)?;
+        }
     }
     Ok(Table {
         height: rows.len(),
