@@ -5,6 +5,7 @@ use Rattle.plan_core.specs.declared.data_type.DataType.{DataType}
 use Rattle.plan_core.specs.declared.data_type.DataType.TheVariants as types
 use Rattle.plan_core.specs.Columns.{Columns, type_of}
 use Rattle.plan_core.specs.Names.{has, with_names, AreDistinct}
+use Rattle.plan_expr.specs.Forms.{has_form}
 use Rattle.plan_expr.specs.Exprs.{Named}
 use Rattle.plan_expr.specs.Leaves.{Name, leaves}
 use Rattle.plan_expr.specs.Naming.{name_of, naming, may_be_named}
@@ -104,6 +105,7 @@ module _ (base : Columns) (es : List Named) (stored s : Columns) (good : MadeGoo
     -- what the checks on it say
     pub left_made : (base' stored' : Columns) → AreDistinct (out_names ks) → stored' ≡ made_schema base' ks r → MadeGood base' ks stored' r
     left_made base' stored' once is = record {
+      formed = sub (λ (e : Named). has_form e.expr ≡ true) good.formed;
       known = same_known ks r s same (sub (λ (e : Named). all_known (leaves e.expr) s ≡ true) good.known);
       typed = same_typed ks r s same (sub (λ (e : Named). is_some (expr_type e.expr s) ≡ true) good.typed);
       once = new_from 1 [] (out_names ks) (λ a i. refl) once;

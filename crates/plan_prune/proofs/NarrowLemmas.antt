@@ -90,7 +90,7 @@ filter_names p wanted r s good h =
     let all_of = with_names wanted (leaves p.expr) in
     let same : (a : Name) → has (leaves p.expr) a ≡ true → type_of r a ≡ type_of s a = λ a i. holding_same all_of r s h a (adds_names wanted (leaves p.expr) a i) in
     record {
-      good = (known_within (leaves p.expr) r s same ∙ good.0, (ap (λ (o : Option DataType). is_type o types.Boolean) (type_within p.expr r s same) ∙ good.1.0, good.1.1));
+      good = (good.0, (known_within (leaves p.expr) r s same ∙ good.1.0, (ap (λ (o : Option DataType). is_type o types.Boolean) (type_within p.expr r s same) ∙ good.1.1.0, good.1.1.1)));
       schema = holding_fewer wanted all_of r s (λ a i. keeps_names wanted (leaves p.expr) a i) h;
       fits = λ c k. k;
       step = λ c fs gs f k hr has ag st. one_step c (filter p) (filter p) (names all_of) (names wanted) r s
