@@ -16,7 +16,8 @@ use Rattle.plan_doc.specs.declared.document.ReadError.{ReadError}
 use Rattle.plan_doc.specs.declared.document.ReadError.TheVariants as errors
 use Rattle.plan_doc.specs.Parts.{◌>>=◌, entries_of, each, object_of, nullable, number_of, link_of}
 use Rattle.plan_doc.specs.Built.{built_flags, unshared_of}
-use Rattle.plan_doc.specs.Nodes.{node_of, expr_of}
+use Rattle.plan_doc.specs.Exprs.{expr_of}
+use Rattle.plan_doc.specs.Nodes.{node_of}
 use Rattle.plan_doc.specs.Tables.{tables_of}
 
 -- a number whose bits all have names, as flags

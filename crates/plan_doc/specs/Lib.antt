@@ -3,6 +3,7 @@ pub mod Gives
 pub mod Each
 pub mod Parts
 pub mod Built
+pub mod Exprs
 pub mod Nodes
 pub mod Tables
 pub mod Document

@@ -1,19 +1,11 @@
--- The expressions and nodes that the entries of a document stand for.
-use Rattle.std.specs.Prelude.{ℕ, List, [], ◌∷◌, Option, Some, None, is_some, if◌then◌else◌, codes, bytes_eq}
+-- The nodes that the entries of a document stand for.
+use Rattle.std.specs.Prelude.{ℕ, List, [], ◌∷◌, Option, Some, None, if◌then◌else◌, codes, bytes_eq}
 use Rattle.serde_json.specs.Data.{Data}
-use Rattle.serde_json.specs.Find.{get, as_null}
+use Rattle.serde_json.specs.Find.{get}
 use Rattle.plan_core.specs.Options.{default_scan}
-use Rattle.plan_core.specs.declared.data_type.PlainType.{PlainType}
-use Rattle.plan_core.specs.declared.data_type.PlainType.TheVariants as plains
 use Rattle.plan_core.specs.declared.options.FileScanOptions.{FileScanOptions}
 use Rattle.plan_core.specs.declared.options.ProjectionOptions.{ProjectionOptions}
 use Rattle.plan_core.specs.Columns.{Columns}
-use Rattle.plan_expr.specs.declared.operator.Operator.{Operator}
-use Rattle.plan_expr.specs.declared.operator.Operator.TheVariants as operators
-use Rattle.plan_expr.specs.declared.literal.LiteralValue.{LiteralValue}
-use Rattle.plan_expr.specs.declared.literal.LiteralValue.TheVariants as literals
-use Rattle.plan_expr.specs.declared.aexpr.AExpr.{AExpr}
-use Rattle.plan_expr.specs.declared.aexpr.AExpr.TheVariants as exprs
 use Rattle.plan_expr.specs.declared.expr_ir.ExprIR.{ExprIR}
 use Rattle.plan_ir.specs.declared.scan.FileScan.{FileScan}
 use Rattle.plan_ir.specs.declared.scan.FileScan.TheVariants as kinds
@@ -22,98 +14,8 @@ use Rattle.plan_ir.specs.declared.scan.ScanSources.TheVariants as sources
 use Rattle.plan_ir.specs.declared.scan.FileInfo.{FileInfo}
 use Rattle.plan_ir.specs.declared.ir.IR.{IR}
 use Rattle.plan_ir.specs.declared.ir.IR.TheVariants as nodes
-use Rattle.plan_doc.specs.Parts.{◌>>=◌, object_of, nullable, name_of, number_of, link_of, integer_of, truth_of, names_of, plain_of, columns_of, output_of, outputs_of, slice_of, options_of}
+use Rattle.plan_doc.specs.Parts.{◌>>=◌, object_of, nullable, name_of, number_of, link_of, integer_of, truth_of, names_of, columns_of, output_of, outputs_of, slice_of, options_of}
 use Rattle.plan_doc.specs.Built.{one_path, null_fields}
-
--- the operator that a text names
-unfoldable pub operator_named : List ℕ → Option Operator
-operator_named s =
-    if bytes_eq s (codes "Eq") then Some operators.Eq else (
-    if bytes_eq s (codes "NotEq") then Some operators.NotEq else (
-    if bytes_eq s (codes "Lt") then Some operators.Lt else (
-    if bytes_eq s (codes "LtEq") then Some operators.LtEq else (
-    if bytes_eq s (codes "Gt") then Some operators.Gt else (
-    if bytes_eq s (codes "GtEq") then Some operators.GtEq else (
-    if bytes_eq s (codes "EqValidity") then Some operators.EqValidity else (
-    if bytes_eq s (codes "NotEqValidity") then Some operators.NotEqValidity else (
-    if bytes_eq s (codes "And") then Some operators.And else (
-    if bytes_eq s (codes "Or") then Some operators.Or else (
-    if bytes_eq s (codes "Xor") then Some operators.Xor else (
-    if bytes_eq s (codes "Plus") then Some operators.Plus else (
-    if bytes_eq s (codes "Minus") then Some operators.Minus else (
-    if bytes_eq s (codes "Multiply") then Some operators.Multiply else None)))))))))))))
-
--- the name of an operator
-unfoldable pub operator_of : Data → Option Operator
-operator_of d = do
-  s ← name_of d
-  operator_named s
-
--- a column by its name
-unfoldable pub column_expr_of : Data → Option AExpr
-column_expr_of d = do
-  o ← object_of (codes "name" ∷ codes "op" ∷ []) d
-  name ← get (codes "name") o
-  n ← name_of name
-  Some (exprs.Column n)
-
--- a value of the type
-abbrev pub value_of : PlainType → Data → Option LiteralValue
-value_of plains.Int64 d = do
-  n ← integer_of d
-  Some (literals.Int64 n)
-value_of plains.String d = do
-  s ← name_of d
-  Some (literals.String s)
-value_of plains.Boolean d = do
-  b ← truth_of d
-  Some (literals.Boolean b)
-
--- null of the type, or a value of it
-abbrev pub value_or_null : PlainType → Data → Option LiteralValue
-value_or_null t d = if is_some (as_null d) then Some (literals.Null t) else value_of t d
-
--- a value that is written out
-unfoldable pub literal_of : Data → Option AExpr
-literal_of d = do
-  o ← object_of (codes "op" ∷ codes "type" ∷ codes "value" ∷ []) d
-  type ← get (codes "type") o
-  t ← plain_of type
-  value ← get (codes "value") o
-  v ← value_or_null t value
-  Some (exprs.Literal v)
-
--- an entry under another name
-unfoldable pub alias_of : Data → Option AExpr
-alias_of d = do
-  o ← object_of (codes "input" ∷ codes "name" ∷ codes "op" ∷ []) d
-  input ← get (codes "input") o
-  i ← link_of input
-  name ← get (codes "name") o
-  n ← name_of name
-  Some (exprs.Alias i n)
-
--- an operator over two entries
-unfoldable pub binary_of : Data → Option AExpr
-binary_of d = do
-  o ← object_of (codes "left" ∷ codes "op" ∷ codes "operator" ∷ codes "right" ∷ []) d
-  left ← get (codes "left") o
-  l ← link_of left
-  operator ← get (codes "operator") o
-  op ← operator_of operator
-  right ← get (codes "right") o
-  r ← link_of right
-  Some (exprs.BinaryExpr l op r)
-
--- the expression of an entry
-unfoldable pub expr_of : Data → Option AExpr
-expr_of d = do
-  op ← get (codes "op") d
-  s ← name_of op
-  if bytes_eq s (codes "Column") then column_expr_of d else (
-      if bytes_eq s (codes "Literal") then literal_of d else (
-      if bytes_eq s (codes "Alias") then alias_of d else (
-      if bytes_eq s (codes "BinaryExpr") then binary_of d else None)))
 
 -- some rows of the input, one after another
 unfoldable pub slice_node_of : Data → Option IR

@@ -76,6 +76,12 @@ link_of d = do
   n ← number_of d
   Some (record { 0 = n })
 
+-- an array of numbers of entries
+unfoldable pub links_of : Data → Option (List Node)
+links_of d = do
+  ds ← entries_of d
+  each link_of ds
+
 -- a whole number of 64 signed bits
 unfoldable pub integer_of : Data → Option ℤ
 integer_of d = do

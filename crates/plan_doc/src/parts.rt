@@ -3,7 +3,7 @@ ghost use Rattle.std.specs.Prelude.{◌≡◌, map};
 ghost use Rattle.serde_json.specs.Find.{get, as_null};
 ghost use Rattle.serde_json.specs.View.{view};
 ghost use Rattle.plan_doc.specs.Gives.{Gives, Shows};
-ghost use Rattle.plan_doc.specs.Parts.{entries_of, object_of, name_of, number_of, link_of, truth_of, integer_of, names_of, two_of, three_of, type_of, plain_of, column_of, columns_of, output_of, outputs_of, slice_of, options_of, count_of, has_keys as has_keys_of};
+ghost use Rattle.plan_doc.specs.Parts.{entries_of, object_of, name_of, number_of, link_of, links_of, truth_of, integer_of, names_of, two_of, three_of, type_of, plain_of, column_of, columns_of, output_of, outputs_of, slice_of, options_of, count_of, has_keys as has_keys_of};
 
 use crate::arrays::each;
 use crate::fault::Fault;
@@ -81,6 +81,15 @@ pub fn link(value: &Value) -> Result<Node, Fault>
 {
     let number = number(value)?;
     Ok(Node(number as usize))
+}
+
+/// An array of numbers of nodes or of expressions.
+#[tactic(auto, unfolding(crate::specs::Parts::links_of))]
+pub fn links(alloc: Global, value: &Value) -> Result<Items<Node>, Fault>
+    ensures { Gives result (links_of (view value.now)) }
+{
+    let entries = entries(value)?;
+    each(alloc, entries, |entry| link(entry))
 }
 
 /// A whole number of 64 signed bits.

@@ -4,6 +4,8 @@
 #[cfg(test)]
 mod documents;
 #[cfg(test)]
+mod exprs;
+#[cfg(test)]
 mod further;
 #[cfg(test)]
 mod tables;
