@@ -26,6 +26,22 @@ pub fn is_answered(
     Ok(told.as_str() == status && sink.bytes() == wanted.as_bytes())
 }
 
+/// Whether `optimize` answers a document with rows of one column `r`, of this type and with these values.
+pub fn has_values(
+    alloc: Global,
+    document: &str,
+    dtype: &str,
+    values: &str,
+) -> Result<bool, AllocError> {
+    let words = [String::from_str(alloc, "optimize")?];
+    let mut source = MemorySource::new(document.as_bytes(), 4096);
+    let mut sink = MemorySink::new(alloc, 100000)?;
+    let code = run(alloc, &words, &mut source, &mut sink).code();
+    let wanted = format!(in alloc; r#""rows":{{"columns":[["r","{dtype}",{values}]],"height":"#)?;
+    let text = str::from_utf8(sink.bytes()).unwrap_or("");
+    Ok(code == 0 && text.contains(wanted.as_str()))
+}
+
 /// Whether a document reads as `wanted`: as a document, as JSON of another form, or as no JSON.
 pub fn reads_as(alloc: Global, document: &str, wanted: &str) -> bool {
     let told = match read_document(alloc, document.as_bytes()) {

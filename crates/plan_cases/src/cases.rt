@@ -1,6 +1,6 @@
 //! The lines of a file of cases.
 
-use crate::answers::{is_answered, reads_as};
+use crate::answers::{has_values, is_answered, reads_as};
 use crate::words::Words;
 use std::alloc::{AllocError, Global};
 
@@ -45,6 +45,24 @@ fn fault<'a>(alloc: Global, words: &mut Words<'a>, told: &str) -> Result<bool, A
     Ok(checked && unpruned && pruned)
 }
 
+/// The expressions make a column of a type and with values, whether pruning is asked or not.
+fn value<'a>(alloc: Global, words: &mut Words<'a>, told: &'a str) -> Result<bool, AllocError> {
+    let Some((made, exprs)) = told.split_once(" = ") else {
+        return Ok(false);
+    };
+    let Some((dtype, values)) = made.split_once(' ') else {
+        return Ok(false);
+    };
+    let known = words.set("<exprs>", exprs) && words.set("<type>", dtype);
+    let mut right = known;
+    for flags in ["0", "1"] {
+        right = right && words.set("<flags>", flags);
+        let document = words.full(alloc, "<document>")?;
+        right = right && has_values(alloc, &document, dtype, values)?;
+    }
+    Ok(right)
+}
+
 /// The document that is given, with a piece replaced where it stands first, reads so.
 fn variant(
     alloc: Global,
@@ -75,6 +93,7 @@ pub fn tried<'a>(alloc: Global, words: &mut Words<'a>, line: &'a str) -> Result<
         "is" => is(alloc, words, "optimize", rest)?,
         "check" => is(alloc, words, "check", rest)?,
         "fault" => fault(alloc, words, rest)?,
+        "value" => value(alloc, words, rest)?,
         "reads" | "form" | "json" => variant(alloc, words, verb, rest)?,
         _ => false,
     };
