@@ -14,10 +14,12 @@ use Rattle.plan_meaning.specs.Exprs.{all_known, is_type}
 use Rattle.plan_meaning.specs.Typing.{is_empty, each, is_known, is_column, has_columns, names_or, columns_or, file_columns, all_read, put_out_checks, scan_name_checks, made_schema, schema_by, schemas, checks, AllHold, AllValid}
 use Rattle.plan_meaning.specs.Steps.{IsValid}
 use Rattle.plan_meaning.specs.Relating.{Asked, all, names, cached}
-use Rattle.plan_meaning.specs.Asked.{asked_names, is_asked, set_of, with_more, kept, asks_columns, kept_exprs, selected_exprs, all_leaves, asks_selected, asks_added, asks_stacked, asks, own_site, sites, reads, allowed, Fair, IsFair, SiteFair, AllSites}
+use Rattle.plan_meaning.specs.Counting.{counts_rows, stand_ins, first_stand_in, stand_in_names}
+use Rattle.plan_meaning.specs.Asked.{asked_names, is_asked, set_of, with_more, kept, asks_columns, kept_exprs, selected_exprs, all_leaves, needed_names, asks_selected, asks_added, asks_stacked, asks, own_site, sites, reads, allowed, Fair, IsFair, SiteFair, AllSites}
 use Rattle.plan_meaning.proofs.NameSets.{has_cons, has_first, has_later, some-type_of, keeps_names, from_names, distinct_names, distinct_none}
 use Rattle.plan_meaning.proofs.CheckParts.{hold_front, each_pass, known_leaf, scan_good, made_good}
 use Rattle.plan_meaning.proofs.MadeColumns.{types_kept}
+use Rattle.plan_meaning.proofs.StandIns.{IsStandIn, AreStandIns, first_stands, are_stand_ins}
 use Rattle.plan_meaning.proofs.KeptExprs.{all_append, all_kept_exprs, all_selected, known_leaves, where_has, distinct_where}
 
 -- each column of a list that passes
@@ -93,10 +95,22 @@ fair_columns cs (names wanted) s h = fair_set (with_names [] (names_of (kept (na
 fair_columns cs cached s h = tt
 
 -- what a selection asks
-fair_selected : (es : List Named) (a : Asked) (s : Columns) → AllByRecursion (λ (e : Named). all_known (leaves e.expr) s ≡ true) es → IsFair (asks_selected es a) s
-fair_selected es all s h = fair_leaves [] (selected_exprs all es) s distinct_none (λ b i. cc) (all_selected (λ (e : Named). all_known (leaves e.expr) s ≡ true) all es h)
-fair_selected es (names wanted) s h = fair_leaves [] (selected_exprs (names wanted) es) s distinct_none (λ b i. cc) (all_selected (λ (e : Named). all_known (leaves e.expr) s ≡ true) (names wanted) es h)
-fair_selected es cached s h = tt
+
+fair_stand_in : (o : Option Name) (s : Columns) → IsStandIn o s → IsFair (set_of (stand_in_names o)) s
+fair_stand_in None s k = tt
+fair_stand_in (Some a) s k = record { some = refl; once = distinct_names [] (a ∷ []) distinct_none; known = λ b i. ⊎_elim (λ (e : b ≡ a). ap (λ (x : Name). is_some (type_of s x)) e ∙ k) (λ (e : has [] b ≡ true). absurd (cc)) (has_cons a [] b i) }
+
+fair_named : (es : List Named) (o : Option Name) (a : Asked) (s : Columns) → IsStandIn o s → AllByRecursion (λ (e : Named). all_known (leaves e.expr) s ≡ true) es → IsFair (set_of (needed_names es o (selected_exprs a es))) s
+fair_named es o a s k h = at (counts_rows es)
+  where
+    at : (t : Bool) → IsFair (set_of (cond t (stand_in_names o) (with_names [] (all_leaves (selected_exprs a es))))) s
+    at true = fair_stand_in o s k
+    at false = fair_leaves [] (selected_exprs a es) s distinct_none (λ b i. cc) (all_selected (λ (e : Named). all_known (leaves e.expr) s ≡ true) a es h)
+
+fair_selected : (es : List Named) (o : Option Name) (a : Asked) (s : Columns) → IsStandIn o s → AllByRecursion (λ (e : Named). all_known (leaves e.expr) s ≡ true) es → IsFair (asks_selected es o a) s
+fair_selected es o all s k h = fair_named es o all s k h
+fair_selected es o (names wanted) s k h = fair_named es o (names wanted) s k h
+fair_selected es o cached s k h = tt
 
 -- what an addition asks
 
@@ -121,17 +135,17 @@ FairAll (a ∷ asked) (s ∷ ss) = IsFair a s × FairAll asked ss
 FairAll _ _ = ⊥
 
 -- per node: what it asks can be asked of its inputs
-pub fair_asks : (op : Op) (a : Asked) (ss : List Columns) → AllHold (checks op ss) → IsFair a (schema_by op ss) → FairAll (asks op a ss) ss
-fair_asks (filter predicate) a (s ∷ []) good f = (fair_more (leaves predicate.expr) a s (λ b i. known_leaf (leaves predicate.expr) s b good.1.0 i) f, tt)
-fair_asks (scan sources info predicate output kind options) a [] good f = tt
-fair_asks (simple_projection cols) a (s ∷ []) good f =
+pub fair_asks : (op : Op) (a : Asked) (ss : List Columns) (os : List (Option Name)) → AllHold (checks op ss) → AreStandIns os ss → IsFair a (schema_by op ss) → FairAll (asks op a ss os) ss
+fair_asks (filter predicate) a (s ∷ []) os good k f = (fair_more (leaves predicate.expr) a s (λ b i. known_leaf (leaves predicate.expr) s b good.1.0 i) f, tt)
+fair_asks (scan sources info predicate output kind options) a [] os good k f = tt
+fair_asks (simple_projection cols) a (s ∷ []) os good k f =
     let known = each_pass SchemaFieldNotFound 1 (λ (c : Name × DataType). is_known s c.0) cols (hold_front (each SchemaFieldNotFound 1 (λ (c : Name × DataType). is_known s c.0) cols) (each SchemaMismatch 1 (is_column s) cols) good.1) in
     (fair_columns cols a s known, tt)
-fair_asks (slice offset len) a (s ∷ []) good f = (f, tt)
-fair_asks (frame_scan df schema output) a [] good f = tt
-fair_asks (select es stored options) a (s ∷ []) good f = (fair_selected es a s (made_good [] es stored s good.1).known, tt)
-fair_asks (hstack es stored options) a (s ∷ []) good f = (fair_stacked es a s (made_good s es stored s good).known f, tt)
-fair_asks op a ss good f = absurd (cc)
+fair_asks (slice offset len) a (s ∷ []) os good k f = (f, tt)
+fair_asks (frame_scan df schema output) a [] os good k f = tt
+fair_asks (select es stored options) a (s ∷ []) os good k f = (fair_selected es (first_stand_in os) a s (first_stands os s [] k) (made_good [] es stored s good.1).known, tt)
+fair_asks (hstack es stored options) a (s ∷ []) os good k f = (fair_stacked es a s (made_good s es stored s good).known f, tt)
+fair_asks op a ss os good k f = absurd (cc)
 
 -- scans
 
@@ -210,9 +224,9 @@ pub sites_fair : (ts : Roses (Unit {0}) Op) (asked : List Asked) → AllValid ts
 sites_fair no_roses asked v f = tt
 sites_fair (more (rose n op ts) rest) [] v f = absurd f
 sites_fair (more (rose n op ts) rest) (a ∷ asked) v f =
-    let below = asks op a (schemas ts) in
+    let below = asks op a (schemas ts) (stand_ins ts (schemas ts)) in
     all_append SiteFair (own_site op a) (sites ts below ++ sites rest asked) (site_fair op a (schemas ts) v.0 f.0)
-    (all_append SiteFair (sites ts below) (sites rest asked) (sites_fair ts below v.1 (fair_asks op a (schemas ts) v.0 f.0)) (sites_fair rest asked v.2 f.1))
+    (all_append SiteFair (sites ts below) (sites rest asked) (sites_fair ts below v.1 (fair_asks op a (schemas ts) (stand_ins ts (schemas ts)) v.0 (are_stand_ins ts) f.0)) (sites_fair rest asked v.2 f.1))
 
 -- in a valid plan each scan is asked names of its own, and may read for them what it reads
 pub plan_sites_fair : (p : Plan) → IsValid p → AllSites SiteFair p

@@ -5,6 +5,7 @@ use Rattle.plan_tree.specs.Rose.{Roses, rose, no_roses, more}
 use Rattle.plan_ir.specs.Plans.{Op, slice, filter, scan, frame_scan, simple_projection, select, hstack, invalid, Plan}
 use Rattle.plan_meaning.specs.Typing.{schemas}
 use Rattle.plan_meaning.specs.Relating.{Asked}
+use Rattle.plan_meaning.specs.Counting.{stand_ins}
 use Rattle.plan_meaning.specs.Asked.{asks, first_asked, rest_asked, Site, own_site, sites}
 use Rattle.plan_meaning.specs.Scans.{own_scan, scans, scans_in, SameScan, KeepScans, Keeps}
 
@@ -73,8 +74,8 @@ pub sites-scans : (ts : Roses (Unit {0}) Op) (asked : List Asked) → map (λ (s
 sites-scans no_roses asked = refl
 sites-scans (more (rose n op ts) rest) asked =
     let own = own_site op (first_asked asked) in
-    let below = sites ts (asks op (first_asked asked) (schemas ts)) in
+    let below = sites ts (asks op (first_asked asked) (schemas ts) (stand_ins ts (schemas ts))) in
     let others = sites rest (rest_asked asked) in
     map-append (λ (s : Site). s.at_scan) own (below ++ others)
-    ∙ ap₂ (λ (x y : List Op). x ++ y) (own-site op (first_asked asked)) (map-append (λ (s : Site). s.at_scan) below others ∙ ap₂ (λ (x y : List Op). x ++ y) (sites-scans ts (asks op (first_asked asked) (schemas ts))) (sites-scans rest (rest_asked asked)))
+    ∙ ap₂ (λ (x y : List Op). x ++ y) (own-site op (first_asked asked)) (map-append (λ (s : Site). s.at_scan) below others ∙ ap₂ (λ (x y : List Op). x ++ y) (sites-scans ts (asks op (first_asked asked) (schemas ts) (stand_ins ts (schemas ts)))) (sites-scans rest (rest_asked asked)))
     ∙ sym (append_assoc (own_scan op) (scans_in ts) (scans_in rest))

@@ -14,7 +14,8 @@ use Rattle.plan_meaning.specs.Exprs.{all_known}
 use Rattle.plan_meaning.specs.Typing.{AllHold, each_new, out_names}
 use Rattle.plan_meaning.specs.Steps.{all_scalar}
 use Rattle.plan_meaning.specs.Relating.{Asked, all}
-use Rattle.plan_meaning.specs.Asked.{is_asked, kept_exprs, first_many, selected_exprs, all_leaves}
+use Rattle.plan_meaning.specs.Counting.{first_many}
+use Rattle.plan_meaning.specs.Asked.{is_asked, kept_exprs, selected_exprs, all_leaves}
 use Rattle.plan_meaning.proofs.NameSets.{named, has_cons, has_first, has_later, has_front, has_either, has-append}
 use Rattle.plan_meaning.proofs.CheckParts.{known_leaf, pass_names}
 use Rattle.plan_meaning.proofs.MadeColumns.{first_apart}

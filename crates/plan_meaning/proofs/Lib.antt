@@ -21,5 +21,7 @@ pub mod Runs
 pub mod Refining
 pub mod Related
 pub mod Validity
+mod Counts
+pub mod StandIns
 pub mod Fairness
 pub mod Keeping

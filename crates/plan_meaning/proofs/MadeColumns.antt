@@ -16,7 +16,8 @@ use Rattle.plan_meaning.specs.Frames.{Frame, Column, HaveTypes, found, with_colu
 use Rattle.plan_meaning.specs.Meaning.{val, filled}
 use Rattle.plan_meaning.specs.Steps.{all_scalar, made_columns}
 use Rattle.plan_meaning.specs.Relating.{Asked}
-use Rattle.plan_meaning.specs.Asked.{is_asked, kept_exprs, first_many, selected_exprs}
+use Rattle.plan_meaning.specs.Counting.{first_many}
+use Rattle.plan_meaning.specs.Asked.{is_asked, kept_exprs, selected_exprs}
 use Rattle.plan_meaning.proofs.NameSets.{named, same_named, distinct_cons}
 
 -- one column put over others

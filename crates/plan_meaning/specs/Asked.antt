@@ -1,5 +1,5 @@
 -- What each node of a plan is asked from above, the scans with what they are asked, and what these may read.
-use Rattle.std.specs.Prelude.{◌≡◌, Bool, true, false, List, [], ◌∷◌, ◌++◌, is_some, if◌then◌else◌}
+use Rattle.std.specs.Prelude.{◌≡◌, Bool, true, false, List, [], ◌∷◌, ◌++◌, Option, is_some, if◌then◌else◌}
 use Rattle.std.specs.List.{AllByRecursion, filter as only_where}
 use Rattle.plan_core.specs.declared.data_type.DataType.{DataType}
 use Rattle.plan_core.specs.Columns.{Columns, names_of, type_of}
@@ -9,9 +9,9 @@ use Rattle.plan_expr.specs.Exprs.{Named}
 use Rattle.plan_ir.specs.Plans.{Op, slice, filter, scan, frame_scan, simple_projection, select, hstack, invalid, Plan}
 use Rattle.plan_expr.specs.Leaves.{Name, leaves}
 use Rattle.plan_expr.specs.Naming.{name_of}
-use Rattle.plan_expr.specs.Scalars.{is_scalar}
 use Rattle.plan_meaning.specs.Typing.{is_empty, names_or, columns_or, file_columns, first_schema, schema_by, schemas}
 use Rattle.plan_meaning.specs.Steps.{all_scalar}
+use Rattle.plan_meaning.specs.Counting.{first_many, counts_rows, stand_ins, first_stand_in, stand_in_names}
 use Rattle.plan_meaning.specs.Relating.{Asked, all, names, cached}
 
 -- the names that are asked, where not everything is
@@ -51,11 +51,6 @@ asks_columns cs cached = cached
 abbrev pub kept_exprs : Asked → List Named → List Named
 kept_exprs a es = only_where (λ (e : Named). is_asked a (name_of e.name)) es
 
--- the first expression that isn't scalar, if there is one
-abbrev pub first_many : List Named → List Named
-first_many [] = []
-first_many (e ∷ es) = if is_scalar e.expr then first_many es else e ∷ []
-
 -- what a selection keeps: the expressions that are asked; where these are scalar throughout, the first that isn't too, last, since the height is its
 abbrev pub selected_exprs : Asked → List Named → List Named
 selected_exprs a es = if all_scalar (kept_exprs a es) then kept_exprs a es ++ first_many es else kept_exprs a es
@@ -65,11 +60,15 @@ abbrev pub all_leaves : List Named → List Name
 all_leaves [] = []
 all_leaves (e ∷ es) = leaves e.expr ++ all_leaves es
 
--- a selection asks for what the expressions read that it keeps
-abbrev pub asks_selected : List Named → Asked → Asked
-asks_selected es all = set_of (with_names [] (all_leaves (selected_exprs all es)))
-asks_selected es (names wanted) = set_of (with_names [] (all_leaves (selected_exprs (names wanted) es)))
-asks_selected es cached = cached
+-- the names that a selection of the first expressions needs where it keeps the last: a count of rows the column that stands in for them, else what the kept ones read
+abbrev pub needed_names : List Named → Option Name → List Named → List Name
+needed_names es o ks = if counts_rows es then stand_in_names o else with_names [] (all_leaves ks)
+
+-- a selection asks for the names that it needs, over an input with this stand-in
+abbrev pub asks_selected : List Named → Option Name → Asked → Asked
+asks_selected es o all = set_of (needed_names es o (selected_exprs all es))
+asks_selected es o (names wanted) = set_of (needed_names es o (selected_exprs (names wanted) es))
+asks_selected es o cached = cached
 
 -- an addition of these expressions asks for the asked names that its input has, and for what the expressions read; without expressions it asks what it is asked
 abbrev pub asks_added : List Named → List Name → Columns → Asked
@@ -82,16 +81,16 @@ asks_stacked es all s = all
 asks_stacked es (names wanted) s = asks_added (kept_exprs (names wanted) es) wanted s
 asks_stacked es cached s = cached
 
--- what a node asks of its inputs, by the columns of these
-abbrev pub asks : Op → Asked → List Columns → List Asked
-asks (slice offset len) a ss = a ∷ []
-asks (filter predicate) a ss = with_more (leaves predicate.expr) a ∷ []
-asks (scan sources info predicate output kind options) a ss = []
-asks (frame_scan df schema output) a ss = []
-asks (simple_projection columns) a ss = asks_columns columns a ∷ []
-asks (select exprs schema options) a ss = asks_selected exprs a ∷ []
-asks (hstack exprs schema options) a ss = asks_stacked exprs a (first_schema ss) ∷ []
-asks invalid a ss = []
+-- what a node asks of its inputs, by the columns of these and those that stand in for their rows
+abbrev pub asks : Op → Asked → List Columns → List (Option Name) → List Asked
+asks (slice offset len) a ss os = a ∷ []
+asks (filter predicate) a ss os = with_more (leaves predicate.expr) a ∷ []
+asks (scan sources info predicate output kind options) a ss os = []
+asks (frame_scan df schema output) a ss os = []
+asks (simple_projection columns) a ss os = asks_columns columns a ∷ []
+asks (select exprs schema options) a ss os = asks_selected exprs (first_stand_in os) a ∷ []
+asks (hstack exprs schema options) a ss os = asks_stacked exprs a (first_schema ss) ∷ []
+asks invalid a ss os = []
 
 -- the first of what is asked, everything where there is none
 abbrev pub first_asked : List Asked → Asked
@@ -123,7 +122,7 @@ own_site invalid a = []
 abbrev pub sites : Roses (Unit {0}) Op → List Asked → List Site
 sites no_roses asked = []
 sites (more (rose n op ts) rest) asked =
-    own_site op (first_asked asked) ++ (sites ts (asks op (first_asked asked) (schemas ts)) ++ sites rest (rest_asked asked))
+    own_site op (first_asked asked) ++ (sites ts (asks op (first_asked asked) (schemas ts) (stand_ins ts (schemas ts))) ++ sites rest (rest_asked asked))
 
 -- the scans of a plan from left to right; its root is asked everything
 abbrev pub sites_of : Plan → List Site

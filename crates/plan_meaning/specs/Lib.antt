@@ -12,6 +12,7 @@ pub mod Contents
 pub mod Steps
 pub mod Relating
 pub mod PlanAt
+pub mod Counting
 pub mod Asked
 pub mod Work
 pub mod Scans

@@ -6,6 +6,7 @@ use Rattle.plan_expr.specs.Exprs.{ExprOp, column, literal, alias, binary, ternar
 use Rattle.plan_ir.specs.Plans.{Op, slice, filter, scan, frame_scan, simple_projection, select, hstack, invalid, Plan}
 use Rattle.plan_meaning.specs.Typing.{schemas}
 use Rattle.plan_meaning.specs.Relating.{Asked, all}
+use Rattle.plan_meaning.specs.Counting.{stand_ins}
 use Rattle.plan_meaning.specs.Asked.{kept_exprs, selected_exprs, asks, first_asked, rest_asked}
 
 -- whether an operator is a column
@@ -63,7 +64,7 @@ own_kept invalid a = 0
 abbrev pub kept_in : Roses (Unit {0}) Op → List Asked → ℕ
 kept_in no_roses asked = 0
 kept_in (more (rose n op ts) rest) asked =
-    own_kept op (first_asked asked) + (kept_in ts (asks op (first_asked asked) (schemas ts)) + kept_in rest (rest_asked asked))
+    own_kept op (first_asked asked) + (kept_in ts (asks op (first_asked asked) (schemas ts) (stand_ins ts (schemas ts))) + kept_in rest (rest_asked asked))
 
 -- the same of the nodes of a plan of which everything is asked
 abbrev pub kept : Plan → ℕ

@@ -7,6 +7,7 @@ ghost use Rattle.plan_expr.specs.Types.{function_type as type_of_function};
 ghost use Rattle.plan_expr.specs.Leaves.{leaves};
 ghost use Rattle.plan_meaning.specs.Exprs.{all_known, expr_type as type_of_expr, op_type};
 ghost use Rattle.plan_meaning.specs.Firsts.{first_types};
+ghost use Rattle.plan_meaning.specs.Counting.{counts_rows as are_count};
 ghost use Rattle.plan_meaning.specs.Steps.{all_scalar as are_scalar};
 
 use plan_core::{Arena, DataType, Node, Schema};
@@ -120,4 +121,15 @@ pub fn all_scalar(exprs: &[ExprIR], ex: &Arena<AExpr>) -> bool
         }
     }
     true
+}
+
+/// Whether the expressions are the number of rows alone.
+pub fn counts_rows(exprs: &[ExprIR], ex: &Arena<AExpr>) -> bool
+    requires { All (λ e. IsExpr ex.now e.node) exprs.now }
+    ensures { result ≡ are_count (all_named_at ex.now exprs.now) }
+{
+    match exprs {
+        [expr] => matches!(ex.get(expr.node), AExpr::Len),
+        _ => false,
+    }
 }

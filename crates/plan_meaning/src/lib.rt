@@ -10,6 +10,6 @@ mod tests;
 mod tree;
 
 pub use check::{check_filter, check_frame_scan, check_made, check_projection, check_scan};
-pub use exprs::{all_scalar, expr_type, reads_only};
+pub use exprs::{all_scalar, counts_rows, expr_type, reads_only};
 pub use plan::{check_nodes, check_plan};
 pub use tree::check_tree;
