@@ -26,7 +26,8 @@ use Rattle.plan_table.specs.declared.source_key.SourceKey.TheVariants as keys
 use Rattle.plan_table.specs.declared.table.Table.{Table}
 use Rattle.plan_table.specs.Tables.{IsTable, column_of, same_key, table_at, types_of}
 use Rattle.plan_eval.specs.Fitting.{HasColumns, IsMet, Need, TablesFit, needs, needs_by, scan_needs}
-use Rattle.plan_eval.specs.Shown.{contents_of, frame_of, source_of}
+use Rattle.plan_eval.specs.Sources.{contents_of, source_of}
+use Rattle.plan_value.specs.Shown.{frame_of}
 
 -- One source
 

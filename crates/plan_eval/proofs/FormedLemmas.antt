@@ -27,7 +27,8 @@ use Rattle.plan_table.specs.declared.value.PlainValue.{PlainValue}
 use Rattle.plan_table.specs.declared.value.PlainValue.TheVariants as singles
 use Rattle.plan_table.specs.Tables.{IsColumn, IsOf, IsPlainOf, IsTable, table_at, types_of}
 use Rattle.plan_eval.specs.Fitting.{AreFormed, HasColumns, IsMet, needs_by, scan_needs}
-use Rattle.plan_eval.specs.Shown.{columns_shown, contents_of, frame_of, single_of, source_of, value_of, values_of}
+use Rattle.plan_eval.specs.Sources.{contents_of, source_of}
+use Rattle.plan_value.specs.Shown.{columns_shown, frame_of, single_of, value_of, values_of}
 use Rattle.plan_eval.proofs.FitLemmas.{frame-shown}
 
 -- a single value of a type is one when it is shown

@@ -19,8 +19,9 @@ use Rattle.plan_meaning.proofs.Validity.{bare-valid, one_stands, schemas-bare}
 use Rattle.plan_table.specs.declared.source_key.SourceKey.{SourceKey}
 use Rattle.plan_table.specs.declared.table.Table.{Table}
 use Rattle.plan_table.specs.Tables.{HasRows}
-use Rattle.plan_eval.specs.Given.{GiveAll, Gives, schema_of}
-use Rattle.plan_eval.specs.Shown.{contents_of, frame_of}
+use Rattle.plan_eval.specs.Given.{GiveAll, Gives}
+use Rattle.plan_value.specs.Shown.{frame_of, schema_of}
+use Rattle.plan_eval.specs.Sources.{contents_of}
 use Rattle.plan_eval.proofs.FormedLemmas.{have-columns}
 
 module _ (lp : List IR) (ex : List AExpr) (n : Node) (p : IR) (h : IsPlan lp ex n) (entry : slice_get lp n.0 ≡ Some p) where

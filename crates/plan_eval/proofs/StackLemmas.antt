@@ -11,7 +11,8 @@ use Rattle.std.specs.Option.{unwrap_or}
 use Rattle.plan_table.specs.declared.source_key.SourceKey.{SourceKey}
 use Rattle.plan_table.specs.declared.source_key.SourceKey.TheVariants as keys
 use Rattle.plan_table.specs.Tables.{table_at}
-use Rattle.plan_eval.specs.Shown.{contents_of, frame_of}
+use Rattle.plan_eval.specs.Sources.{contents_of}
+use Rattle.plan_value.specs.Shown.{frame_of}
 use Rattle.plan_eval.specs.Stacks.{StacksAs, shown_tables}
 use Rattle.plan_eval.proofs.FitLemmas.{frame-shown}
 

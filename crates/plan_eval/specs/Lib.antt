@@ -1,7 +1,5 @@
 -- The definitions that contracts cite.
-pub mod Shown
+pub mod Sources
 pub mod Fitting
 pub mod Given
-pub mod Pairs
 pub mod Stacks
-pub mod Groups

@@ -5,7 +5,7 @@ use Rattle.plan_expr.specs.Leaves.{Name}
 use Rattle.plan_meaning.specs.Frames.{Frame}
 use Rattle.plan_meaning.specs.Contents.{no_frame, stacked, total_height}
 use Rattle.plan_table.specs.declared.table.Table.{Table}
-use Rattle.plan_eval.specs.Shown.{frame_of}
+use Rattle.plan_value.specs.Shown.{frame_of}
 
 -- the frames that borrowed tables are, in order
 abbrev pub shown_tables : List (Bor Table) → List Frame

@@ -6,13 +6,13 @@ ghost use Rattle.plan_ir.specs.Plans.{filter as filter_op};
 ghost use Rattle.plan_meaning.specs.Steps.{true_rows as true_rows_of};
 ghost use Rattle.plan_table.specs.declared.source_key.SourceKey.{SourceKey};
 ghost use Rattle.plan_table.specs.declared.table.Table.{Table as TableType};
-ghost use Rattle.plan_eval.specs.Given.{cell_of, Gives};
+ghost use Rattle.plan_eval.specs.Given.{Gives};
+ghost use Rattle.plan_value.specs.Cells.{cell_of};
 
-use crate::exprs::{Values, evaluate_expr, is_true_at};
-use crate::rows::rows_at;
 use plan_core::{Arena, Items};
 use plan_expr::{AExpr, ExprIR};
 use plan_table::Table;
+use plan_value::{Values, evaluate_expr, is_true_at, rows_at};
 use std::alloc::{AllocError, Global};
 
 /// The numbers of the rows in which a value is true, of so many rows.

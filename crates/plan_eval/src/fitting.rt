@@ -13,7 +13,7 @@ ghost use Rattle.plan_meaning.specs.Typing.{file_columns, is_column};
 ghost use Rattle.plan_table.specs.Tables.{IsTable, table_at, types_of};
 ghost use Rattle.plan_table.specs.declared.source_key.SourceKey.TheVariants.{Frame as frame_key, Path as path_key};
 ghost use Rattle.plan_eval.specs.Fitting.{AreFormed, HasColumns, IsMet, TablesFit, needs_by, scan_needs};
-ghost use Rattle.plan_eval.specs.Shown.{contents_of};
+ghost use Rattle.plan_eval.specs.Sources.{contents_of};
 
 use crate::inputs::input_of;
 use plan_core::{Arena, DataType, Node, PlSmallStr, Schema};

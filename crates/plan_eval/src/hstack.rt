@@ -8,7 +8,8 @@ ghost use Rattle.plan_ir.specs.Plans.{hstack as hstack_op};
 ghost use Rattle.plan_meaning.specs.Typing.{AllHold, checks};
 ghost use Rattle.plan_table.specs.declared.source_key.SourceKey.{SourceKey};
 ghost use Rattle.plan_table.specs.declared.table.Table.{Table as TableType};
-ghost use Rattle.plan_eval.specs.Given.{Gives, schema_of};
+ghost use Rattle.plan_eval.specs.Given.{Gives};
+ghost use Rattle.plan_value.specs.Shown.{schema_of};
 
 use crate::made::made;
 use plan_core::{Arena, Schema, TryClone};

@@ -7,13 +7,13 @@ ghost use Rattle.plan_expr.specs.Naming.{name_of};
 ghost use Rattle.plan_meaning.specs.Meaning.{filled as filled_with, val};
 ghost use Rattle.plan_meaning.specs.Steps.{made as made_of};
 ghost use Rattle.plan_table.specs.Tables.{types_of};
-ghost use Rattle.plan_eval.specs.Given.{schema_of, stored_column};
-ghost use Rattle.plan_eval.specs.Shown.{column_shown, columns_shown, frame_of};
+ghost use Rattle.plan_eval.specs.Given.{stored_column};
+ghost use Rattle.plan_value.specs.Shown.{column_shown, columns_shown, frame_of, schema_of};
 
-use crate::exprs::{evaluate_expr, filled};
 use plan_core::{Arena, DataType, PlSmallStr, Schema};
 use plan_expr::{AExpr, ExprIR, output_name};
 use plan_table::{Column, Columns, Table};
+use plan_value::{evaluate_expr, filled};
 use std::alloc::{AllocError, Global};
 
 /// The type that a schema has for a column, which it holds.

@@ -11,8 +11,9 @@ ghost use Rattle.plan_meaning.specs.Typing.{AllHold, AllValid, checks, schema};
 ghost use Rattle.plan_table.specs.declared.source_key.SourceKey.{SourceKey};
 ghost use Rattle.plan_table.specs.declared.table.Table.{Table as TableType};
 ghost use Rattle.plan_table.specs.Tables.{HasRows};
-ghost use Rattle.plan_eval.specs.Given.{GiveAll, Gives, schema_of};
-ghost use Rattle.plan_eval.specs.Shown.{contents_of, frame_of};
+ghost use Rattle.plan_eval.specs.Given.{GiveAll, Gives};
+ghost use Rattle.plan_value.specs.Shown.{frame_of, schema_of};
+ghost use Rattle.plan_eval.specs.Sources.{contents_of};
 
 use crate::filter::filter;
 use crate::frame_scan::frame_scan;

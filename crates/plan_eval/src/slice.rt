@@ -8,9 +8,9 @@ ghost use Rattle.plan_table.specs.declared.source_key.SourceKey.{SourceKey};
 ghost use Rattle.plan_table.specs.declared.table.Table.{Table as TableType};
 ghost use Rattle.std.specs.Prelude.{List};
 
-use crate::rows::rows_at;
 use plan_core::Items;
 use plan_table::Table;
+use plan_value::rows_at;
 use std::alloc::{AllocError, Global};
 
 /// A place cut to 0 and the height.

@@ -3,8 +3,7 @@ ghost use Rattle.std.specs.Prelude.{◌≡◌, ◌++◌, length, IfOk, OnOk};
 ghost use Rattle.plan_core.specs.Columns.{names_of};
 ghost use Rattle.plan_meaning.specs.Contents.{stack as stack_of, stacked, total_height};
 ghost use Rattle.plan_meaning.specs.Frames.{column_or};
-ghost use Rattle.plan_eval.specs.Given.{schema_of};
-ghost use Rattle.plan_eval.specs.Shown.{column_shown, frame_of, values_of};
+ghost use Rattle.plan_value.specs.Shown.{column_shown, frame_of, schema_of, values_of};
 ghost use Rattle.plan_eval.specs.Stacks.{shown_tables};
 
 use plan_core::{DataType, Items, PlSmallStr, Schema, TryClone};

@@ -1,5 +1,4 @@
-//! Tables that small plans give, and what operators give for values.
-mod operators;
+//! Tables that small plans give.
 mod windows;
 
 use crate::{evaluate, fits};

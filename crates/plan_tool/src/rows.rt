@@ -6,7 +6,7 @@ ghost use Rattle.plan_ir.specs.Plans.{plans_at};
 ghost use Rattle.plan_meaning.specs.Contents.{Fits};
 ghost use Rattle.plan_meaning.specs.PlanAt.{plan_at};
 ghost use Rattle.plan_meaning.specs.Steps.{IsValid};
-ghost use Rattle.plan_eval.specs.Shown.{contents_of};
+ghost use Rattle.plan_eval.specs.Sources.{contents_of};
 ghost use Rattle.plan_tool.specs.Rows.{AreRows, FitChecked};
 
 use crate::stop::Stop;

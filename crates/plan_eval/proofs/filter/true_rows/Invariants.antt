@@ -1,6 +1,6 @@
 use Rattle.std.proofs.Common.{◌≡◌}
 use Rattle.plan_meaning.specs.Steps.{true_rows}
-use Rattle.plan_eval.specs.Given.{cell_of}
+use Rattle.plan_value.specs.Cells.{cell_of}
 use Rattle.plan_eval.proofs.filter.true_rows.Given as goal
 
 -- the true rows up to here

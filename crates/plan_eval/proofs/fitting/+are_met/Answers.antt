@@ -8,7 +8,7 @@ use Rattle.plan_ir.specs.Plans.{bare, op_at, plans_at}
 use Rattle.plan_ir.proofs.PlanLemmas.{plan_down}
 use Rattle.plan_meaning.specs.Contents.{FitsAll}
 use Rattle.plan_eval.specs.Fitting.{TablesFit}
-use Rattle.plan_eval.specs.Shown.{contents_of}
+use Rattle.plan_eval.specs.Sources.{contents_of}
 use Rattle.plan_eval.proofs.FitLemmas.{plan-fits, node-fits, inputs-fit, plan-frames}
 use Rattle.plan_eval.proofs.FormedLemmas.{node-frames}
 use Rattle.plan_eval.proofs.fitting.+are_met.Goals as goal

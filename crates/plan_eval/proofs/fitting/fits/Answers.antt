@@ -1,6 +1,6 @@
 use Rattle.plan_ir.specs.Plans.{bare, plans_at}
 use Rattle.std.proofs.Common.{[], ◌∷◌}
-use Rattle.plan_eval.specs.Shown.{contents_of}
+use Rattle.plan_eval.specs.Sources.{contents_of}
 use Rattle.plan_eval.proofs.FitLemmas.{fits-one}
 use Rattle.plan_eval.proofs.fitting.fits.Goals as goal
 

@@ -6,8 +6,8 @@ use Rattle.plan_meaning.specs.Steps.{made}
 use Rattle.plan_table.specs.declared.column.Column.{Column as Typed}
 use Rattle.plan_table.specs.Tables.{types_of}
 use Rattle.plan_meaning.proofs.CheckParts.{made_good}
-use Rattle.plan_eval.specs.Given.{schema_of, stored_column}
-use Rattle.plan_eval.specs.Shown.{columns_shown, frame_of}
+use Rattle.plan_eval.specs.Given.{stored_column}
+use Rattle.plan_value.specs.Shown.{columns_shown, frame_of, schema_of}
 use Rattle.plan_eval.proofs.MadeLemmas.{stored-named, stored-made}
 use Rattle.plan_eval.proofs.hstack.hstack.Goals as goal
 

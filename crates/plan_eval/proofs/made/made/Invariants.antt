@@ -5,7 +5,7 @@ use Rattle.plan_meaning.specs.Frames.{with_columns}
 use Rattle.plan_meaning.specs.Steps.{made_columns}
 use Rattle.plan_table.specs.Tables.{types_of}
 use Rattle.plan_eval.specs.Given.{stored_column}
-use Rattle.plan_eval.specs.Shown.{columns_shown, frame_of}
+use Rattle.plan_value.specs.Shown.{columns_shown, frame_of}
 use Rattle.plan_eval.proofs.made.made.Given as goal
 
 -- the columns with those that the expressions up to here make, and so their types

@@ -1,5 +1,5 @@
 use Rattle.std.proofs.Common.{◌∙◌, ◌++◌, ◌∷◌, [], List, ℕ, ap, sym, arith}
-use Rattle.plan_eval.proofs.RowLemmas.{range-next}
+use Rattle.plan_value.proofs.PlaceLemmas.{range-next}
 use Rattle.plan_eval.proofs.slice.rows.Goals as goal
 
 pub loop-row-preserved : goal.loop-row-preserved

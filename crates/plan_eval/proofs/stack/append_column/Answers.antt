@@ -2,8 +2,8 @@ use Rattle.std.proofs.Common.{◌≡◌, ◌∙◌, ◌++◌, List, ap, sym, rep
 use Rattle.std.proofs.lemmas.List.{take_all}
 use Rattle.plan_table.specs.declared.value.AnyValue.{AnyValue}
 use Rattle.plan_meaning.specs.Values.{Value, null}
-use Rattle.plan_eval.specs.Shown.{values_of}
-use Rattle.plan_eval.proofs.ShownLemmas.{column-there, column-absent}
+use Rattle.plan_value.specs.Shown.{values_of}
+use Rattle.plan_value.proofs.ShownLemmas.{column-there, column-absent}
 use Rattle.plan_eval.proofs.stack.append_column.Goals as goal
 
 pub returns-after-loop-value : goal.returns-after-loop-value

@@ -1,6 +1,6 @@
 use Rattle.std.proofs.Common.{◌≡◌, ◌++◌, replicate, take}
 use Rattle.plan_meaning.specs.Values.{null}
-use Rattle.plan_eval.specs.Shown.{values_of}
+use Rattle.plan_value.specs.Shown.{values_of}
 use Rattle.plan_eval.proofs.stack.append_column.Given as goal
 
 -- the values of the column up to here stand behind

@@ -6,7 +6,7 @@ use Rattle.plan_expr.specs.Leaves.{Name}
 use Rattle.plan_meaning.specs.Frames.{Column, table_columns}
 use Rattle.plan_meaning.specs.Values.{Value}
 use Rattle.plan_eval.specs.Stacks.{shown_tables}
-use Rattle.plan_eval.proofs.ColumnLemmas.{put-types, put-shown}
+use Rattle.plan_value.proofs.ColumnLemmas.{put-types, put-shown}
 use Rattle.plan_eval.proofs.stack.stack.Goals as goal
 
 pub loop-name-preserved : goal.loop-name-preserved

@@ -3,7 +3,7 @@ use Rattle.plan_core.specs.Columns.{names_of}
 use Rattle.plan_meaning.specs.Contents.{stacked}
 use Rattle.plan_meaning.specs.Frames.{table_columns}
 use Rattle.plan_table.specs.Tables.{types_of}
-use Rattle.plan_eval.specs.Shown.{columns_shown}
+use Rattle.plan_value.specs.Shown.{columns_shown}
 use Rattle.plan_eval.specs.Stacks.{shown_tables}
 use Rattle.plan_eval.proofs.stack.stack.Given as goal
 

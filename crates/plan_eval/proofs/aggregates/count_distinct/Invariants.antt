@@ -1,8 +1,0 @@
-use Rattle.std.proofs.Common.{◌≡◌, take}
-use Rattle.plan_meaning.specs.Aggregates.{distinct}
-use Rattle.plan_eval.specs.Shown.{values_of}
-use Rattle.plan_eval.proofs.aggregates.count_distinct.Given as goal
-
--- each of the values up to here is there once
-abbrev pub invariant-loop-value : goal.invariant-loop-value
-invariant-loop-value l = values_of l.seen.keys ≡ distinct (values_of (take l.value-index l.values))

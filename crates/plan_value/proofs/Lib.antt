@@ -1,0 +1,11 @@
+-- The lemmas of this crate.
+pub mod PlaceLemmas
+mod RowLemmas
+pub mod ShownLemmas
+pub mod ColumnLemmas
+mod SameLemmas
+mod AggregateLemmas
+mod GroupLemmas
+mod EvaluationLemmas
+mod WindowLemmas
+mod ReadLemmas
