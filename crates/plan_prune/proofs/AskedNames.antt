@@ -1,5 +1,5 @@
 -- Lists of asked names, of which none stands for everything, against what is asked.
-use Rattle.std.proofs.Common.{◌≡◌, false, List, [], ◌∷◌, refl, sym, ap, ◌∙◌, subst}
+use Rattle.std.proofs.Common.{◌≡◌, false, List, [], ◌∷◌, Option, refl, sym, ap, ◌∙◌, subst}
 use Rattle.plan_core.specs.Columns.{Columns, names_of}
 use Rattle.plan_core.specs.Names.{with_names}
 use Rattle.plan_tree.specs.Rose.{Roses, rose, no_roses, more}
@@ -7,12 +7,14 @@ use Rattle.plan_expr.specs.Exprs.{Named}
 use Rattle.plan_ir.specs.Plans.{Op, slice, filter, scan, frame_scan, simple_projection, select, hstack, invalid}
 use Rattle.plan_meaning.specs.Typing.{is_empty, first_schema, schema_by, schemas, checks, AllHold, AllValid}
 use Rattle.plan_meaning.specs.Relating.{Asked, all, names, cached}
-use Rattle.plan_meaning.specs.Asked.{set_of, with_more, asks_columns, kept_exprs, selected_exprs, all_leaves, asks_selected, asks_added, asks_stacked, asks as asks_of, IsFair}
+use Rattle.plan_meaning.specs.Asked.{set_of, with_more, asks_columns, kept_exprs, selected_exprs, needed_names, asks_selected, asks_added, asks_stacked, asks as asks_of, IsFair}
 use Rattle.plan_meaning.specs.Asked as asked
+use Rattle.plan_meaning.specs.Counting.{stand_ins, first_stand_in}
 use Rattle.plan_meaning.proofs.NameSets.{has_first, keeps_names}
+use Rattle.plan_meaning.proofs.StandIns.{are_stand_ins}
 use Rattle.plan_meaning.proofs.Fairness.{some_name, fair_asks, FairAll}
 use Rattle.plan_expr.specs.Leaves.{Name, leaves}
-use Rattle.plan_prune.specs.Pruned.{asked_with, kept, added_names, stacked_names, asks}
+use Rattle.plan_prune.specs.Pruned.{asked_with, kept, added_names, stacked_names, asks, asks_plans}
 use Rattle.plan_prune.specs.Stored.{stored_all}
 use Rattle.plan_prune.proofs.StoredLemmas.{stored-schemas}
 
@@ -39,13 +41,13 @@ more-is [] others = refl
 more-is (a ∷ l) others = sym (set_some (with_names (a ∷ l) others) (some_name (with_names (a ∷ l) others) a (keeps_names (a ∷ l) others a (has_first a l))))
 
 -- what a filter asks
-pub filter_asks : (p : Named) (l : List Name) (ss : List Columns) → with_more (leaves p.expr) (set_of l) ≡ set_of (asks l (filter p) ss)
-filter_asks p l ss = more-is l (leaves p.expr)
+pub filter_asks : (p : Named) (l : List Name) (ss : List Columns) (os : List (Option Name)) → with_more (leaves p.expr) (set_of l) ≡ set_of (asks l (filter p) ss os)
+filter_asks p l ss os = more-is l (leaves p.expr)
 
 -- what a projection asks
-pub projection_asks : (cs : Columns) (l : List Name) (ss : List Columns) → asks_columns cs (set_of l) ≡ set_of (asks l (simple_projection cs) ss)
-projection_asks cs [] ss = ap (λ (x : Columns). set_of (with_names [] (names_of x))) (kept_all cs)
-projection_asks cs (a ∷ l) ss = refl
+pub projection_asks : (cs : Columns) (l : List Name) (ss : List Columns) (os : List (Option Name)) → asks_columns cs (set_of l) ≡ set_of (asks l (simple_projection cs) ss os)
+projection_asks cs [] ss os = ap (λ (x : Columns). set_of (with_names [] (names_of x))) (kept_all cs)
+projection_asks cs (a ∷ l) ss os = refl
 
 -- the same asked of each of some plans
 abbrev pub each_asked : Asked → Roses (Unit {0}) Op → List Asked
@@ -63,16 +65,16 @@ stacked_asks es [] s = refl
 stacked_asks es (a ∷ l) s = added_asks (kept_exprs (names (a ∷ l)) es) a l s
 
 -- what a selection asks
-pub selected_asks : (es : List Named) (l : List Name) → asks_selected es (set_of l) ≡ set_of (with_names [] (all_leaves (selected_exprs (set_of l) es)))
-selected_asks es [] = refl
-selected_asks es (a ∷ l) = refl
+pub selected_asks : (es : List Named) (o : Option Name) (l : List Name) → asks_selected es o (set_of l) ≡ set_of (needed_names es o (selected_exprs (set_of l) es))
+selected_asks es o [] = refl
+selected_asks es o (a ∷ l) = refl
 
 -- what a node asks its inputs
-pub asks-each : (l : List Name) (op : Op) (ts : Roses (Unit {0}) Op) → AllHold (checks op (schemas ts)) → AllValid ts → asks_of op (set_of l) (schemas ts) ≡ each_asked (set_of (asks l op (stored_all ts))) ts
-asks-each l (filter p) (more (rose n op us) no_roses) good v = ap (λ (x : Asked). x ∷ []) (filter_asks p l (stored_all (more (rose n op us) no_roses)))
+pub asks-each : (l : List Name) (op : Op) (ts : Roses (Unit {0}) Op) → AllHold (checks op (schemas ts)) → AllValid ts → asks_of op (set_of l) (schemas ts) (stand_ins ts (schemas ts)) ≡ each_asked (set_of (asks_plans l op ts)) ts
+asks-each l (filter p) (more (rose n op us) no_roses) good v = ap (λ (x : Asked). x ∷ []) (filter_asks p l (stored_all (more (rose n op us) no_roses)) [])
 asks-each l (filter p) (more (rose n op us) (more (rose m o vs) rest)) good v = cc
 asks-each l (filter p) no_roses good v = cc
-asks-each l (simple_projection cs) (more (rose n op us) no_roses) good v = ap (λ (x : Asked). x ∷ []) (projection_asks cs l (stored_all (more (rose n op us) no_roses)))
+asks-each l (simple_projection cs) (more (rose n op us) no_roses) good v = ap (λ (x : Asked). x ∷ []) (projection_asks cs l (stored_all (more (rose n op us) no_roses)) [])
 asks-each l (simple_projection cs) (more (rose n op us) (more (rose m o vs) rest)) good v = cc
 asks-each l (simple_projection cs) no_roses good v = cc
 asks-each l (scan sources info predicate output kind options) no_roses good v = refl
@@ -82,7 +84,10 @@ asks-each l (slice o n) (more (rose m op us) (more (rose k q vs) rest)) good v =
 asks-each l (slice o n) no_roses good v = cc
 asks-each l (frame_scan df schema output) no_roses good v = refl
 asks-each l (frame_scan df schema output) (more (rose n op us) rest) good v = cc
-asks-each l (select es schema options) (more (rose m op us) no_roses) good v = ap (λ (x : Asked). x ∷ []) (selected_asks es l)
+asks-each l (select es schema options) (more (rose m op us) no_roses) good v =
+    let t = more (rose m op us) no_roses in
+    ap (λ (x : Asked). x ∷ []) (selected_asks es (first_stand_in (stand_ins t (schemas t))) l
+    ∙ ap (λ (ss : List Columns). set_of (needed_names es (first_stand_in (stand_ins t ss)) (selected_exprs (set_of l) es))) (sym (stored-schemas t v)))
 asks-each l (select es schema options) (more (rose m op us) (more (rose k q vs) rest)) good v = cc
 asks-each l (select es schema options) no_roses good v = cc
 asks-each l (hstack es schema options) (more (rose m op us) no_roses) good v =
@@ -93,5 +98,5 @@ asks-each l (hstack es schema options) no_roses good v = cc
 asks-each l invalid ts good v = cc
 
 -- what a node asks can be asked of its inputs
-pub fair_each : (l : List Name) (op : Op) (ts : Roses (Unit {0}) Op) → AllHold (checks op (schemas ts)) → AllValid ts → IsFair (set_of l) (schema_by op (schemas ts)) → FairAll (each_asked (set_of (asks l op (stored_all ts))) ts) (schemas ts)
-fair_each l op ts good v f = subst (λ (x : List Asked). FairAll x (schemas ts)) (asks-each l op ts good v) (fair_asks op (set_of l) (schemas ts) good f)
+pub fair_each : (l : List Name) (op : Op) (ts : Roses (Unit {0}) Op) → AllHold (checks op (schemas ts)) → AllValid ts → IsFair (set_of l) (schema_by op (schemas ts)) → FairAll (each_asked (set_of (asks_plans l op ts)) ts) (schemas ts)
+fair_each l op ts good v f = subst (λ (x : List Asked). FairAll x (schemas ts)) (asks-each l op ts good v) (fair_asks op (set_of l) (schemas ts) (stand_ins ts (schemas ts)) good (are_stand_ins ts) f)

@@ -54,7 +54,7 @@ leaf op = rose tt op no_roses
 abbrev over_one : Expr
 over_one = rose tt (binary Gt) (more (leaf (column (codes "b"))) (more (leaf (literal (literals.Int64 (pos 1)))) no_roses))
 
-abbrev predicate : Named
+abbrev pub predicate : Named
 predicate = record { name = ColumnLhs (codes "b"); expr = over_one }
 
 abbrev pub node : Op → Plan → Plan

@@ -13,11 +13,11 @@ use Rattle.plan_ir.specs.declared.ir.IR.{IR}
 use Rattle.plan_ir.specs.declared.ir.IR.TheVariants.{HStack, Invalid}
 use Rattle.plan_ir.specs.Parts.{plan_shape}
 use Rattle.plan_expr.specs.Exprs.{all_named_at}
-use Rattle.plan_ir.specs.Plans.{plans_at, bare}
+use Rattle.plan_ir.specs.Plans.{hstack, plans_at, bare}
 use Rattle.plan_expr.specs.Leaves.{Name}
 use Rattle.plan_meaning.specs.Typing.{first_schema}
 use Rattle.plan_prune.specs.Stored.{stored_all}
-use Rattle.plan_prune.specs.Pruned.{stacked_names}
+use Rattle.plan_prune.specs.Pruned.{stacked_names, top_below}
 use Rattle.plan_prune.specs.Prunes.{TakePlace, Prunes, PrunesAt}
 use Rattle.plan_prune.specs.Kept.{stacked_at, is_some_name, names_at, with_typed, stored_after, with_stacked}
 use Rattle.plan_prune.proofs.PruneLemmas.{finish, moves_up, is_entry, stands_taken, stands_after}
@@ -34,7 +34,7 @@ pub some_len : (asked : List Name) (k : ℕ) → k ≡ length asked → ltb 0 k 
 some_len [] k e = le-ltb 0 k (omega (arith, e))
 some_len (a ∷ asked) k e = lt-ltb 0 k (omega (arith, e))
 
-module _ (top : Bool) (asked names : List Name) (a b c : List IR) (ex : List AExpr) (n i : Node) (es : List ExprIR) (schema : Columns) (options : ProjectionOptions) (d : IR) (t : Trees IR) (h : StandsOnce plan_shape a (n ∷ []) t) (e : slice_get a n.0 ≡ Some (HStack i es schema options)) (taken : b ≡ slice_set a n.0 d) (asks_is : names ≡ stacked_names asked (all_named_at ex es) (first_schema (stored_all (bare (plans_at b ex (i ∷ [])))))) (below : PrunesAt top names b c ex i) where
+module _ (top low : Bool) (asked names : List Name) (a b c : List IR) (ex : List AExpr) (n i : Node) (es : List ExprIR) (schema : Columns) (options : ProjectionOptions) (d : IR) (t : Trees IR) (h : StandsOnce plan_shape a (n ∷ []) t) (e : slice_get a n.0 ≡ Some (HStack i es schema options)) (taken : b ≡ slice_set a n.0 d) (low_is : low ≡ top_below top (hstack (all_named_at ex es) schema options)) (asks_is : names ≡ stacked_names asked (all_named_at ex es) (first_schema (stored_all (bare (plans_at b ex (i ∷ [])))))) (below : PrunesAt low names b c ex i) where
   abbrev columns : Columns
   columns = first_schema (stored_all (bare (plans_at c ex (i ∷ []))))
 
@@ -43,7 +43,7 @@ module _ (top : Bool) (asked names : List Name) (a b c : List IR) (ex : List AEx
 
   back : (ks : List ExprIR) (cs : Columns) → ks ≡ stacked_at asked es → (is_some_name asked ≡ true → length ks ≡ 0 → ⊥) → cs ≡ stored_after (is_some_name asked) columns (names_at ks) schema → Prunes top asked a (slice_set c n.0 (HStack i ks cs options)) ex n t
   back ks cs kept some stored =
-      finish top asked names a b c ex n i (HStack i es schema options) (HStack i ks cs options) d t h e taken refl refl refl (place ks kept) asks_is
+      finish top low asked names a b c ex n i (HStack i es schema options) (HStack i ks cs options) d t h e taken refl refl refl (place ks kept) low_is asks_is
       (hstack_built ex asked es ks schema columns cs options (bare (plans_at c ex (i ∷ []))) kept some refl stored) below
 
   placed : (is_asked : Bool) (ks : List ExprIR) → is_asked ≡ is_some_name asked → ks ≡ stacked_at asked es → Prunes top asked a (with_stacked is_asked c n i ks schema options columns) ex n t
@@ -52,8 +52,8 @@ module _ (top : Bool) (asked names : List Name) (a b c : List IR) (ex : List AEx
       no : false ≡ true → ⊥
       no x = cc
   placed true [] some kept =
-      let s = stands_after top names b c ex i (stands_taken a b n i (HStack i es schema options) d t h e taken refl) below in
-      moves_up top asked names a b c ex n i (HStack i es schema options) (unwrap_or (slice_get c i.0) Invalid) d Invalid t h e taken refl (found c i.0 (is_entry c i s)) asks_is
+      let s = stands_after low names b c ex i (stands_taken a b n i (HStack i es schema options) d t h e taken refl) below in
+      moves_up top low asked names a b c ex n i (HStack i es schema options) (unwrap_or (slice_get c i.0) Invalid) d Invalid t h e taken refl (found c i.0 (is_entry c i s)) low_is asks_is
       (λ f. hstack_gone ex asked es [] schema options f kept (sym some) refl) below
   placed true (x ∷ ks) some kept =
       back (x ∷ ks) (with_typed columns (names_at (x ∷ ks)) schema) kept (λ y z. absurd (omega (arith, z))) (ap (λ (s : Bool). stored_after s columns (names_at (x ∷ ks)) schema) some)

@@ -1,4 +1,4 @@
--- Plans worked out: what is left of a selection and of additions of columns.
+-- Plans worked out: what is left of a selection, of additions of columns, and of a count of rows.
 use Rattle.std.proofs.Common.{◌≡◌, true, [], ◌∷◌, Some, None, refl, pos}
 use Rattle.std.specs.Prelude.{codes}
 use Rattle.plan_core.specs.declared.data_type.DataType.TheVariants as types
@@ -8,15 +8,16 @@ use Rattle.plan_core.specs.Columns.{Columns}
 use Rattle.plan_tree.specs.Rose.{rose, no_roses, more}
 use Rattle.plan_expr.specs.declared.literal.LiteralValue.TheVariants as literals
 use Rattle.plan_expr.specs.declared.operator.Operator.TheVariants.{Plus}
-use Rattle.plan_expr.specs.declared.expr_ir.OutputName.TheVariants.{Alias, ColumnLhs}
-use Rattle.plan_expr.specs.Exprs.{column, literal, alias, binary, Named}
-use Rattle.plan_ir.specs.Plans.{simple_projection, select, hstack, Plan}
+use Rattle.plan_expr.specs.declared.expr_ir.OutputName.TheVariants.{Alias, ColumnLhs, LiteralLhs}
+use Rattle.plan_expr.specs.Exprs.{column, literal, alias, binary, len as row_count, Named}
+use Rattle.plan_ir.specs.Plans.{filter, simple_projection, select, hstack, Plan}
 use Rattle.plan_expr.specs.Leaves.{Name}
 use Rattle.plan_meaning.specs.Relating.{names}
+use Rattle.plan_meaning.specs.Counting.{meets_count}
 use Rattle.plan_meaning.specs.Asked.{sites_of}
 use Rattle.plan_meaning.specs.Work.{made, kept}
 use Rattle.plan_prune.specs.Pruned.{pruned, reading}
-use Rattle.plan_prune.proofs.Example.{columns_ab, columns_a, leaf, node, scanned}
+use Rattle.plan_prune.proofs.Example.{columns_ab, columns_a, leaf, node, predicate, scanned}
 
 abbrev column_of : Name → Columns
 column_of a = (a, types.Int64) ∷ []
@@ -70,3 +71,17 @@ module _ (options : FileScanOptions) (how : ProjectionOptions) where
 
   pub example_idle_asked : sites_of idle ≡ record { at_scan = scanned None options; asked = names (codes "a" ∷ []) } ∷ []
   example_idle_asked = refl
+
+  -- a count of the rows of a filter
+  abbrev count : Plan
+  count = node (select (record { name = LiteralLhs (codes "len"); expr = leaf row_count } ∷ []) (column_of (codes "len")) how) (node (filter predicate) (scan_of options))
+
+  abbrev columns_cb : Columns
+  columns_cb = (codes "c", types.String) ∷ (codes "b", types.Int64) ∷ []
+
+  -- the last column stands in for them, and no projection goes on top of the scan
+  pub example_count : pruned true [] count ≡ node (select (record { name = LiteralLhs (codes "len"); expr = leaf row_count } ∷ []) (column_of (codes "len")) how) (node (filter predicate) (rose tt (scanned (Some columns_cb) (reading (codes "c" ∷ codes "b" ∷ []) options)) no_roses))
+  example_count = refl
+
+  pub example_count_asked : (sites_of count ≡ record { at_scan = scanned None options; asked = names (codes "c" ∷ codes "b" ∷ []) } ∷ []) × (meets_count count ≡ true)
+  example_count_asked = (refl, refl)

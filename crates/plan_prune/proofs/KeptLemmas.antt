@@ -21,7 +21,8 @@ use Rattle.plan_expr.specs.Naming.{name_of}
 use Rattle.plan_expr.specs.Scalars.{is_scalar}
 use Rattle.plan_meaning.specs.Steps.{all_scalar}
 use Rattle.plan_meaning.specs.Relating.{all, names}
-use Rattle.plan_meaning.specs.Asked.{kept_exprs, first_many, selected_exprs, set_of}
+use Rattle.plan_meaning.specs.Counting.{first_many}
+use Rattle.plan_meaning.specs.Asked.{kept_exprs, selected_exprs, set_of}
 use Rattle.plan_prune.specs.Prunes.{StandExprs, TakePlace}
 use Rattle.plan_meaning.specs.PlanAt.{one_plan}
 use Rattle.plan_meaning.specs.Typing.{first_schema, out_names}

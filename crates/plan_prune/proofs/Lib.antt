@@ -5,6 +5,7 @@ pub mod NarrowLemmas
 mod AddedNames
 pub mod PlaceLemmas
 pub mod KeptLemmas
+mod StandInLemmas
 mod ExprWalks
 mod StoredNodes
 mod HStackPruned

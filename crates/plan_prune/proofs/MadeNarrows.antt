@@ -1,12 +1,13 @@
 -- What expressions make over an input that narrows at what they read.
-use Rattle.std.proofs.Common.{◌≡◌, ℕ, true, List, [], ◌∷◌, map, Option, Some, unwrap_or, option_map, refl, sym, ap, ap₂, ◌∙◌, subst, is_some}
+use Rattle.std.proofs.Common.{◌≡◌, ℕ, Bool, true, false, cond, List, [], ◌∷◌, ◌++◌, map, Option, Some, unwrap_or, option_map, refl, sym, ap, ap₂, ◌∙◌, subst, is_some}
 use Rattle.std.specs.List.{AllByRecursion, cons_option}
 use Rattle.plan_core.specs.declared.data_type.DataType.{DataType}
 use Rattle.plan_core.specs.declared.data_type.DataType.TheVariants as types
 use Rattle.plan_core.specs.Columns.{Columns, type_of}
 use Rattle.plan_core.specs.Names.{has, with_names, AreDistinct}
 use Rattle.plan_expr.specs.Forms.{has_form}
-use Rattle.plan_expr.specs.Exprs.{Named}
+use Rattle.plan_tree.specs.Rose.{rose, no_roses, more}
+use Rattle.plan_expr.specs.Exprs.{column, literal, alias, binary, ternary, aggregate, call, window, len as row_count, Expr, Named}
 use Rattle.plan_expr.specs.Leaves.{Name, leaves}
 use Rattle.plan_expr.specs.Naming.{name_of, naming, may_be_named}
 use Rattle.plan_meaning.specs.Exprs.{all_known, expr_type}
@@ -14,14 +15,15 @@ use Rattle.plan_meaning.specs.Typing.{out_names, made_column, made_schema}
 use Rattle.plan_meaning.specs.Frames.{Frame, Column, Agree}
 use Rattle.plan_meaning.specs.Meaning.{Cell, filled}
 use Rattle.plan_meaning.specs.Steps.{made_columns}
-use Rattle.plan_meaning.specs.Relating.{NarrowColumns, AgreeOn}
-use Rattle.plan_meaning.specs.Asked.{set_of, all_leaves}
+use Rattle.plan_meaning.specs.Relating.{Asked, NarrowColumns, AgreeOn}
+use Rattle.plan_meaning.specs.Counting.{is_len, counts_rows, stand_in_names}
+use Rattle.plan_meaning.specs.Asked.{set_of, all_leaves, selected_exprs, needed_names}
 use Rattle.plan_meaning.proofs.NameSets.{has_front, has_back, adds_names}
 use Rattle.plan_meaning.proofs.FrameLemmas.{agree_fewer}
 use Rattle.plan_meaning.proofs.Depends.{val_depends, type_within}
 use Rattle.plan_meaning.proofs.CheckParts.{MadeGood}
 use Rattle.plan_meaning.proofs.MadeColumns.{types_made}
-use Rattle.plan_meaning.proofs.KeptExprs.{new_distinct}
+use Rattle.plan_meaning.proofs.KeptExprs.{all_selected, new_distinct}
 use Rattle.plan_prune.specs.Pruned.{typed_names}
 use Rattle.plan_prune.proofs.NarrowLemmas.{holding_same, known_within}
 use Rattle.plan_prune.proofs.ScanNarrows.{new_from}
@@ -52,6 +54,51 @@ leaf_frames es f g h =
 -- columns have one type at each name that expressions read
 abbrev pub SameLeaves : List Named → Columns → Columns → Type 0
 SameLeaves es r s = (b : Name) → has (all_leaves es) b ≡ true → type_of r b ≡ type_of s b
+
+-- the number of rows reads no column
+
+none_read : (es : List Named) → AllByRecursion (λ (e : Named). leaves e.expr ≡ []) es → all_leaves es ≡ []
+none_read [] h = refl
+none_read (e ∷ es) h = ap₂ (λ (x y : List Name). x ++ y) h.0 (none_read es h.1)
+
+len_reads : (e : Expr) → is_len e ≡ true → leaves e ≡ []
+len_reads (rose n row_count no_roses) h = refl
+len_reads (rose n row_count (more e es)) h = cc
+len_reads (rose n (column name) es) h = cc
+len_reads (rose n (literal value) es) h = cc
+len_reads (rose n (alias name) es) h = cc
+len_reads (rose n (binary op) es) h = cc
+len_reads (rose n ternary es) h = cc
+len_reads (rose n (aggregate op) es) h = cc
+len_reads (rose n (call function options) es) h = cc
+len_reads (rose n window es) h = cc
+
+counts_read : (es : List Named) → counts_rows es ≡ true → AllByRecursion (λ (e : Named). leaves e.expr ≡ []) es
+counts_read (e ∷ []) h = (len_reads e.expr h, tt)
+counts_read [] h = cc
+counts_read (e ∷ d ∷ es) h = cc
+
+pub none_selected : (es : List Named) (a : Asked) → counts_rows es ≡ true → all_leaves (selected_exprs a es) ≡ []
+none_selected es a h = none_read (selected_exprs a es) (all_selected (λ (e : Named). leaves e.expr ≡ []) a es (counts_read es h))
+
+no_leaf : (ks : List Named) → all_leaves ks ≡ [] → (b : Name) → has (all_leaves ks) b ≡ true → ⊥
+no_leaf ks none b i = let k : false ≡ true = sym (ap (λ (l : List Name). has l b) none) ∙ i in cc
+
+-- at what a selection needs that keeps some expressions
+
+pub needed_types : (es ks : List Named) (o : Option Name) (r s : Columns) → (counts_rows es ≡ true → all_leaves ks ≡ []) → NarrowColumns (set_of (needed_names es o ks)) r s → SameLeaves ks r s
+needed_types es ks o r s none h = at (counts_rows es) none h
+  where
+    at : (t : Bool) → (t ≡ true → all_leaves ks ≡ []) → NarrowColumns (set_of (cond t (stand_in_names o) (with_names [] (all_leaves ks)))) r s → SameLeaves ks r s
+    at true n k = λ b i. absurd (no_leaf ks (n refl) b i)
+    at false n k = leaf_types ks r s k
+
+pub needed_frames : (es ks : List Named) (o : Option Name) (f g : Frame) → (counts_rows es ≡ true → all_leaves ks ≡ []) → AgreeOn (set_of (needed_names es o ks)) f g → Agree (all_leaves ks) f g
+needed_frames es ks o f g none h = at (counts_rows es) none h
+  where
+    at : (t : Bool) → (t ≡ true → all_leaves ks ≡ []) → AgreeOn (set_of (cond t (stand_in_names o) (with_names [] (all_leaves ks)))) f g → Agree (all_leaves ks) f g
+    at true n k = agree_fewer (all_leaves ks) (stand_in_names o) f g (λ b i. absurd (no_leaf ks (n refl) b i)) (set_frames (stand_in_names o) f g k)
+    at false n k = leaf_frames ks f g k
 
 front_leaves : (e : Named) (es : List Named) (r s : Columns) → SameLeaves (e ∷ es) r s → (b : Name) → has (leaves e.expr) b ≡ true → type_of r b ≡ type_of s b
 front_leaves e es r s h b i = h b (has_front (leaves e.expr) (all_leaves es) b i)

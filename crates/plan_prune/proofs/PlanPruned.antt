@@ -1,11 +1,18 @@
 -- What is said of a pruned plan, said of what stands at a number that was pruned.
-use Rattle.std.proofs.Common.{◌≡◌, ◌≤◌, ◌+◌, Bool, [], refl, ap, sym, subst, ◌∙◌}
-use Rattle.plan_tree.specs.Rose.{Roses, no_roses, more}
-use Rattle.plan_ir.specs.Plans.{Op, Plan}
+use Rattle.std.proofs.Common.{◌≡◌, ◌≤◌, ◌+◌, Bool, List, [], ◌∷◌, refl, ap, sym, subst, ◌∙◌}
+use Rattle.plan_core.specs.declared.arena.Node.{Node}
+use Rattle.plan_tree.specs.Rose.{Roses, rose, no_roses, more}
+use Rattle.plan_tree.specs.Stands.{Trees, StandsOnce}
+use Rattle.plan_tree.proofs.ReadLemmas.{trees_at-is}
+use Rattle.plan_expr.specs.declared.aexpr.AExpr.{AExpr}
+use Rattle.plan_ir.specs.declared.ir.IR.{IR}
+use Rattle.plan_ir.specs.Parts.{plan_shape, IsPlan}
+use Rattle.plan_ir.specs.Plans.{Op, Plan, bare, plans_of}
 use Rattle.plan_meaning.specs.Steps.{IsValid}
 use Rattle.plan_meaning.specs.Relating.{all, Refines}
 use Rattle.plan_meaning.specs.Asked.{sites_of}
-use Rattle.plan_meaning.specs.PlanAt.{one_plan}
+use Rattle.plan_meaning.specs.PlanAt.{one_plan, plan_at}
+use Rattle.plan_meaning.specs.Counting.{meet_count, meets_count}
 use Rattle.plan_prune.specs.Pruned.{pruned, pruned_all}
 use Rattle.plan_meaning.specs.Scans.{scans, nodes}
 use Rattle.plan_meaning.specs.Work.{made, kept}
@@ -33,3 +40,14 @@ module _ (top : Bool) (old new : Roses (Unit {0}) Op) (is : new ≡ pruned_all t
 
   pub work_at : made (one_plan new) ≤ kept (one_plan old)
   work_at = subst (λ (x : Plan). made x ≤ kept (one_plan old)) (sym here) (pruned_made top (one_plan old) v)
+
+-- whether the plan at a number counts rows
+pub meets_at : (lp : List IR) (ex : List AExpr) (n : Node) (h : IsPlan lp ex n) → meet_count (bare (plans_of ex h.nodes)) ≡ meets_count (plan_at lp ex n)
+meets_at lp ex n h =
+    one h.nodes h.stands.nodes
+    ∙ ap (λ (t : Trees IR). meets_count (one_plan (bare (plans_of ex t)))) (sym (trees_at-is plan_shape lp (n ∷ []) h.nodes h.stands.nodes))
+  where
+    one : (t : Trees IR) → StandsOnce plan_shape lp (n ∷ []) t → meet_count (bare (plans_of ex t)) ≡ meets_count (one_plan (bare (plans_of ex t)))
+    one no_roses s = absurd s.stands
+    one (more (rose m p kids) no_roses) s = refl
+    one (more (rose m p kids) (more (rose k q below) rest)) s = absurd s.stands.4

@@ -1,5 +1,5 @@
 -- What pruning does at each kind of node.
-use Rattle.std.proofs.Common.{◌≡◌, ℕ, ◌<◌, ◌≤◌, ◌&&◌, Bool, true, false, List, [], ◌∷◌, ◌++◌, length, take, ◌+◌, Option, Some, None, refl, sym, ap, ◌∙◌, inl, inr, ◌⊎◌, arith, length-set, subst, append-nil}
+use Rattle.std.proofs.Common.{◌≡◌, ℕ, ◌<◌, ◌≤◌, ◌&&◌, Bool, true, false, List, [], ◌∷◌, ◌++◌, length, take, ◌+◌, Option, Some, None, refl, sym, ap, ap₂, ◌∙◌, inl, inr, ◌⊎◌, arith, length-set, subst, append-nil}
 use Rattle.std.specs.List.{slice_get, slice_set, flat_map}
 use Rattle.std.proofs.lemmas.Option.{slice_get_within}
 use Rattle.plan_core.specs.declared.arena.Node.{Node}
@@ -27,9 +27,8 @@ use Rattle.plan_ir.specs.Plans.{Op, op_at, plans_of, plans_at, bare}
 use Rattle.plan_ir.proofs.PlanLemmas.{plan_down}
 use Rattle.plan_core.specs.Names.{with_names, with_name}
 use Rattle.plan_expr.specs.Leaves.{Name, leaves}
-use Rattle.plan_prune.specs.Pruned.{asks, rebuilt, pruned_all, typed_names}
+use Rattle.plan_prune.specs.Pruned.{asks_plans, rebuilt, top_below, pruned_all, typed_names}
 use Rattle.plan_meaning.specs.PlanAt.{one_plan}
-use Rattle.plan_prune.specs.Stored.{stored_all}
 use Rattle.plan_prune.specs.Prunes.{StandExprs, TakePlace, Prunes, PrunesAt}
 use Rattle.plan_prune.specs.Scans.{narrowed, kept_scan, with_node}
 use Rattle.plan_prune.specs.Kept.{is_some_name}
@@ -77,8 +76,8 @@ entry_stays a b c n p d e taken grows =
     omega arith
 
 -- from the input of a node to the node, which goes back over the same input
-pub finish : (top : Bool) (asked names : List Name) (a b c : List IR) (ex : List AExpr) (n i : Node) (p q d : IR) (t : Trees IR) → StandsOnce plan_shape a (n ∷ []) t → slice_get a n.0 ≡ Some p → b ≡ slice_set a n.0 d → inputs_of p ≡ i ∷ [] → inputs_of q ≡ inputs_of p → is_invalid q ≡ false → TakePlace ex (roots_of q) (roots_of p) → names ≡ asks asked (op_at ex p) (stored_all (bare (plans_at b ex (i ∷ [])))) → rose tt (op_at ex q) (bare (plans_at c ex (i ∷ []))) ≡ rebuilt top asked (op_at ex p) (bare (plans_at c ex (i ∷ []))) → PrunesAt top names b c ex i → Prunes top asked a (slice_set c n.0 q) ex n t
-finish top asked names a b c ex n i p q d t h e taken one same valid roots asks_is built below =
+pub finish : (top low : Bool) (asked names : List Name) (a b c : List IR) (ex : List AExpr) (n i : Node) (p q d : IR) (t : Trees IR) → StandsOnce plan_shape a (n ∷ []) t → slice_get a n.0 ≡ Some p → b ≡ slice_set a n.0 d → inputs_of p ≡ i ∷ [] → inputs_of q ≡ inputs_of p → is_invalid q ≡ false → TakePlace ex (roots_of q) (roots_of p) → low ≡ top_below top (op_at ex p) → names ≡ asks_plans asked (op_at ex p) (bare (plans_at b ex (i ∷ []))) → rose tt (op_at ex q) (bare (plans_at c ex (i ∷ []))) ≡ rebuilt top asked (op_at ex p) (bare (plans_at c ex (i ∷ []))) → PrunesAt low names b c ex i → Prunes top asked a (slice_set c n.0 q) ex n t
+finish top low asked names a b c ex n i p q d t h e taken one same valid roots low_is asks_is built below =
     let o = opened plan_shape a n p t h e in
     let under : StandsOnce plan_shape b (inputs_of p) o.kids = rw taken (StandsOnce-set plan_shape a (inputs_of p) o.kids n.0 d o.inputs o.above) in
     let at_input : StandsOnce plan_shape b (i ∷ []) o.kids = subst (λ (ns : List Node). StandsOnce plan_shape b ns o.kids) one under in
@@ -94,13 +93,13 @@ finish top asked names a b c ex n i p q d t h e taken one same valid roots asks_
       pruned =
           ap (λ r. more r no_roses) (subst (λ (f : Roses (Unit {0}) Op). rose tt (op_at ex q) f ≡ rebuilt top asked (op_at ex p) f) after built)
           ∙ ap (λ (f : Roses (Unit {0}) Op). more (rebuilt top asked (op_at ex p) f) no_roses) x.pruned
-          ∙ ap (λ (l : List Name). more (rebuilt top asked (op_at ex p) (pruned_all top l kids)) no_roses) asks_is
-          ∙ ap (λ (f : Roses (Unit {0}) Op). more (rebuilt top asked (op_at ex p) (pruned_all top (asks asked (op_at ex p) (stored_all f)) kids)) no_roses) before;
+          ∙ ap₂ (λ (w : Bool) (l : List Name). more (rebuilt top asked (op_at ex p) (pruned_all w l kids)) no_roses) low_is asks_is
+          ∙ ap (λ (f : Roses (Unit {0}) Op). more (rebuilt top asked (op_at ex p) (pruned_all (top_below top (op_at ex p)) (asks_plans asked (op_at ex p) f) kids)) no_roses) before;
     })
 
 -- from the input of a node to the node, where what stands at the input's number takes its place
-pub moves_up : (top : Bool) (asked names : List Name) (a b c : List IR) (ex : List AExpr) (n i : Node) (p q d m : IR) (t : Trees IR) → StandsOnce plan_shape a (n ∷ []) t → slice_get a n.0 ≡ Some p → b ≡ slice_set a n.0 d → inputs_of p ≡ i ∷ [] → slice_get c i.0 ≡ Some q → names ≡ asks asked (op_at ex p) (stored_all (bare (plans_at b ex (i ∷ [])))) → ((f : Roses (Unit {0}) Op) → one_plan f ≡ rebuilt top asked (op_at ex p) f) → PrunesAt top names b c ex i → Prunes top asked a (slice_set (slice_set c i.0 m) n.0 q) ex n t
-moves_up top asked names a b c ex n i p q d m t h e taken one entry asks_is built below =
+pub moves_up : (top low : Bool) (asked names : List Name) (a b c : List IR) (ex : List AExpr) (n i : Node) (p q d m : IR) (t : Trees IR) → StandsOnce plan_shape a (n ∷ []) t → slice_get a n.0 ≡ Some p → b ≡ slice_set a n.0 d → inputs_of p ≡ i ∷ [] → slice_get c i.0 ≡ Some q → low ≡ top_below top (op_at ex p) → names ≡ asks_plans asked (op_at ex p) (bare (plans_at b ex (i ∷ []))) → ((f : Roses (Unit {0}) Op) → one_plan f ≡ rebuilt top asked (op_at ex p) f) → PrunesAt low names b c ex i → Prunes top asked a (slice_set (slice_set c i.0 m) n.0 q) ex n t
+moves_up top low asked names a b c ex n i p q d m t h e taken one entry low_is asks_is built below =
     let o = opened plan_shape a n p t h e in
     let under : StandsOnce plan_shape b (inputs_of p) o.kids = rw taken (StandsOnce-set plan_shape a (inputs_of p) o.kids n.0 d o.inputs o.above) in
     let at_input : StandsOnce plan_shape b (i ∷ []) o.kids = subst (λ (ns : List Node). StandsOnce plan_shape b ns o.kids) one under in
@@ -124,8 +123,8 @@ moves_up top asked names a b c ex n i p q d m t h e taken one entry asks_is buil
           ap (λ (u : Trees IR). more (one_plan (bare (plans_of ex u))) no_roses) (sym y.is)
           ∙ ap (λ r. more r no_roses) (built (bare (plans_of ex x.trees)))
           ∙ ap (λ (f : Roses (Unit {0}) Op). more (rebuilt top asked (op_at ex p) f) no_roses) x.pruned
-          ∙ ap (λ (l : List Name). more (rebuilt top asked (op_at ex p) (pruned_all top l kids)) no_roses) asks_is
-          ∙ ap (λ (f : Roses (Unit {0}) Op). more (rebuilt top asked (op_at ex p) (pruned_all top (asks asked (op_at ex p) (stored_all f)) kids)) no_roses) before;
+          ∙ ap₂ (λ (w : Bool) (l : List Name). more (rebuilt top asked (op_at ex p) (pruned_all w l kids)) no_roses) low_is asks_is
+          ∙ ap (λ (f : Roses (Unit {0}) Op). more (rebuilt top asked (op_at ex p) (pruned_all (top_below top (op_at ex p)) (asks_plans asked (op_at ex p) f) kids)) no_roses) before;
     })
 
 -- what stands at the inputs of a node, once the node is taken, and at its input once that is pruned
@@ -158,7 +157,7 @@ no_trees lp (more (rose n p kids) rest) h = absurd h
 -- a node without inputs at a number
 module _ (a b : List IR) (ex : List AExpr) (n : Node) (p d : IR) (t : Trees IR) (h : StandsOnce plan_shape a (n ∷ []) t) (leaf : inputs_of p ≡ []) (e : slice_get a n.0 ≡ Some p) (taken : b ≡ slice_set a n.0 d) where
   -- its tree has nothing below
-  alone : t ≡ more (rose n p no_roses) no_roses
+  pub alone : t ≡ more (rose n p no_roses) no_roses
   alone =
       let o = opened plan_shape a n p t h e in
       o.is ∙ ap (λ (kids : Trees IR). more (rose n p kids) no_roses) (no_trees a o.kids (subst (λ (ns : List Node). Stands plan_shape a ns o.kids) leaf o.inputs.stands))

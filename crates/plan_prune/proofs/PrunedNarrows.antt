@@ -13,18 +13,20 @@ use Rattle.plan_ir.specs.Plans.{Op, slice, filter, scan, frame_scan, simple_proj
 use Rattle.plan_meaning.specs.Typing.{columns_or, file_columns, first_schema, out_names, made_schema, schema_by, schema, schemas, checks, AllHold, AllValid}
 use Rattle.plan_meaning.specs.Steps.{made, IsValid}
 use Rattle.plan_meaning.specs.Relating.{Refines, Asked, all, names, NarrowColumns, AgreeOn, Narrows}
-use Rattle.plan_meaning.specs.Asked.{set_of, kept_exprs, selected_exprs, all_leaves, asks_added, Fair, IsFair}
+use Rattle.plan_meaning.specs.Asked.{set_of, kept_exprs, selected_exprs, needed_names, all_leaves, asks_added, Fair, IsFair}
 use Rattle.plan_meaning.specs.Asked as asked
+use Rattle.plan_meaning.specs.Counting.{stand_ins, first_stand_in}
+use Rattle.plan_meaning.specs.Frames.{Agree}
 use Rattle.plan_meaning.proofs.Refining.{relates_refines}
 use Rattle.plan_meaning.proofs.Related.{SchemasRelated, AllRelate, relates_node, relates_top, relates_drop}
 use Rattle.plan_meaning.proofs.Fairness.{FairAll}
 use Rattle.plan_meaning.proofs.KeptExprs.{selected-all}
 use Rattle.plan_expr.specs.Leaves.{Name}
-use Rattle.plan_prune.specs.Pruned.{kept, pruned_output, typed_names, reading, projected, stacked_names, pruned_select, stacked, pruned_hstack, asks, rebuilt, pruned, pruned_all}
+use Rattle.plan_prune.specs.Pruned.{kept, pruned_output, typed_names, reading, projected, stacked_names, pruned_select, stacked, pruned_hstack, asks, asks_plans, rebuilt, top_below, top_after, pruned, pruned_all}
 use Rattle.plan_prune.specs.Stored.{stored_all}
 use Rattle.plan_prune.proofs.AskedNames.{set_some, kept-is, filter_asks, stacked_asks, each_asked, fair_each}
 use Rattle.plan_prune.proofs.NarrowLemmas.{Local, same_one, same_none, local_filter, local_slice}
-use Rattle.plan_prune.proofs.MadeNarrows.{leaf_types, leaf_frames}
+use Rattle.plan_prune.proofs.MadeNarrows.{SameLeaves, none_selected, needed_types, needed_frames}
 use Rattle.plan_prune.proofs.SelectNarrows.{local_selected, whole_selected}
 use Rattle.plan_prune.proofs.StackNarrows.{dropped_holds, dropped_agrees, local_added}
 use Rattle.plan_prune.proofs.StoredLemmas.{stored-schemas}
@@ -57,30 +59,30 @@ one_narrows o op a b rs t s is v h by =
 
 -- filters
 
-filter_narrows : (p : Named) (l : List Name) (rs : Roses (Unit {0}) Op) (t : Plan) (s : Columns) → schemas (more t no_roses) ≡ s ∷ [] → IsValid (rose tt (filter p) (more t no_roses)) → AllNarrow (set_of (asks l (filter p) []) ∷ []) rs (more t no_roses) → Narrows (rose tt (filter p) rs) (rose tt (filter p) (more t no_roses)) (set_of l)
+filter_narrows : (p : Named) (l : List Name) (rs : Roses (Unit {0}) Op) (t : Plan) (s : Columns) → schemas (more t no_roses) ≡ s ∷ [] → IsValid (rose tt (filter p) (more t no_roses)) → AllNarrow (set_of (asks l (filter p) [] []) ∷ []) rs (more t no_roses) → Narrows (rose tt (filter p) rs) (rose tt (filter p) (more t no_roses)) (set_of l)
 filter_narrows p l rs t s is v h =
-    let a = set_of (asks l (filter p) []) in
+    let a = set_of (asks l (filter p) [] []) in
     let good : AllHold (checks (filter p) (s ∷ [])) = subst (λ (ss : List Columns). AllHold (checks (filter p) ss)) is v.0 in
     one_narrows (filter p) (filter p) a (set_of l) rs t s is v h (λ r q.
-    subst (λ (x : Asked). Local (filter p) (filter p) (x ∷ []) (set_of l) (r ∷ []) (s ∷ [])) (filter_asks p l [])
-    (local_filter p (set_of l) r s good (subst (λ (x : Asked). NarrowColumns x r s) (sym (filter_asks p l [])) q)))
+    subst (λ (x : Asked). Local (filter p) (filter p) (x ∷ []) (set_of l) (r ∷ []) (s ∷ [])) (filter_asks p l [] [])
+    (local_filter p (set_of l) r s good (subst (λ (x : Asked). NarrowColumns x r s) (sym (filter_asks p l [] [])) q)))
 
 -- projections
 
-local_kept : (cs : Columns) (l : List Name) (r s : Columns) → AllHold (checks (simple_projection cs) (s ∷ [])) → IsFair (set_of l) cs → NarrowColumns (set_of (asks l (simple_projection cs) [])) r s → Local (simple_projection (kept l cs)) (simple_projection cs) (set_of (asks l (simple_projection cs) []) ∷ []) (set_of l) (r ∷ []) (s ∷ [])
+local_kept : (cs : Columns) (l : List Name) (r s : Columns) → AllHold (checks (simple_projection cs) (s ∷ [])) → IsFair (set_of l) cs → NarrowColumns (set_of (asks l (simple_projection cs) [] [])) r s → Local (simple_projection (kept l cs)) (simple_projection cs) (set_of (asks l (simple_projection cs) [] []) ∷ []) (set_of l) (r ∷ []) (s ∷ [])
 local_kept cs l r s good fair h =
     let ks = asked.kept (set_of l) cs in
-    let is : set_of (asks l (simple_projection cs) []) ≡ names (with_names [] (names_of ks)) =
+    let is : set_of (asks l (simple_projection cs) [] []) ≡ names (with_names [] (names_of ks)) =
     ap (λ (x : Columns). set_of (with_names [] (names_of x))) (kept-is l cs) ∙ set_some (with_names [] (names_of ks)) (asked_some cs (set_of l) s good fair) in
     subst (λ (x : Asked). Local (simple_projection (kept l cs)) (simple_projection cs) (x ∷ []) (set_of l) (r ∷ []) (s ∷ [])) (sym is)
     (subst (λ (x : Columns). Local (simple_projection x) (simple_projection cs) (names (with_names [] (names_of ks)) ∷ []) (set_of l) (r ∷ []) (s ∷ [])) (sym (kept-is l cs))
     (local_columns cs (set_of l) r s good fair (subst (λ (x : Asked). NarrowColumns x r s) is h)))
 
-projection_narrows : (cs : Columns) (l : List Name) (rs : Roses (Unit {0}) Op) (t : Plan) (s : Columns) → schemas (more t no_roses) ≡ s ∷ [] → IsValid (rose tt (simple_projection cs) (more t no_roses)) → IsFair (set_of l) cs → AllNarrow (set_of (asks l (simple_projection cs) []) ∷ []) rs (more t no_roses) → Narrows (rose tt (simple_projection (kept l cs)) rs) (rose tt (simple_projection cs) (more t no_roses)) (set_of l)
+projection_narrows : (cs : Columns) (l : List Name) (rs : Roses (Unit {0}) Op) (t : Plan) (s : Columns) → schemas (more t no_roses) ≡ s ∷ [] → IsValid (rose tt (simple_projection cs) (more t no_roses)) → IsFair (set_of l) cs → AllNarrow (set_of (asks l (simple_projection cs) [] []) ∷ []) rs (more t no_roses) → Narrows (rose tt (simple_projection (kept l cs)) rs) (rose tt (simple_projection cs) (more t no_roses)) (set_of l)
 projection_narrows cs l rs t s is v fair h =
     let o = simple_projection (kept l cs) in
     let op = simple_projection cs in
-    let a = set_of (asks l op []) in
+    let a = set_of (asks l op [] []) in
     let good : AllHold (checks op (s ∷ [])) = subst (λ (ss : List Columns). AllHold (checks op ss)) is v.0 in
     one_narrows o op a (set_of l) rs t s is v h (λ r q. local_kept cs l r s good fair q)
 
@@ -119,22 +121,23 @@ slice_narrows offset len l rs t s is v h =
 
 -- selections
 
-select_narrows : (es : List Named) (stored : Columns) (options : ProjectionOptions) (l : List Name) (rs : Roses (Unit {0}) Op) (t : Plan) (s : Columns) → schemas (more t no_roses) ≡ s ∷ [] → IsValid (rose tt (select es stored options) (more t no_roses)) → IsFair (set_of l) (made_schema [] es s) → AllNarrow (set_of (with_names [] (all_leaves (selected_exprs (set_of l) es))) ∷ []) rs (more t no_roses) → Narrows (pruned_select l es stored options rs) (rose tt (select es stored options) (more t no_roses)) (set_of l)
-select_narrows es stored options [] rs t s is v fair h =
+select_narrows : (es : List Named) (stored : Columns) (options : ProjectionOptions) (o : Option Name) (l : List Name) (rs : Roses (Unit {0}) Op) (t : Plan) (s : Columns) → schemas (more t no_roses) ≡ s ∷ [] → IsValid (rose tt (select es stored options) (more t no_roses)) → IsFair (set_of l) (made_schema [] es s) → AllNarrow (set_of (needed_names es o (selected_exprs (set_of l) es)) ∷ []) rs (more t no_roses) → Narrows (pruned_select l es stored options rs) (rose tt (select es stored options) (more t no_roses)) (set_of l)
+select_narrows es stored options o [] rs t s is v fair h =
     let op = select es stored options in
-    let a = set_of (with_names [] (all_leaves (selected_exprs all es))) in
+    let ks = selected_exprs all es in
+    let a = set_of (needed_names es o ks) in
     let good : AllHold (checks op (s ∷ [])) = subst (λ (ss : List Columns). AllHold (checks op ss)) is v.0 in
     one_narrows op op a all rs t s is v h (λ r q.
     whole_selected es stored options s good a r
-    (leaf_types es r s (subst (λ (x : List Named). NarrowColumns (set_of (with_names [] (all_leaves x))) r s) (selected-all es) q))
-    (λ f g k. leaf_frames es f g (subst (λ (x : List Named). AgreeOn (set_of (with_names [] (all_leaves x))) f g) (selected-all es) k)))
-select_narrows es stored options (b ∷ l) rs t s is v fair h =
+    (subst (λ (x : List Named). SameLeaves x r s) (selected-all es) (needed_types es ks o r s (none_selected es all) q))
+    (λ f g k. subst (λ (x : List Named). Agree (all_leaves x) f g) (selected-all es) (needed_frames es ks o f g (none_selected es all) k)))
+select_narrows es stored options o (b ∷ l) rs t s is v fair h =
     let op = select es stored options in
     let ks = selected_exprs (names (b ∷ l)) es in
-    let a = set_of (with_names [] (all_leaves ks)) in
+    let a = set_of (needed_names es o ks) in
     let good : AllHold (checks op (s ∷ [])) = subst (λ (ss : List Columns). AllHold (checks op ss)) is v.0 in
     one_narrows (select ks (with_types [] (typed_names stored (out_names ks))) options) op a (names (b ∷ l)) rs t s is v h (λ r q.
-    local_selected es stored options s good (b ∷ l) fair r (leaf_types ks r s q) a (λ f g k. leaf_frames ks f g k))
+    local_selected es stored options s good (b ∷ l) fair r (needed_types es ks o r s (none_selected es (names (b ∷ l))) q) a (λ f g k. needed_frames es ks o f g (none_selected es (names (b ∷ l))) k))
 
 -- additions
 
@@ -185,7 +188,7 @@ frame_narrows (a ∷ l) df columns output rs v fair h =
     relates_node Asked NarrowColumns AgreeOn left given [] (names (a ∷ l)) rs no_roses v h (λ k. none_here left given (names (a ∷ l)) (schemas rs) k (local_frame df columns output (a ∷ l) v.0 fair))
 
 -- a node that is rebuilt over inputs that narrow at what it asks narrows at what it is asked
-rebuilt_narrows : (top : Bool) (l : List Name) (op : Op) (rs ts : Roses (Unit {0}) Op) → IsValid (rose tt op ts) → IsFair (set_of l) (schema_by op (schemas ts)) → AllNarrow (each_asked (set_of (asks l op (stored_all ts))) ts) rs ts → Narrows (rebuilt top l op rs) (rose tt op ts) (set_of l)
+rebuilt_narrows : (top : Bool) (l : List Name) (op : Op) (rs ts : Roses (Unit {0}) Op) → IsValid (rose tt op ts) → IsFair (set_of l) (schema_by op (schemas ts)) → AllNarrow (each_asked (set_of (asks_plans l op ts)) ts) rs ts → Narrows (rebuilt top l op rs) (rose tt op ts) (set_of l)
 rebuilt_narrows top l (filter p) rs (more (rose n o us) no_roses) v fair h = filter_narrows p l rs (rose n o us) (schema_by o (schemas us)) refl v h
 rebuilt_narrows top l (filter p) rs (more (rose n o us) (more (rose m o' us') rest)) v fair h = cc
 rebuilt_narrows top l (filter p) rs no_roses v fair h = cc
@@ -199,7 +202,7 @@ rebuilt_narrows top l (slice offset len) rs (more (rose n o us) (more (rose m o'
 rebuilt_narrows top l (slice offset len) rs no_roses v fair h = cc
 rebuilt_narrows top l (frame_scan df columns output) rs no_roses v fair h = frame_narrows l df columns output rs v fair h
 rebuilt_narrows top l (frame_scan df columns output) rs (more (rose n o us) rest) v fair h = cc
-rebuilt_narrows top l (select es stored options) rs (more (rose n o us) no_roses) v fair h = select_narrows es stored options l rs (rose n o us) (schema_by o (schemas us)) refl v fair h
+rebuilt_narrows top l (select es stored options) rs (more (rose n o us) no_roses) v fair h = select_narrows es stored options (first_stand_in (stand_ins (more (rose n o us) no_roses) (stored_all (more (rose n o us) no_roses)))) l rs (rose n o us) (schema_by o (schemas us)) refl v fair h
 rebuilt_narrows top l (select es stored options) rs (more (rose n o us) (more (rose m o' us') rest)) v fair h = cc
 rebuilt_narrows top l (select es stored options) rs no_roses v fair h = cc
 rebuilt_narrows top l (hstack es stored options) rs (more (rose n o us) no_roses) v fair h = stack_narrows es stored options n o us v l rs fair h
@@ -211,8 +214,8 @@ rebuilt_narrows top l invalid rs ts v fair h = cc
 pub all_narrow : (top : Bool) (l : List Name) (ts : Roses (Unit {0}) Op) → AllValid ts → FairAll (each_asked (set_of l) ts) (schemas ts) → AllNarrow (each_asked (set_of l) ts) (pruned_all top l ts) ts
 all_narrow top l no_roses v f = tt
 all_narrow top l (more (rose n op ts) rest) v f = (
-  rebuilt_narrows top l op (pruned_all top (asks l op (stored_all ts)) ts) ts (v.0, v.1) f.0 (all_narrow top (asks l op (stored_all ts)) ts v.1 (fair_each l op ts v.0 v.1 f.0)),
-  all_narrow top l rest v.2 f.1,
+  rebuilt_narrows top l op (pruned_all (top_below top op) (asks_plans l op ts) ts) ts (v.0, v.1) f.0 (all_narrow (top_below top op) (asks_plans l op ts) ts v.1 (fair_each l op ts v.0 v.1 f.0)),
+  all_narrow (top_after top (rose n op ts)) l rest v.2 f.1,
 )
 
 -- a pruned plan narrows at what it is asked

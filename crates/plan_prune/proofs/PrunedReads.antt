@@ -14,12 +14,12 @@ use Rattle.plan_meaning.specs.PlanAt.{one_plan}
 use Rattle.plan_meaning.specs.Steps.{IsValid}
 use Rattle.plan_meaning.specs.Relating.{Asked, all, names}
 use Rattle.plan_meaning.specs.Asked.{set_of, kept_exprs, asks as asks_of, Site, SiteFair, own_site, sites, sites_of}
+use Rattle.plan_meaning.specs.Counting.{stand_ins}
 use Rattle.plan_meaning.specs.Scans.{scans, scans_in, KeepScans, Keeps, nodes}
 use Rattle.plan_meaning.proofs.Fairness.{plan_sites_fair}
 use Rattle.plan_meaning.proofs.Keeping.{sites-scans}
 use Rattle.plan_expr.specs.Leaves.{Name}
-use Rattle.plan_prune.specs.Pruned.{typed_names, stacked, asks, rebuilt, pruned, pruned_all}
-use Rattle.plan_prune.specs.Stored.{stored_all}
+use Rattle.plan_prune.specs.Pruned.{typed_names, stacked, asks_plans, rebuilt, top_below, top_after, pruned, pruned_all}
 use Rattle.plan_prune.specs.Reads.{ReadWithin, own_tops, tops_in, tops}
 use Rattle.plan_prune.proofs.AskedNames.{each_asked, asks-each}
 
@@ -88,14 +88,16 @@ all_read : (top : Bool) (l : List Name) (ts : Roses (Unit {0}) Op) → AllValid 
 all_read top l no_roses v = tt
 all_read top l (more (rose n op ts) rest) v =
     let a = set_of l in
-    let b = asks l op (stored_all ts) in
+    let b = asks_plans l op ts in
+    let low = top_below top op in
+    let next = top_after top (rose n op ts) in
     let own = own_site op a in
-    let below = sites ts (asks_of op a (schemas ts)) in
+    let below = sites ts (asks_of op a (schemas ts) (stand_ins ts (schemas ts))) in
     let others = sites rest (each_asked a rest) in
-    let under = subst (λ (x : List Asked). ReadWithin (scans_in (pruned_all top b ts)) (sites ts x)) (sym (asks-each l op ts v.0 v.1)) (all_read top b ts v.1) in
-    let here = rebuilt_reads top l op (pruned_all top b ts) below (one_at_most top b op ts v.0) under in
+    let under = subst (λ (x : List Asked). ReadWithin (scans_in (pruned_all low b ts)) (sites ts x)) (sym (asks-each l op ts v.0 v.1)) (all_read low b ts v.1) in
+    let here = rebuilt_reads top l op (pruned_all low b ts) below (one_at_most low b op ts v.0) under in
     subst (λ (x : List Site). ReadWithin (scans_in (pruned_all top l (more (rose n op ts) rest))) x) (append_assoc own below others)
-    (reads_append (scans (rebuilt top l op (pruned_all top b ts))) (scans_in (pruned_all top l rest)) (own ++ below) others here (all_read top l rest v.2))
+    (reads_append (scans (rebuilt top l op (pruned_all low b ts))) (scans_in (pruned_all next l rest)) (own ++ below) others here (all_read next l rest v.2))
 
 pub pruned_reads : (top : Bool) (p : Plan) → IsValid p → ReadWithin (scans (pruned top [] p)) (sites_of p)
 pruned_reads top (rose n op ts) v =
@@ -146,13 +148,15 @@ all_nodes : (top : Bool) (l : List Name) (ts : Roses (Unit {0}) Op) → AllValid
 all_nodes top l no_roses v = omega arith
 all_nodes top l (more (rose n op ts) rest) v =
     let a = set_of l in
-    let b = asks l op (stored_all ts) in
-    let rs = pruned_all top b ts in
-    let split : size (pruned_all top l (more (rose n op ts) rest)) ≡ nodes (rebuilt top l op rs) + size (pruned_all top l rest) = size-more (rebuilt top l op rs) (pruned_all top l rest) in
+    let b = asks_plans l op ts in
+    let low = top_below top op in
+    let next = top_after top (rose n op ts) in
+    let rs = pruned_all low b ts in
+    let split : size (pruned_all top l (more (rose n op ts) rest)) ≡ nodes (rebuilt top l op rs) + size (pruned_all next l rest) = size-more (rebuilt top l op rs) (pruned_all next l rest) in
     let here = rebuilt_nodes top l op (schemas ts) rs in
-    let under : size rs ≤ size ts + tops_in ts (asks_of op a (schemas ts)) =
-    subst (λ (x : List Asked). size rs ≤ size ts + tops_in ts x) (sym (asks-each l op ts v.0 v.1)) (all_nodes top b ts v.1) in
-    let others = all_nodes top l rest v.2 in
+    let under : size rs ≤ size ts + tops_in ts (asks_of op a (schemas ts) (stand_ins ts (schemas ts))) =
+    subst (λ (x : List Asked). size rs ≤ size ts + tops_in ts x) (sym (asks-each l op ts v.0 v.1)) (all_nodes low b ts v.1) in
+    let others = all_nodes next l rest v.2 in
     omega arith
 
 pub pruned_nodes : (top : Bool) (p : Plan) → IsValid p → nodes (pruned top [] p) ≤ nodes p + tops p all

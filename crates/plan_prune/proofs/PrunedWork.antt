@@ -11,10 +11,10 @@ use Rattle.plan_meaning.specs.PlanAt.{one_plan}
 use Rattle.plan_meaning.specs.Steps.{IsValid}
 use Rattle.plan_meaning.specs.Relating.{Asked, all, names}
 use Rattle.plan_meaning.specs.Asked.{set_of, kept_exprs, asks as asks_of}
+use Rattle.plan_meaning.specs.Counting.{stand_ins}
 use Rattle.plan_meaning.specs.Work.{reckoned_exprs, made_in, made, own_kept, kept_in, kept}
 use Rattle.plan_meaning.proofs.KeptExprs.{kept-all, selected-all}
-use Rattle.plan_prune.specs.Pruned.{stacked, asks, rebuilt, pruned, pruned_all}
-use Rattle.plan_prune.specs.Stored.{stored_all}
+use Rattle.plan_prune.specs.Pruned.{stacked, asks_plans, rebuilt, top_below, top_after, pruned, pruned_all}
 use Rattle.plan_prune.proofs.AskedNames.{each_asked, asks-each}
 
 made-more : (p : Plan) (ps : Roses (Unit {0}) Op) → made_in (more p ps) ≡ made p + made_in ps
@@ -48,13 +48,15 @@ all_made : (top : Bool) (l : List Name) (ts : Roses (Unit {0}) Op) → AllValid 
 all_made top l no_roses v = omega arith
 all_made top l (more (rose n op ts) rest) v =
     let a = set_of l in
-    let b = asks l op (stored_all ts) in
-    let rs = pruned_all top b ts in
-    let split : made_in (pruned_all top l (more (rose n op ts) rest)) ≡ made (rebuilt top l op rs) + made_in (pruned_all top l rest) = made-more (rebuilt top l op rs) (pruned_all top l rest) in
+    let b = asks_plans l op ts in
+    let low = top_below top op in
+    let next = top_after top (rose n op ts) in
+    let rs = pruned_all low b ts in
+    let split : made_in (pruned_all top l (more (rose n op ts) rest)) ≡ made (rebuilt top l op rs) + made_in (pruned_all next l rest) = made-more (rebuilt top l op rs) (pruned_all next l rest) in
     let here = rebuilt_made top l op rs in
-    let under : made_in rs ≤ kept_in ts (asks_of op a (schemas ts)) =
-    subst (λ (x : List Asked). made_in rs ≤ kept_in ts x) (sym (asks-each l op ts v.0 v.1)) (all_made top b ts v.1) in
-    let others = all_made top l rest v.2 in
+    let under : made_in rs ≤ kept_in ts (asks_of op a (schemas ts) (stand_ins ts (schemas ts))) =
+    subst (λ (x : List Asked). made_in rs ≤ kept_in ts x) (sym (asks-each l op ts v.0 v.1)) (all_made low b ts v.1) in
+    let others = all_made next l rest v.2 in
     omega arith
 
 -- a pruned plan makes at most the columns that its nodes are asked

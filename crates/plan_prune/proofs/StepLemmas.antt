@@ -1,26 +1,27 @@
 -- A node that was taken is pruned by its step.
-use Rattle.std.proofs.Common.{◌≡◌, Bool, true, false, List, [], ◌∷◌, ◌&&◌, Some, refl, sym, ap, ◌∙◌, subst}
+use Rattle.std.proofs.Common.{◌≡◌, Bool, true, false, not, List, [], ◌∷◌, ◌&&◌, ◌||◌, Some, refl, sym, ap, ◌∙◌, subst}
 use Rattle.std.specs.List.{slice_get, slice_set}
 use Rattle.plan_core.specs.declared.arena.Node.{Node}
-use Rattle.plan_core.specs.Names.{with_names}
 use Rattle.plan_tree.specs.Rose.{no_roses}
 use Rattle.plan_tree.specs.Stands.{Trees, StandsOnce}
+use Rattle.plan_tree.proofs.Frames.{StandsOnce-set}
 use Rattle.plan_tree.proofs.TreeLemmas.{opened}
 use Rattle.plan_expr.specs.declared.aexpr.AExpr.{AExpr}
 use Rattle.plan_ir.specs.declared.ir.IR.{IR}
 use Rattle.plan_ir.specs.declared.ir.IR.TheVariants.{Slice, Filter, Scan, DataFrameScan, SimpleProjection, Select, HStack, Invalid}
 use Rattle.plan_ir.specs.Parts.{plan_shape, inputs_of}
-use Rattle.plan_expr.specs.Exprs.{Named}
-use Rattle.plan_ir.specs.Plans.{bare, plans_at}
+use Rattle.plan_expr.specs.Exprs.{Named, all_named_at}
+use Rattle.plan_ir.specs.Plans.{bare, op_at, plans_at, plans_of}
 use Rattle.plan_expr.specs.Leaves.{Name}
-use Rattle.plan_meaning.specs.Asked.{all_leaves}
+use Rattle.plan_meaning.specs.Counting.{is_count, meet_count}
+use Rattle.plan_meaning.specs.Asked.{needed_names, selected_exprs, set_of}
 use Rattle.plan_prune.specs.declared.push_down.step.Step.TheVariants.{Leaf, Over}
 use Rattle.plan_prune.specs.Kept.{is_some_name, names_at, selected_at, stacked_at, stored_after}
-use Rattle.plan_prune.specs.Pruned.{kept, pruned_output}
-use Rattle.plan_prune.specs.Prunes.{Prunes, PrunesAt}
+use Rattle.plan_prune.specs.Pruned.{kept, pruned_output, top_below}
+use Rattle.plan_prune.specs.Prunes.{MarksAt, Prunes, PrunesAt}
 use Rattle.plan_prune.specs.Scans.{kept_scan, with_node}
-use Rattle.plan_prune.specs.Steps.{columns_at, step_of, put_back}
-use Rattle.plan_prune.proofs.PruneLemmas.{finish, stays, scan_pruned, stands_taken, stands_after}
+use Rattle.plan_prune.specs.Steps.{columns_at, stand_in_at, step_of, put_back}
+use Rattle.plan_prune.proofs.PruneLemmas.{alone, finish, stays, scan_pruned, stands_taken, stands_after}
 use Rattle.plan_prune.proofs.KeptLemmas.{selected_named, selected_place, select_built, hstack_asks}
 use Rattle.plan_prune.proofs.HStackPruned.{hstack_pruned}
 
@@ -75,14 +76,25 @@ is_leaf lp ex asked (Select j es schema options) q e = cc
 is_leaf lp ex asked (HStack j es schema options) q e = cc
 is_leaf lp ex asked Invalid q e = ap inputs_of (leaf_part q _ e)
 
+-- and it is that of a node without inputs
+leaf_alone : (lp : List IR) (ex : List AExpr) (asked : List Name) (p q : IR) → Leaf q ≡ step_of lp ex asked p → inputs_of p ≡ []
+leaf_alone lp ex asked (Slice j offset len) q e = cc
+leaf_alone lp ex asked (Filter j predicate) q e = cc
+leaf_alone lp ex asked (Scan sources info predicate output kind options) q e = refl
+leaf_alone lp ex asked (DataFrameScan df schema output) q e = refl
+leaf_alone lp ex asked (SimpleProjection j columns) q e = cc
+leaf_alone lp ex asked (Select j es schema options) q e = cc
+leaf_alone lp ex asked (HStack j es schema options) q e = cc
+leaf_alone lp ex asked Invalid q e = refl
+
 pub leaf_stands : (lp : List IR) (ex : List AExpr) (asked : List Name) (p q : IR) → Leaf q ≡ step_of lp ex asked p → (t : Trees IR) × StandsOnce plan_shape lp (inputs_of q) t
 leaf_stands lp ex asked p q e = rw (is_leaf lp ex asked p q e) (no_roses, record { stands = tt; once = tt })
 
 -- what stands at the input of the node that goes back, once the input is pruned
-pub over_stands : (top : Bool) (asked names : List Name) (a b c : List IR) (ex : List AExpr) (n i : Node) (p q d : IR) (t : Trees IR) → StandsOnce plan_shape a (n ∷ []) t → slice_get a n.0 ≡ Some p → b ≡ slice_set a n.0 d → Over i names q ≡ step_of b ex asked p → PrunesAt top names b c ex i → (u : Trees IR) × StandsOnce plan_shape c (inputs_of q) u
-over_stands top asked names a b c ex n i p q d t h e taken is below =
+pub over_stands : (low : Bool) (asked names : List Name) (a b c : List IR) (ex : List AExpr) (n i : Node) (p q d : IR) (t : Trees IR) → StandsOnce plan_shape a (n ∷ []) t → slice_get a n.0 ≡ Some p → b ≡ slice_set a n.0 d → Over i names q ≡ step_of b ex asked p → PrunesAt low names b c ex i → (u : Trees IR) × StandsOnce plan_shape c (inputs_of q) u
+over_stands low asked names a b c ex n i p q d t h e taken is below =
     let o = is_over b ex asked names p q i is in
-    let s = stands_after top names b c ex i (stands_taken a b n i p d t h e taken o.one) below in
+    let s = stands_after low names b c ex i (stands_taken a b n i p d t h e taken o.one) below in
     (s.0, subst (λ (ns : List Node). StandsOnce plan_shape c ns s.0) (sym o.same) s.1)
 
 -- a node without inputs is pruned by its step
@@ -107,7 +119,7 @@ module _ (top : Bool) (asked : List Name) (a b z : List IR) (ex : List AExpr) (n
   leaf_pruned Invalid e is = let o = opened plan_shape a n Invalid t h e in let v : true ≡ false = o.valid in cc
 
 -- a node over an input is pruned by its step, once the input is pruned
-module _ (top : Bool) (asked names : List Name) (a b c z : List IR) (ex : List AExpr) (n i : Node) (q d : IR) (t : Trees IR) (h : StandsOnce plan_shape a (n ∷ []) t) (taken : b ≡ slice_set a n.0 d) (below : PrunesAt top names b c ex i) (back : z ≡ put_back top (is_some_name asked) c ex n q) where
+module _ (top low : Bool) (asked names : List Name) (a b c z : List IR) (ex : List AExpr) (n i : Node) (q d : IR) (t : Trees IR) (h : StandsOnce plan_shape a (n ∷ []) t) (taken : b ≡ slice_set a n.0 d) (below : PrunesAt low names b c ex i) (back : z ≡ put_back top (is_some_name asked) c ex n q) where
   put_over : (j : Node) (others : List Name) (r : IR) → Over i names q ≡ Over j others r → z ≡ put_back top (is_some_name asked) c ex n r
   put_over j others r e = let x = over_parts i j names others q r e in back ∙ ap (put_back top (is_some_name asked) c ex n) x.2
 
@@ -117,27 +129,68 @@ module _ (top : Bool) (asked names : List Name) (a b c z : List IR) (ex : List A
   one : (j : Node) (others : List Name) (r : IR) → Over i names q ≡ Over j others r → j ∷ [] ≡ i ∷ []
   one j others r e = let x = over_parts i j names others q r e in ap (λ (k : Node). k ∷ []) (sym x.0)
 
-  pub over_pruned : (p : IR) → slice_get a n.0 ≡ Some p → Over i names q ≡ step_of b ex asked p → Prunes top asked a z ex n t
-  over_pruned (Slice j offset len) e is =
-      rw (put_over _ _ _ is) (finish top asked names a b c ex n i (Slice j offset len) (Slice j offset len) d t h e taken (one _ _ _ is) refl refl (λ before after x. x) (named _ _ _ is) refl below)
-  over_pruned (Filter j predicate) e is =
-      rw (put_over _ _ _ is) (finish top asked names a b c ex n i (Filter j predicate) (Filter j predicate) d t h e taken (one _ _ _ is) refl refl (λ before after x. x) (named _ _ _ is) refl below)
-  over_pruned (SimpleProjection j columns) e is =
-      rw (put_over _ _ _ is) (finish top asked names a b c ex n i (SimpleProjection j columns) (SimpleProjection j (kept asked columns)) d t h e taken (one _ _ _ is) refl refl (λ before after x. x) (named _ _ _ is) refl below)
-  over_pruned (Select j es schema options) e is =
+  pub over_pruned : (p : IR) → slice_get a n.0 ≡ Some p → low ≡ top_below top (op_at ex p) → Over i names q ≡ step_of b ex asked p → Prunes top asked a z ex n t
+  over_pruned (Slice j offset len) e low_is is =
+      rw (put_over _ _ _ is) (finish top low asked names a b c ex n i (Slice j offset len) (Slice j offset len) d t h e taken (one _ _ _ is) refl refl (λ before after x. x) low_is (named _ _ _ is) refl below)
+  over_pruned (Filter j predicate) e low_is is =
+      rw (put_over _ _ _ is) (finish top low asked names a b c ex n i (Filter j predicate) (Filter j predicate) d t h e taken (one _ _ _ is) refl refl (λ before after x. x) low_is (named _ _ _ is) refl below)
+  over_pruned (SimpleProjection j columns) e low_is is =
+      rw (put_over _ _ _ is) (finish top low asked names a b c ex n i (SimpleProjection j columns) (SimpleProjection j (kept asked columns)) d t h e taken (one _ _ _ is) refl refl (λ before after x. x) low_is (named _ _ _ is) refl below)
+  over_pruned (Select j es schema options) e low_is is =
       let ks = selected_at ex asked es in
       let cs = stored_after (is_some_name asked) [] (names_at ks) schema in
-      rw (put_over _ _ _ is) (finish top asked names a b c ex n i (Select j es schema options) (Select j ks cs options) d t h e taken (one _ _ _ is) refl refl
-      (selected_place ex asked es)
-      (named _ _ _ is ∙ ap (λ (l : List Named). with_names [] (all_leaves l)) (selected_named ex asked es))
+      rw (put_over _ _ _ is) (finish top low asked names a b c ex n i (Select j es schema options) (Select j ks cs options) d t h e taken (one _ _ _ is) refl refl
+      (selected_place ex asked es) low_is
+      (named _ _ _ is
+      ∙ ap (λ (l : List Named). needed_names (all_named_at ex es) (stand_in_at b ex j) l) (selected_named ex asked es)
+      ∙ ap (λ (k : Node). needed_names (all_named_at ex es) (stand_in_at b ex k) (selected_exprs (set_of asked) (all_named_at ex es))) (sym (over_parts i j names _ q _ is).0))
       (select_built ex asked es ks schema cs options (bare (plans_at c ex (i ∷ []))) refl refl)
       below)
-  over_pruned (HStack j es schema options) e is =
+  over_pruned (HStack j es schema options) e low_is is =
       let x = over_parts i j names _ q _ is in
-      hstack_pruned top asked names a b c ex n j es schema options d t h e taken
+      hstack_pruned top low asked names a b c ex n j es schema options d t h e taken low_is
       (named _ _ _ is ∙ hstack_asks ex asked es (stacked_at asked es) (columns_at b ex j) refl)
-      (subst (λ (k : Node). PrunesAt top names b c ex k) x.0 below)
+      (subst (λ (k : Node). PrunesAt low names b c ex k) x.0 below)
       (is_some_name asked) (stacked_at asked es) z refl refl (put_over _ _ _ is)
-  over_pruned (Scan sources info predicate output kind options) e is = cc
-  over_pruned (DataFrameScan df schema output) e is = cc
-  over_pruned Invalid e is = cc
+  over_pruned (Scan sources info predicate output kind options) e low_is is = cc
+  over_pruned (DataFrameScan df schema output) e low_is is = cc
+  over_pruned Invalid e low_is is = cc
+
+-- the mark after it is set where a node counts rows, and else left
+
+pub mark_set : (before : Bool) {count after : Bool} → count ≡ true → after ≡ true → after ≡ (before || count)
+mark_set true a b = b
+mark_set false a b = b ∙ sym a
+
+pub mark_kept : (before : Bool) {count after : Bool} → count ≡ false → after ≡ before → after ≡ (before || count)
+mark_kept true a b = b
+mark_kept false a b = b ∙ sym a
+
+pub top_marked : (before count after : Bool) → after ≡ (before || count) → not after ≡ (not before && not count)
+top_marked true count after is = ap not is
+top_marked false count after is = ap not is
+
+-- the mark after a plan, once it is set where the node counts rows: of a node without inputs, and of one over an input that was marked
+
+marked_twice : (x y z : Bool) → ((x || y) || z) ≡ (x || (y || (z || false)))
+marked_twice true y z = refl
+marked_twice false true z = refl
+marked_twice false false true = refl
+marked_twice false false false = refl
+
+marked_once : (x y : Bool) → (x || y) ≡ (x || (y || false))
+marked_once true y = refl
+marked_once false true = refl
+marked_once false false = refl
+
+pub marks_leaf : (before mid : Bool) (lp b : List IR) (ex : List AExpr) (asked : List Name) (n : Node) (p q : IR) → slice_get lp n.0 ≡ Some p → Leaf q ≡ step_of b ex asked p → mid ≡ (before || is_count (op_at ex p)) → MarksAt before mid lp ex n
+marks_leaf before mid lp b ex asked n p q e leaf is t h =
+    is ∙ marked_once before (is_count (op_at ex p)) ∙ ap (λ (u : Trees IR). before || meet_count (bare (plans_of ex u))) (sym (alone lp (slice_set lp n.0 p) ex n p p t h (leaf_alone b ex asked p q leaf) e refl))
+
+pub marks_over : (before mid after : Bool) (lp b : List IR) (ex : List AExpr) (n i : Node) (p d : IR) → slice_get lp n.0 ≡ Some p → b ≡ slice_set lp n.0 d → inputs_of p ≡ i ∷ [] → mid ≡ (before || is_count (op_at ex p)) → MarksAt mid after b ex i → MarksAt before after lp ex n
+marks_over before mid after lp b ex n i p d e taken one is below t h =
+    let o = opened plan_shape lp n p t h e in
+    let under : StandsOnce plan_shape b (inputs_of p) o.kids = rw taken (StandsOnce-set plan_shape lp (inputs_of p) o.kids n.0 d o.inputs o.above) in
+    let at_input : StandsOnce plan_shape b (i ∷ []) o.kids = subst (λ (ns : List Node). StandsOnce plan_shape b ns o.kids) one under in
+    let k : Bool = meet_count (bare (plans_of ex o.kids)) in
+    below o.kids at_input ∙ ap (λ (m : Bool). m || k) is ∙ marked_twice before (is_count (op_at ex p)) k ∙ ap (λ (u : Trees IR). before || meet_count (bare (plans_of ex u))) (sym o.is)

@@ -7,7 +7,7 @@ use Rattle.plan_core.specs.Names.{has}
 use Rattle.plan_expr.specs.declared.aexpr.AExpr.{AExpr}
 use Rattle.plan_expr.specs.declared.expr_ir.ExprIR.{ExprIR}
 use Rattle.plan_ir.specs.declared.ir.IR.{IR}
-use Rattle.plan_ir.specs.declared.ir.IR.TheVariants.{HStack, Invalid}
+use Rattle.plan_ir.specs.declared.ir.IR.TheVariants.{Select, HStack, Invalid}
 use Rattle.plan_expr.specs.Exprs.{Named, expr_at, all_named_at}
 use Rattle.plan_expr.specs.Leaves.{Name}
 use Rattle.plan_expr.specs.Naming.{name_of}
@@ -18,6 +18,12 @@ use Rattle.plan_prune.specs.Pruned.{typed_names, added_names}
 -- the expressions that are asked, in their order
 abbrev pub asked_exprs : List Name → List ExprIR → List ExprIR
 asked_exprs asked es = filter_list (λ (e : ExprIR). has asked (name_of e.output_name)) es
+
+-- the expressions that a selection or an addition makes columns of; none for another node
+abbrev pub made_by : IR → List ExprIR
+made_by (Select i es schema options) = es
+made_by (HStack i es schema options) = es
+made_by p = []
 
 -- the first expression that isn't scalar, if there is one
 abbrev pub many_at : List AExpr → List ExprIR → List ExprIR

@@ -1,5 +1,5 @@
 -- What pruning makes of a plan. Names are asked of a node, and it asks names of its inputs; no names stand for every column.
-use Rattle.std.specs.Prelude.{Bool, true, false, List, [], ◌∷◌, Option, Some, option_map, filter as filter_list}
+use Rattle.std.specs.Prelude.{Bool, true, false, not, ◌&&◌, List, [], ◌∷◌, Option, Some, option_map, filter as filter_list}
 use Rattle.std.specs.List.{filter_map}
 use Rattle.plan_core.specs.Columns.{Columns, names_of, type_of}
 use Rattle.plan_core.specs.Names.{has, with_names}
@@ -17,7 +17,8 @@ use Rattle.plan_expr.specs.Leaves.{Name, leaves}
 use Rattle.plan_meaning.specs.Typing.{first_schema, out_names}
 use Rattle.plan_meaning.specs.PlanAt.{one_plan}
 use Rattle.plan_meaning.specs.Relating.{names as these}
-use Rattle.plan_meaning.specs.Asked.{set_of, kept_exprs, selected_exprs, all_leaves}
+use Rattle.plan_meaning.specs.Counting.{is_count, meets_count, stand_ins, first_stand_in}
+use Rattle.plan_meaning.specs.Asked.{set_of, kept_exprs, selected_exprs, all_leaves, needed_names}
 use Rattle.plan_prune.specs.Stored.{stored_all}
 
 -- the asked names with more, each last unless it is there; asked nothing, nothing
@@ -87,16 +88,16 @@ abbrev pub pruned_hstack : List Name → List Named → Columns → ProjectionOp
 pruned_hstack [] es schema options inputs = rose tt (hstack es schema options) inputs
 pruned_hstack (a ∷ asked) es schema options inputs = stacked (kept_exprs (these (a ∷ asked)) es) schema options inputs
 
--- what a node that is asked names asks its inputs, by the columns that these say they have
-abbrev pub asks : List Name → Op → List Columns → List Name
-asks asked (slice offset len) ss = asked
-asks asked (filter predicate) ss = asked_with asked (leaves predicate.expr)
-asks asked (scan sources info predicate output kind options) ss = []
-asks asked (frame_scan df schema output) ss = []
-asks asked (select exprs schema options) ss = with_names [] (all_leaves (selected_exprs (set_of asked) exprs))
-asks asked (hstack exprs schema options) ss = stacked_names asked exprs (first_schema ss)
-asks asked (simple_projection columns) ss = with_names [] (names_of (kept asked columns))
-asks asked invalid ss = []
+-- what a node that is asked names asks its inputs, by the columns that these say they have and those that stand in for their rows
+abbrev pub asks : List Name → Op → List Columns → List (Option Name) → List Name
+asks asked (slice offset len) ss os = asked
+asks asked (filter predicate) ss os = asked_with asked (leaves predicate.expr)
+asks asked (scan sources info predicate output kind options) ss os = []
+asks asked (frame_scan df schema output) ss os = []
+asks asked (select exprs schema options) ss os = needed_names exprs (first_stand_in os) (selected_exprs (set_of asked) exprs)
+asks asked (hstack exprs schema options) ss os = stacked_names asked exprs (first_schema ss)
+asks asked (simple_projection columns) ss os = with_names [] (names_of (kept asked columns))
+asks asked invalid ss os = []
 
 -- a node that is asked names, over its pruned inputs
 abbrev pub rebuilt : Bool → List Name → Op → Roses (Unit {0}) Op → Plan
@@ -109,11 +110,23 @@ rebuilt top asked (hstack exprs schema options) inputs = pruned_hstack asked exp
 rebuilt top asked (simple_projection columns) inputs = rose tt (simple_projection (kept asked columns)) inputs
 rebuilt top asked invalid inputs = rose tt invalid inputs
 
--- a plan pruned to the asked names, with projections on top of its scans or without
+-- what a node asks of plans
+abbrev pub asks_plans : {N : Type 0} → List Name → Op → Roses N Op → List Name
+asks_plans asked op ts = asks asked op (stored_all ts) (stand_ins ts (stored_all ts))
+
+-- whether projections go on top below a node: below a count of rows they don't
+abbrev pub top_below : Bool → Op → Bool
+top_below top op = top && not (is_count op)
+
+-- whether projections go on top after a plan: once rows are counted they don't
+abbrev pub top_after : Bool → Plan → Bool
+top_after top plan = top && not (meets_count plan)
+
+-- a plan pruned to the asked names, with projections on top of its scans or without; from the first count of rows on, in the order of plans and their inputs, without
 abbrev mutual
   pub pruned : Bool → List Name → Plan → Plan
-  pruned top asked (rose n op inputs) = rebuilt top asked op (pruned_all top (asks asked op (stored_all inputs)) inputs)
+  pruned top asked (rose n op inputs) = rebuilt top asked op (pruned_all (top_below top op) (asks_plans asked op inputs) inputs)
 
   pub pruned_all : Bool → List Name → Roses (Unit {0}) Op → Roses (Unit {0}) Op
   pruned_all top asked no_roses = no_roses
-  pruned_all top asked (more plan plans) = more (pruned top asked plan) (pruned_all top asked plans)
+  pruned_all top asked (more plan plans) = more (pruned top asked plan) (pruned_all (top_after top plan) asked plans)

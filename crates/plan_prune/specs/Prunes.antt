@@ -1,5 +1,5 @@
 -- That the plan at a number was pruned in place.
-use Rattle.std.specs.Prelude.{◌≡◌, Bool, List, [], ◌∷◌, ◌++◌}
+use Rattle.std.specs.Prelude.{◌≡◌, ◌||◌, Bool, List, [], ◌∷◌, ◌++◌}
 use Rattle.plan_core.specs.declared.arena.Node.{Node}
 use Rattle.plan_tree.specs.Stands.{Trees, StandsOnce, Rewrites}
 use Rattle.plan_expr.specs.declared.aexpr.AExpr.{AExpr}
@@ -8,6 +8,7 @@ use Rattle.plan_expr.specs.Operands.{expr_shape}
 use Rattle.plan_ir.specs.Parts.{plan_shape, roots_in}
 use Rattle.plan_ir.specs.Plans.{bare, plans_of}
 use Rattle.plan_expr.specs.Leaves.{Name}
+use Rattle.plan_meaning.specs.Counting.{meet_count}
 use Rattle.plan_prune.specs.Pruned.{pruned_all}
 
 -- expressions stand over these numbers, no number twice
@@ -28,3 +29,7 @@ pub record Prunes (top : Bool) (asked : List Name) (old new : List IR) (ex : Lis
 -- what stands at a number is pruned in place to the asked names
 abbrev pub PrunesAt : Bool → List Name → List IR → List IR → List AExpr → Node → Type 0
 PrunesAt top asked old new ex n = (t : Trees IR) → StandsOnce plan_shape old (n ∷ []) t → Prunes top asked old new ex n t
+
+-- the mark before became the one after: it is set where it was, or where what stands at a number counts rows
+abbrev pub MarksAt : Bool → Bool → List IR → List AExpr → Node → Type 0
+MarksAt before after lp ex n = (t : Trees IR) → StandsOnce plan_shape lp (n ∷ []) t → after ≡ (before || meet_count (bare (plans_of ex t)))

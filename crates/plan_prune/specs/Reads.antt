@@ -8,6 +8,7 @@ use Rattle.plan_expr.specs.Leaves.{Name}
 use Rattle.plan_meaning.specs.Typing.{schemas}
 use Rattle.plan_meaning.specs.Relating.{Asked, all, names, cached}
 use Rattle.plan_meaning.specs.Scans.{SameScan}
+use Rattle.plan_meaning.specs.Counting.{stand_ins}
 use Rattle.plan_meaning.specs.Asked.{asks, first_asked, rest_asked, reads, allowed, Site}
 
 -- the scans stand one for one for those that are asked something, and each reads only what it may for that
@@ -37,7 +38,7 @@ own_tops invalid a ss = 0
 abbrev pub tops_in : Roses (Unit {0}) Op → List Asked → ℕ
 tops_in no_roses asked = 0
 tops_in (more (rose n op ts) rest) asked =
-    own_tops op (first_asked asked) (schemas ts) + (tops_in ts (asks op (first_asked asked) (schemas ts)) + tops_in rest (rest_asked asked))
+    own_tops op (first_asked asked) (schemas ts) + (tops_in ts (asks op (first_asked asked) (schemas ts) (stand_ins ts (schemas ts))) + tops_in rest (rest_asked asked))
 
 -- the projections that may be put on the nodes of a plan
 abbrev pub tops : Plan → Asked → ℕ

@@ -1,5 +1,5 @@
 -- What is done at a node that was taken: before its input is pruned, and after.
-use Rattle.std.specs.Prelude.{Bool, ◌&&◌, List, [], ◌∷◌, slice_set}
+use Rattle.std.specs.Prelude.{Bool, ◌&&◌, List, [], ◌∷◌, Option, slice_set}
 use Rattle.plan_core.specs.declared.arena.Node.{Node}
 use Rattle.plan_core.specs.declared.options.ProjectionOptions.{ProjectionOptions}
 use Rattle.plan_core.specs.Columns.{Columns, names_of}
@@ -12,7 +12,8 @@ use Rattle.plan_expr.specs.Exprs.{expr_at, all_named_at}
 use Rattle.plan_ir.specs.Plans.{bare, plans_at}
 use Rattle.plan_expr.specs.Leaves.{Name, leaves}
 use Rattle.plan_meaning.specs.Typing.{first_schema}
-use Rattle.plan_meaning.specs.Asked.{all_leaves}
+use Rattle.plan_meaning.specs.Counting.{stand_ins, first_stand_in}
+use Rattle.plan_meaning.specs.Asked.{needed_names}
 use Rattle.plan_prune.specs.declared.push_down.step.Step.{Step}
 use Rattle.plan_prune.specs.declared.push_down.step.Step.TheVariants.{Leaf, Over}
 use Rattle.plan_prune.specs.Stored.{stored_all}
@@ -24,11 +25,15 @@ use Rattle.plan_prune.specs.Scans.{kept_scan, with_node}
 abbrev pub columns_at : List IR → List AExpr → Node → Columns
 columns_at lp ex n = first_schema (stored_all (bare (plans_at lp ex (n ∷ []))))
 
--- the step of a selection that is asked names
-abbrev pub selected_step : List AExpr → List Name → Node → List ExprIR → Columns → ProjectionOptions → Step
-selected_step ex asked i es schema options =
+-- the column that stands in for the rows of the plan at a number, if there is one
+abbrev pub stand_in_at : List IR → List AExpr → Node → Option Name
+stand_in_at lp ex n = let ts = bare (plans_at lp ex (n ∷ [])) in first_stand_in (stand_ins ts (stored_all ts))
+
+-- the step of a selection that is asked names; the last one is what stands in for the rows of its input
+abbrev pub selected_step : List AExpr → List Name → Node → List ExprIR → Columns → ProjectionOptions → Option Name → Step
+selected_step ex asked i es schema options o =
     let ks = selected_at ex asked es in
-    Over i (with_names [] (all_leaves (all_named_at ex ks))) (Select i ks (stored_after (is_some_name asked) [] (names_at ks) schema) options)
+    Over i (needed_names (all_named_at ex es) o (all_named_at ex ks)) (Select i ks (stored_after (is_some_name asked) [] (names_at ks) schema) options)
 
 -- the step of an addition that is asked names; the last columns are its input's
 abbrev pub stacked_step : List AExpr → List Name → Node → List ExprIR → Columns → ProjectionOptions → Columns → Step
@@ -43,7 +48,7 @@ step_of lp ex asked (Filter i predicate) = Over i (asked_with asked (leaves (exp
 step_of lp ex asked (Scan sources info predicate output kind options) = Leaf (kept_scan asked (Scan sources info predicate output kind options))
 step_of lp ex asked (DataFrameScan df schema output) = Leaf (DataFrameScan df schema (pruned_output asked schema output))
 step_of lp ex asked (SimpleProjection i columns) = Over i (with_names [] (names_of (kept asked columns))) (SimpleProjection i (kept asked columns))
-step_of lp ex asked (Select i es schema options) = selected_step ex asked i es schema options
+step_of lp ex asked (Select i es schema options) = selected_step ex asked i es schema options (stand_in_at lp ex i)
 step_of lp ex asked (HStack i es schema options) = stacked_step ex asked i es schema options (columns_at lp ex i)
 step_of lp ex asked Invalid = Leaf Invalid
 

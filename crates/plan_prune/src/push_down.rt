@@ -1,17 +1,18 @@
 //! The pass that prunes a plan to the columns that it needs.
 //! Each node is told the names that are asked of it, and asks its inputs the names that it needs;
 //! no names stand for every column. The rule of a node kind is in a file of its own, and `step` finds it.
-ghost use Rattle.std.specs.Prelude.{◌≡◌, ◌≤◌, ◌+◌, [], ◌∷◌, OnOk, false, length, not};
+ghost use Rattle.std.specs.Prelude.{◌≡◌, ◌≤◌, ◌+◌, [], ◌∷◌, OnOk, ◌||◌, false, length, not};
 ghost use Rattle.plan_ir.specs.Parts.{IsPlan};
 ghost use Rattle.plan_ir.specs.Plans.{bare, plans_at};
 ghost use Rattle.plan_meaning.specs.PlanAt.{plan_at};
 ghost use Rattle.plan_meaning.specs.Steps.{IsValid};
 ghost use Rattle.plan_meaning.specs.Relating.{all, Refines};
 ghost use Rattle.plan_meaning.specs.Asked.{sites_of};
+ghost use Rattle.plan_meaning.specs.Counting.{meets_count};
 ghost use Rattle.plan_meaning.specs.Scans.{nodes, scans};
 ghost use Rattle.plan_meaning.specs.Work.{made, kept};
 ghost use Rattle.plan_prune.specs.Pruned.{pruned_all};
-ghost use Rattle.plan_prune.specs.Prunes.{PrunesAt};
+ghost use Rattle.plan_prune.specs.Prunes.{MarksAt, PrunesAt};
 ghost use Rattle.plan_prune.specs.Reads.{ReadWithin, tops};
 
 mod exprs;
@@ -22,6 +23,7 @@ mod projection;
 mod scan;
 mod select;
 mod slice;
+mod stand_in;
 mod step;
 mod stored;
 
@@ -34,12 +36,12 @@ use std::alloc::{AllocError, Global};
 /// Prunes plans to the columns that they need.
 #[derive(Drop)]
 pub struct ProjectionPushDown {
-    /// Whether a narrowed scan goes without a projection on top.
+    /// Whether a selection of the number of rows alone was met. A narrowed scan then goes without a projection on top.
     pub is_count_star: bool,
 }
 
 impl ProjectionPushDown {
-    /// A pass that puts a projection on top of each narrowed scan.
+    /// A pass that has met no count of rows.
     pub fn new() -> Self
         ensures { result.is_count_star ≡ false }
     {
@@ -48,8 +50,9 @@ impl ProjectionPushDown {
         }
     }
 
-    /// Prunes the plan at `root`, of which every column is asked. Refuses for want of memory alone,
-    /// and then nothing is known of what stands at `root`.
+    /// Prunes the plan at `root`, of which every column is asked, and marks whether it counts rows. A projection goes on top of
+    /// each narrowed scan, but from the first count of rows on. Refuses for want of memory alone, and then nothing is known of
+    /// what stands at `root`.
     pub fn optimize(
         &mut self,
         alloc: Global,
@@ -68,16 +71,16 @@ impl ProjectionPushDown {
         ensures nodes { OnOk result (IsValid (plan_at lp.old ex.now root) → nodes (plan_at lp.new ex.now root) ≤ nodes (plan_at lp.old ex.now root) + tops (plan_at lp.old ex.now root) all) }
         ensures work { OnOk result (IsValid (plan_at lp.old ex.now root) → made (plan_at lp.new ex.now root) ≤ kept (plan_at lp.old ex.now root)) }
         ensures grows { length lp.old ≤ length lp.new }
-        ensures pass_stays { self.new ≡ self.old }
+        ensures marks { OnOk result (self.new.is_count_star ≡ (self.old.is_count_star || meets_count (plan_at lp.old ex.now root))) }
     {
         let asked = Names::new(alloc);
         self.push_down(alloc, root, asked, lp, ex)?;
         Ok(())
     }
 
-    /// Prunes the plan at `node` to the asked names; no names stand for every column.
+    /// Prunes the plan at `node` to the asked names, and marks whether it counts rows; no names stand for every column.
     fn push_down(
-        &self,
+        &mut self,
         alloc: Global,
         node: Node,
         asked: Names,
@@ -85,12 +88,16 @@ impl ProjectionPushDown {
         ex: &Arena<AExpr>,
     ) -> Result<(), AllocError>
         requires { IsPlan lp.old ex.now node }
-        ensures prunes { OnOk result (PrunesAt (not self.now.is_count_star) asked lp.old lp.new ex.now node) }
+        ensures prunes { OnOk result (PrunesAt (not self.old.is_count_star) asked lp.old lp.new ex.now node) }
+        ensures marks { OnOk result (MarksAt self.old.is_count_star self.new.is_count_star lp.old ex.now node) }
         ensures grows { length lp.old ≤ length lp.new }
     {
         let is_asked = asked.len() > 0;
         let on_top = !self.is_count_star;
         let entry = lp.take(node);
+        if select::is_count(&entry, ex) {
+            self.is_count_star = true;
+        }
         match step::prepare(alloc, entry, asked, lp, ex)? {
             Step::Leaf { entry } => step::put(alloc, node, entry, is_asked, on_top, lp),
             Step::Over {

@@ -236,11 +236,35 @@ impl Sample {
         Ok(())
     }
 
+    /// Adds a selection of the number of rows alone.
+    fn count(&mut self) -> Result<(), AllocError> {
+        let node = self.ex.add(AExpr::Len)?;
+        let name = OutputName::LiteralLhs(PlSmallStr::new(self.alloc, "len")?);
+        let mut expr = Items::new(self.alloc);
+        expr.push(ExprIR::new(node, name))?;
+        let schema = columns(self.alloc, &["len"])?;
+        let options = ProjectionOptions::default();
+        let input = self.root;
+        self.root = self.lp.add(IR::Select {
+            input,
+            expr,
+            schema,
+            options,
+        })?;
+        Ok(())
+    }
+
+    /// Checks the plan, and prunes it by a pass.
+    fn optimize(&mut self, pass: &mut ProjectionPushDown) -> Result<(), Fail> {
+        let _ = check_plan(self.alloc, self.root, &self.lp, &self.ex)?;
+        pass.optimize(self.alloc, self.root, &mut self.lp, &self.ex)?;
+        Ok(())
+    }
+
     /// The nodes from the root down, once the plan is checked, pruned, and checked again.
     fn pruned(&mut self, is_count_star: bool) -> Result<String, Fail> {
-        let _ = check_plan(self.alloc, self.root, &self.lp, &self.ex)?;
         let mut pass = ProjectionPushDown { is_count_star };
-        pass.optimize(self.alloc, self.root, &mut self.lp, &self.ex)?;
+        self.optimize(&mut pass)?;
         let _ = check_plan(self.alloc, self.root, &self.lp, &self.ex)?;
         written(self.alloc, self.root, &self.lp)
     }
@@ -278,6 +302,31 @@ fn a_count_puts_no_projection_on_top(rt: HostRuntime) -> Result<(), Fail> {
         "SimpleProjection a; Filter; Scan reads a b puts out a b"
     );
     assert_eq!(rt; plan.lp.len(), 3);
+    Ok(())
+}
+
+#[test]
+fn a_count_asks_the_last_column(rt: HostRuntime) -> Result<(), Fail> {
+    let mut plan = Sample::scan(rt.alloc())?;
+    plan.filter("b")?;
+    plan.count()?;
+    assert_pruned(
+        &rt,
+        &mut plan,
+        "Select len of len; Filter; Scan reads c b puts out c b",
+    )
+}
+
+#[test]
+fn the_mark_is_set_by_a_count_alone(rt: HostRuntime) -> Result<(), Fail> {
+    let mut plan = Sample::scan(rt.alloc())?;
+    plan.filter("b")?;
+    let mut pass = ProjectionPushDown::new();
+    plan.optimize(&mut pass)?;
+    assert!(rt; !pass.is_count_star);
+    plan.count()?;
+    plan.optimize(&mut pass)?;
+    assert!(rt; pass.is_count_star);
     Ok(())
 }
 

@@ -1,40 +1,37 @@
 //! A selection keeps its asked expressions, in its own order; where these are scalar throughout and another isn't, the first
 //! such one too, last, since the height is its. It stores the columns of those that it keeps.
 //! Asked nothing, it stays as it is. It asks its input the names that its kept expressions read, each once.
-ghost use Rattle.std.specs.Prelude.{◌≡◌, ◌++◌, [], ◌∷◌, All, IfOk, OnOk, map};
+//! A selection of the number of rows alone asks the column that stands in for them, and nothing where there is none.
+ghost use Rattle.std.specs.Prelude.{◌≡◌, [], All, IfOk, if◌then◌else◌, map};
 ghost use Rattle.plan_core.specs.Names.{with_names};
 ghost use Rattle.plan_expr.specs.Operands.{IsExpr};
 ghost use Rattle.plan_expr.specs.Exprs.{all_named_at};
+ghost use Rattle.plan_ir.specs.Parts.{IsPlan, roots_of};
+ghost use Rattle.plan_ir.specs.Plans.{op_at};
 ghost use Rattle.plan_meaning.specs.Asked.{all_leaves};
+ghost use Rattle.plan_meaning.specs.Counting.{is_count as is_count_op, stand_in_names};
 ghost use Rattle.plan_prune.specs.Prunes.{StandExprs};
-ghost use Rattle.plan_prune.specs.Steps.{selected_step};
-ghost use Rattle.plan_prune.specs.Kept.{many_at, selected_at, names_at, is_some_name, stored_after};
+ghost use Rattle.plan_prune.specs.Steps.{selected_step, stand_in_at};
+ghost use Rattle.plan_prune.specs.Kept.{selected_at, names_at, is_some_name, stored_after};
 
 use crate::push_down::exprs::{add_all_names, asked_exprs, with_typed};
+use crate::push_down::stand_in::{first_many, stand_in};
 use crate::push_down::step::Step;
 use plan_core::{Arena, Items, Names, Node, ProjectionOptions, Schema, TryClone};
-use plan_expr::{AExpr, ExprIR, is_scalar};
+use plan_expr::{AExpr, ExprIR};
 use plan_ir::IR;
-use plan_meaning::all_scalar;
+use plan_meaning::{all_scalar, counts_rows};
 use std::alloc::{AllocError, Global};
 
-/// Adds the first expression that isn't scalar, if there is one.
-fn add_many(
-    alloc: Global,
-    kept: &mut Items<ExprIR>,
-    exprs: &[ExprIR],
-    ex: &Arena<AExpr>,
-) -> Result<(), AllocError>
-    requires { All (λ e. IsExpr ex.now e.node) exprs.now }
-    ensures { OnOk result (kept.new ≡ kept.old ++ many_at ex.now exprs.now) }
+/// Whether a node counts the rows of its input: a selection of their number alone does.
+pub fn is_count(node: &IR, ex: &Arena<AExpr>) -> bool
+    requires { StandExprs ex.now (roots_of node.now) }
+    ensures { result ≡ is_count_op (op_at ex.now node.now) }
 {
-    for expr in exprs {
-        if !is_scalar(expr.node, ex) {
-            kept.push(expr.try_clone(alloc)?)?;
-            return Ok(());
-        }
+    match node {
+        IR::Select { expr, .. } => counts_rows(expr.as_slice(), ex),
+        _ => false,
     }
-    Ok(())
 }
 
 /// The expressions that a selection keeps.
@@ -52,7 +49,9 @@ fn keep(
     }
     let mut kept = asked_exprs(alloc, exprs.as_slice(), asked)?;
     if all_scalar(kept.as_slice(), ex) {
-        add_many(alloc, &mut kept, exprs.as_slice(), ex)?;
+        if let Some(expr) = first_many(exprs.as_slice(), ex) {
+            kept.push(expr.try_clone(alloc)?)?;
+        }
     }
     Ok(kept)
 }
@@ -72,13 +71,27 @@ fn columns(
     Ok(with_typed(alloc, Schema::new(alloc), exprs, &schema)?)
 }
 
-/// What a selection asks that keeps these expressions.
-fn asks(alloc: Global, exprs: &[ExprIR], ex: &Arena<AExpr>) -> Result<Names, AllocError>
-    requires { All (λ e. IsExpr ex.now e.node) exprs.now }
-    ensures { IfOk result (λ names. names ≡ with_names [] (all_leaves (all_named_at ex.now exprs.now))) }
+/// What a selection asks that keeps these expressions: a count of rows the column that stands in for them.
+fn asks(
+    alloc: Global,
+    is_count: bool,
+    input: Node,
+    exprs: &[ExprIR],
+    lp: &Arena<IR>,
+    ex: &Arena<AExpr>,
+) -> Result<Names, AllocError>
+    requires exprs { All (λ e. IsExpr ex.now e.node) exprs.now }
+    requires input { IsPlan lp.now ex.now input }
+    ensures { IfOk result (λ names. names ≡ (if is_count then stand_in_names (stand_in_at lp.now ex.now input) else with_names [] (all_leaves (all_named_at ex.now exprs.now)))) }
 {
     let mut names = Names::new(alloc);
-    add_all_names(&mut names, exprs, ex)?;
+    if !is_count {
+        add_all_names(&mut names, exprs, ex)?;
+        return Ok(names);
+    }
+    if let Some(name) = stand_in(input, lp, ex) {
+        let _ = names.add(name)?;
+    }
     Ok(names)
 }
 
@@ -90,14 +103,17 @@ pub fn prepare(
     schema: Schema,
     options: ProjectionOptions,
     asked: &Names,
+    lp: &Arena<IR>,
     ex: &Arena<AExpr>,
 ) -> Result<Step, AllocError>
-    requires { StandExprs ex.now (map (λ e. e.node) expr) }
-    ensures { IfOk result (λ step. step ≡ selected_step ex.now asked.now input expr schema options) }
+    requires exprs { StandExprs ex.now (map (λ e. e.node) expr) }
+    requires input { IsPlan lp.now ex.now input }
+    ensures { IfOk result (λ step. step ≡ selected_step ex.now asked.now input expr schema options (stand_in_at lp.now ex.now input)) }
 {
+    let is_count = counts_rows(expr.as_slice(), ex);
     let expr = keep(alloc, expr, asked, ex)?;
     let schema = columns(alloc, schema, expr.as_slice(), asked)?;
-    let asked = asks(alloc, expr.as_slice(), ex)?;
+    let asked = asks(alloc, is_count, input, expr.as_slice(), lp, ex)?;
     Ok(Step::Over {
         input,
         asked,

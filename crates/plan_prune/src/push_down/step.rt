@@ -1,9 +1,10 @@
 //! What pruning does at a node before its input is pruned, and after: each node kind has its own rule, and these two find it.
-ghost use Rattle.std.specs.Prelude.{◌≡◌, ◌<◌, ◌≤◌, List, IfOk, OnOk, length};
+ghost use Rattle.std.specs.Prelude.{◌≡◌, ◌<◌, ◌≤◌, ℕ, List, IfOk, OnOk, length, slice_get};
+ghost use Rattle.plan_core.specs.declared.arena.Node.{Node as NodeType};
 ghost use Rattle.plan_tree.specs.Stands.{Trees, StandsOnce};
 ghost use Rattle.plan_expr.specs.declared.aexpr.AExpr.{AExpr};
 ghost use Rattle.plan_ir.specs.declared.ir.IR.{IR};
-ghost use Rattle.plan_ir.specs.Parts.{inputs_of, plan_shape, roots_of};
+ghost use Rattle.plan_ir.specs.Parts.{IsPlan, inputs_of, plan_shape, roots_of};
 ghost use Rattle.plan_prune.specs.Prunes.{StandExprs};
 ghost use Rattle.plan_prune.specs.Steps.{put_back, step_of};
 
@@ -42,6 +43,7 @@ pub fn prepare(
 ) -> Result<Step, AllocError>
     requires exprs { StandExprs ex.now (roots_of entry) }
     requires inputs { (t : Trees IR) × StandsOnce plan_shape lp.now (inputs_of entry) t }
+    requires plans { (j : ℕ) (i : NodeType) → slice_get (inputs_of entry) j ≡ Some i → IsPlan lp.now ex.now i }
     ensures { IfOk result (λ step. step ≡ step_of lp.now ex.now asked entry) }
 {
     match entry {
@@ -61,7 +63,7 @@ pub fn prepare(
             expr,
             schema,
             options,
-        } => select::prepare(alloc, input, expr, schema, options, &asked, ex),
+        } => select::prepare(alloc, input, expr, schema, options, &asked, lp, ex),
         IR::HStack {
             input,
             exprs,

@@ -1,0 +1,8 @@
+use Rattle.std.proofs.Common.{ap}
+use Rattle.std.specs.List.{slice_get}
+use Rattle.plan_ir.specs.declared.ir.IR.{IR}
+use Rattle.plan_ir.specs.Parts.{inputs_of}
+use Rattle.plan_prune.proofs.push_down.step.prepare.Goals as goal
+
+pub prepare-requires-in-Select-clause-input : goal.prepare-requires-in-Select-clause-input
+prepare-requires-in-Select-clause-input c = c.requires.plans 0 c.in-Select.input (ap (λ (p : IR). slice_get (inputs_of p) 0) c.in-Select.is)

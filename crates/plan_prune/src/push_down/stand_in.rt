@@ -1,0 +1,67 @@
+//! The column that stands in for the rows of a plan where they are counted: of a selection or an addition the first that
+//! isn't scalar, else the last that the plan says it has.
+ghost use Rattle.std.specs.Prelude.{◌≡◌, List, [], ◌∷◌, All, IfNone, IfSome};
+ghost use Rattle.plan_tree.specs.Stands.{Trees, StandsOnce};
+ghost use Rattle.plan_expr.specs.declared.aexpr.AExpr.{AExpr};
+ghost use Rattle.plan_expr.specs.Operands.{IsExpr};
+ghost use Rattle.plan_ir.specs.declared.ir.IR.{IR};
+ghost use Rattle.plan_ir.specs.Parts.{IsPlan};
+ghost use Rattle.plan_meaning.specs.Counting.{last_name as last_of};
+ghost use Rattle.plan_prune.specs.Kept.{made_by as exprs_by, many_at};
+ghost use Rattle.plan_prune.specs.Steps.{stand_in_at};
+
+use crate::push_down::stored::stored;
+use plan_core::{Arena, Node, Schema};
+use plan_expr::{AExpr, ExprIR, is_scalar, output_name};
+use plan_ir::IR;
+
+/// The first expression that isn't scalar, if there is one.
+pub fn first_many<'a>(exprs: &'a [ExprIR], ex: &Arena<AExpr>) -> Option<&'a ExprIR>
+    requires { All (λ e. IsExpr ex.now e.node) exprs.now }
+    ensures some { IfSome result (λ e. many_at ex.now exprs.now ≡ e.now ∷ []) }
+    ensures none { IfNone result (many_at ex.now exprs.now ≡ []) }
+{
+    for expr in exprs {
+        if !is_scalar(expr.node, ex) {
+            return Some(expr);
+        }
+    }
+    None
+}
+
+/// The name of the last column, if there is one.
+fn last_name(columns: &Schema) -> Option<&str>
+    ensures some { IfSome result (λ a. last_of columns.now ≡ Some a.now) }
+    ensures none { IfNone result (last_of columns.now ≡ None) }
+{
+    if columns.len() == 0 {
+        return None;
+    }
+    match columns.get_at_index(columns.len() - 1) {
+        Some((name, _)) => Some(name),
+        None => None,
+    }
+}
+
+/// The expressions that a selection or an addition makes columns of; none for another node.
+fn made_by(node: &IR) -> &[ExprIR]
+    ensures { result.now ≡ exprs_by node.now }
+{
+    match node {
+        IR::Select { expr, .. } => expr.as_slice(),
+        IR::HStack { exprs, .. } => exprs.as_slice(),
+        _ => &[],
+    }
+}
+
+/// The name of the column that stands in for the rows of the plan at a number, if it has a column.
+pub fn stand_in<'a>(node: Node, lp: &'a Arena<IR>, ex: &Arena<AExpr>) -> Option<&'a str>
+    requires { IsPlan lp.now ex.now node }
+    ensures some { IfSome result (λ a. stand_in_at lp.now ex.now node ≡ Some a.now) }
+    ensures none { IfNone result (stand_in_at lp.now ex.now node ≡ None) }
+{
+    match first_many(made_by(lp.get(node)), ex) {
+        Some(expr) => Some(output_name(&expr.output_name)),
+        None => last_name(stored(node, lp)),
+    }
+}
