@@ -19,13 +19,13 @@ use Rattle.plan_expr.specs.declared.aexpr.AExpr.{AExpr}
 use Rattle.plan_expr.specs.declared.aexpr.AExpr.TheVariants.{Column, Literal, Alias, BinaryExpr, Ternary, Agg, Function, Window, Len}
 use Rattle.plan_expr.specs.declared.expr_ir.ExprIR.{ExprIR}
 use Rattle.plan_ir.specs.declared.ir.IR.{IR}
-use Rattle.plan_ir.specs.declared.ir.IR.TheVariants.{Slice, Filter, Scan, DataFrameScan, SimpleProjection, Select, HStack, Invalid}
+use Rattle.plan_ir.specs.declared.ir.IR.TheVariants.{Slice, Filter, Scan, DataFrameScan, SimpleProjection, Select, HStack, Sort, Distinct, Sink, Invalid}
 use Rattle.plan_ir.specs.Copies.{IsRenumbered, Lists}
 use Rattle.plan_ir.specs.Moved.{entries_at, moved_expr, moved_named, moved_node, new_number}
 use Rattle.plan_expr.specs.Operands.{expr_shape, operands_of}
 use Rattle.plan_ir.specs.Parts.{plan_shape, inputs_of, is_invalid, roots_of, roots_in, StandsPlan, IsPlan}
 use Rattle.plan_expr.specs.Exprs.{aggregate, Expr, Named, all_named_at, expr_op, expr_at, exprs_at, named_at}
-use Rattle.plan_ir.specs.Plans.{Op, filter, scan, select, hstack, op_at, plans_of, bare}
+use Rattle.plan_ir.specs.Plans.{Op, filter, scan, select, hstack, sort, op_at, plans_of, bare}
 use Rattle.plan_ir.proofs.EntryLemmas.{entries_at-labels}
 use Rattle.plan_expr.specs.Aggregates.{agg_input}
 use Rattle.plan_expr.proofs.AggLemmas.{input-over, op-over}
@@ -110,6 +110,9 @@ module _ (nodes exprs : List Node) where
   inputs-moved (SimpleProjection input columns) = refl
   inputs-moved (Select input expr schema options) = refl
   inputs-moved (HStack input own schema options) = refl
+  inputs-moved (Sort input by_column slice sort_options) = refl
+  inputs-moved (Distinct input options) = refl
+  inputs-moved (Sink input payload) = refl
   inputs-moved Invalid = refl
 
   pub invalid-moved : (p : IR) → is_invalid (moved_node nodes exprs p) ≡ is_invalid p
@@ -120,6 +123,9 @@ module _ (nodes exprs : List Node) where
   invalid-moved (SimpleProjection input columns) = refl
   invalid-moved (Select input expr schema options) = refl
   invalid-moved (HStack input own schema options) = refl
+  invalid-moved (Sort input by_column slice sort_options) = refl
+  invalid-moved (Distinct input options) = refl
+  invalid-moved (Sink input payload) = refl
   invalid-moved Invalid = refl
 
   nodes-moved : (es : List ExprIR) → map (λ (e : ExprIR). e.node) (map (moved_named exprs) es) ≡ map (new_number exprs) (map (λ (e : ExprIR). e.node) es)
@@ -134,6 +140,9 @@ module _ (nodes exprs : List Node) where
   roots-moved (SimpleProjection input columns) = refl
   roots-moved (Select input expr schema options) = nodes-moved expr
   roots-moved (HStack input own schema options) = nodes-moved own
+  roots-moved (Sort input by_column slice sort_options) = nodes-moved by_column
+  roots-moved (Distinct input options) = refl
+  roots-moved (Sink input payload) = refl
   roots-moved Invalid = refl
 
   roots_in-moved : (t : Trees IR) → roots_in (map_roses (new_number nodes) (moved_node nodes exprs) t) ≡ map (new_number exprs) (roots_in t)
@@ -167,6 +176,9 @@ module _ (ex ex' : List AExpr) (nodes exprs : List Node) where
   op_at-moved (SimpleProjection input columns) same = refl
   op_at-moved (Select input expr schema options) same = ap (λ (ns : List Named). select ns schema options) (all-moved expr same)
   op_at-moved (HStack input own schema options) same = ap (λ (ns : List Named). hstack ns schema options) (all-moved own same)
+  op_at-moved (Sort input by_column slice sort_options) same = ap (λ (ns : List Named). sort ns slice sort_options) (all-moved by_column same)
+  op_at-moved (Distinct input options) same = refl
+  op_at-moved (Sink input payload) same = refl
   op_at-moved Invalid same = refl
 
   bare-moved : (t : Trees IR) → AllByRecursion Same (roots_in t) → bare (plans_of ex' (map_roses (new_number nodes) (moved_node nodes exprs) t)) ≡ bare (plans_of ex t)

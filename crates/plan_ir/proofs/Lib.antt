@@ -7,3 +7,5 @@ pub mod TakenLemmas
 pub mod ReadLemmas
 pub mod CopyLemmas
 pub mod RenumberedLemmas
+pub mod WalkLemmas
+mod PartLemmas

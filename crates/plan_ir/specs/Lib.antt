@@ -4,3 +4,4 @@ pub mod Plans
 pub mod Moved
 pub mod Copies
 pub mod Reads
+pub mod Walks

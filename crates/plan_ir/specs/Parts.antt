@@ -7,7 +7,7 @@ use Rattle.plan_expr.specs.declared.aexpr.AExpr.{AExpr}
 use Rattle.plan_expr.specs.declared.expr_ir.ExprIR.{ExprIR}
 use Rattle.plan_expr.specs.Operands.{expr_shape}
 use Rattle.plan_ir.specs.declared.ir.IR.{IR}
-use Rattle.plan_ir.specs.declared.ir.IR.TheVariants.{Slice, Filter, Scan, DataFrameScan, SimpleProjection, Select, HStack, Invalid}
+use Rattle.plan_ir.specs.declared.ir.IR.TheVariants.{Slice, Filter, Scan, DataFrameScan, SimpleProjection, Select, HStack, Sort, Distinct, Sink, Invalid}
 
 -- a value that may be there, as a list
 abbrev pub list_of : {A : Type 0} → Option A → List A
@@ -23,6 +23,9 @@ inputs_of (DataFrameScan df schema output_schema) = []
 inputs_of (SimpleProjection input columns) = input ∷ []
 inputs_of (Select input expr schema options) = input ∷ []
 inputs_of (HStack input exprs schema options) = input ∷ []
+inputs_of (Sort input by_column slice sort_options) = input ∷ []
+inputs_of (Distinct input options) = input ∷ []
+inputs_of (Sink input payload) = input ∷ []
 inputs_of Invalid = []
 
 -- the expressions of a node, in order
@@ -34,6 +37,9 @@ exprs_of (DataFrameScan df schema output_schema) = []
 exprs_of (SimpleProjection input columns) = []
 exprs_of (Select input expr schema options) = expr
 exprs_of (HStack input exprs schema options) = exprs
+exprs_of (Sort input by_column slice sort_options) = by_column
+exprs_of (Distinct input options) = []
+exprs_of (Sink input payload) = []
 exprs_of Invalid = []
 
 -- what a node that was taken leaves behind
@@ -46,6 +52,9 @@ is_invalid (DataFrameScan df schema output_schema) = false
 is_invalid (SimpleProjection input columns) = false
 is_invalid (Select input expr schema options) = false
 is_invalid (HStack input exprs schema options) = false
+is_invalid (Sort input by_column slice sort_options) = false
+is_invalid (Distinct input options) = false
+is_invalid (Sink input payload) = false
 
 -- a scan of files
 abbrev pub is_file_scan : IR → Bool
@@ -66,6 +75,11 @@ is_select other = false
 abbrev pub is_hstack : IR → Bool
 is_hstack (HStack input exprs schema options) = true
 is_hstack other = false
+
+-- a sort
+abbrev pub is_sort : IR → Bool
+is_sort (Sort input by_column slice sort_options) = true
+is_sort other = false
 
 -- how nodes make trees: their inputs in order; what was taken is bad
 abbrev pub plan_shape : Shape IR
@@ -100,4 +114,12 @@ over_parts (DataFrameScan df schema output_schema) exprs inputs = DataFrameScan 
 over_parts (SimpleProjection input columns) exprs inputs = SimpleProjection (get_or inputs 0 input) columns
 over_parts (Select input expr schema options) exprs inputs = Select (get_or inputs 0 input) exprs schema options
 over_parts (HStack input own schema options) exprs inputs = HStack (get_or inputs 0 input) exprs schema options
+over_parts (Sort input by_column slice sort_options) exprs inputs = Sort (get_or inputs 0 input) exprs slice sort_options
+over_parts (Distinct input options) exprs inputs = Distinct (get_or inputs 0 input) options
+over_parts (Sink input payload) exprs inputs = Sink (get_or inputs 0 input) payload
 over_parts Invalid exprs inputs = Invalid
+
+-- the expressions that a copy has: a sort keeps its own keys, any other node takes these
+abbrev pub exprs_over : IR → List ExprIR → List ExprIR
+exprs_over (Sort input by_column slice sort_options) exprs = by_column
+exprs_over p exprs = exprs

@@ -3,6 +3,9 @@ use Rattle.std.specs.Prelude.{ℕ, ℤ, List, Option, option_map}
 use Rattle.plan_core.specs.declared.arena.Node.{Node}
 use Rattle.plan_core.specs.declared.options.FileScanOptions.{FileScanOptions}
 use Rattle.plan_core.specs.declared.options.ProjectionOptions.{ProjectionOptions}
+use Rattle.plan_options.specs.declared.distinct.DistinctOptionsIR.{DistinctOptionsIR}
+use Rattle.plan_options.specs.declared.sink.SinkType.{SinkType}
+use Rattle.plan_options.specs.declared.sort.SortMultipleOptions.{SortMultipleOptions}
 use Rattle.plan_core.specs.Columns.{Columns}
 use Rattle.plan_tree.specs.Stands.{Trees}
 use Rattle.plan_tree.specs.Read.{trees_at}
@@ -25,6 +28,9 @@ pub data Op : Type 0 where
   simple_projection : (columns : Columns) → Op
   select : (exprs : List Named) → (schema : Columns) → (options : ProjectionOptions) → Op
   hstack : (exprs : List Named) → (schema : Columns) → (options : ProjectionOptions) → Op
+  sort : (keys : List Named) → (cut : Option (ℤ × ℕ)) → (options : SortMultipleOptions) → Op
+  distinct : (options : DistinctOptionsIR) → Op
+  sink : (payload : SinkType) → Op
   invalid : Op
 
 -- a plan without numbers
@@ -40,6 +46,9 @@ op_at ex (nodes.DataFrameScan df schema output_schema) = frame_scan df schema ou
 op_at ex (nodes.SimpleProjection input columns) = simple_projection columns
 op_at ex (nodes.Select input expr schema options) = select (all_named_at ex expr) schema options
 op_at ex (nodes.HStack input exprs schema options) = hstack (all_named_at ex exprs) schema options
+op_at ex (nodes.Sort input by_column cut sort_options) = sort (all_named_at ex by_column) cut sort_options
+op_at ex (nodes.Distinct input options) = distinct options
+op_at ex (nodes.Sink input payload) = sink payload
 op_at ex nodes.Invalid = invalid
 
 -- the plans that trees in an arena are, each node with its number

@@ -6,7 +6,7 @@ use Rattle.plan_core.specs.Names.{with_names}
 use Rattle.plan_core.specs.declared.options.FileScanOptions.{FileScanOptions}
 use Rattle.plan_ir.specs.declared.scan.FileInfo.{FileInfo}
 use Rattle.plan_ir.specs.declared.ir.IR.{IR}
-use Rattle.plan_ir.specs.declared.ir.IR.TheVariants.{Slice, Filter, Scan, DataFrameScan, SimpleProjection, Select, HStack, Invalid}
+use Rattle.plan_ir.specs.declared.ir.IR.TheVariants.{Slice, Filter, Scan, DataFrameScan, SimpleProjection, Select, HStack, Sort, Distinct, Sink, Invalid}
 
 -- a node that reads from sources
 abbrev pub is_scan : IR → Bool
@@ -17,6 +17,9 @@ is_scan (DataFrameScan df schema output_schema) = true
 is_scan (SimpleProjection input columns) = false
 is_scan (Select input expr schema options) = false
 is_scan (HStack input exprs schema options) = false
+is_scan (Sort input by_column slice sort_options) = false
+is_scan (Distinct input options) = false
+is_scan (Sink input payload) = false
 is_scan Invalid = false
 
 -- the names, each once, in the order in which they first come
@@ -44,6 +47,9 @@ reads_of (DataFrameScan df schema output_schema) = put_out_names output_schema s
 reads_of (SimpleProjection input columns) = []
 reads_of (Select input expr schema options) = []
 reads_of (HStack input exprs schema options) = []
+reads_of (Sort input by_column slice sort_options) = []
+reads_of (Distinct input options) = []
+reads_of (Sink input payload) = []
 reads_of Invalid = []
 
 -- what each scan among nodes reads

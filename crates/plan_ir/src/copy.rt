@@ -126,11 +126,10 @@ pub(crate) fn move_node(
 ) -> Result<IR, AllocError>
     ensures { IfOk result (λ moved. moved ≡ moved_node nodes.now exprs.now node.now) }
 {
-    let mut inputs = Items::new(alloc);
-    node.copy_inputs(&mut inputs)?;
+    let inputs = node.get_inputs_vec(alloc)?;
     let inputs = moved_numbers(alloc, inputs.as_slice(), nodes)?;
     let named = move_named(alloc, node, exprs)?;
-    node.with_exprs_and_input(alloc, named, inputs)
+    node.over(alloc, named, inputs)
 }
 
 /// An arena of copies of the listed expressions, in order, whose operands have new numbers.

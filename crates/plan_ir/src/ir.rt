@@ -4,7 +4,7 @@ ghost use Rattle.std.specs.Prelude.{◌≡◌, IfOk};
 use crate::scan::{FileInfo, FileScan, ScanSources};
 use plan_core::{FileScanOptions, Items, Node, ProjectionOptions, Schema, TryClone};
 use plan_expr::ExprIR;
-use plan_tree::Entry;
+use plan_options::{DistinctOptionsIR, SinkType, SortMultipleOptions};
 use std::alloc::{AllocError, Global};
 
 /// A node of a plan; it names its inputs and its expressions by their numbers.
@@ -80,6 +80,31 @@ pub enum IR {
         /// How the expressions are evaluated.
         options: ProjectionOptions,
     },
+    /// The rows of the input in the order of some keys, the first key first.
+    Sort {
+        /// The number of the node whose rows are sorted.
+        input: Node,
+        /// The keys, in order.
+        by_column: Items<ExprIR>,
+        /// The first row that is put out, and how many rows; all of them where it is absent.
+        slice: Option<(i64, usize)>,
+        /// The direction of each key, where its nulls stand, and whether rows with the same keys stay in order.
+        sort_options: SortMultipleOptions,
+    },
+    /// Of the rows that are the same in some columns one, or those that are alone.
+    Distinct {
+        /// The number of the node whose rows are told apart.
+        input: Node,
+        /// In which columns rows are the same, which of them is kept, and whether those that are kept stay in order.
+        options: DistinctOptionsIR,
+    },
+    /// The input, whose rows go somewhere.
+    Sink {
+        /// The number of the node whose rows go there.
+        input: Node,
+        /// Where they go.
+        payload: SinkType,
+    },
     /// No node: what `take` leaves behind.
     Invalid,
 }
@@ -100,8 +125,7 @@ impl TryClone for IR {
         ensures { IfOk result (λ r. r ≡ self.now) }
     {
         let exprs = self.get_exprs(alloc)?;
-        let mut inputs = Items::new(alloc);
-        self.copy_inputs(&mut inputs)?;
+        let inputs = self.get_inputs_vec(alloc)?;
         self.with_exprs_and_input(alloc, exprs, inputs)
     }
 }

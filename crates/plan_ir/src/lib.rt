@@ -4,6 +4,7 @@
 mod copy;
 mod depth;
 mod ir;
+mod iterator;
 mod moving;
 mod numbering;
 mod parts;
@@ -13,6 +14,7 @@ mod scan;
 pub use copy::{PlanCopy, renumbered};
 pub use depth::{expr_depth, expr_roots, plan_depth};
 pub use ir::IR;
+pub use iterator::{AlpIter, ArenaLpIter};
 pub use moving::into_renumbered;
 pub use reading::{reads, scan_reads};
 pub use scan::{FileInfo, FileScan, ScanSources};

@@ -1,10 +1,10 @@
 //! The parts of nodes: inputs and expressions.
 ghost use Rattle.std.specs.Prelude.{◌≡◌, ◌≤◌, ◌++◌, ◌∷◌, [], length, map, IfOk, IsTrue, OnOk};
-ghost use Rattle.plan_ir.specs.Parts.{exprs_of, inputs_of, list_of, over_parts};
-ghost use Rattle.plan_ir.specs.Parts.{is_file_scan, is_frame_scan, is_hstack, is_select};
+ghost use Rattle.plan_ir.specs.Parts.{exprs_of, exprs_over, inputs_of, list_of, over_parts};
+ghost use Rattle.plan_ir.specs.Parts.{is_file_scan, is_frame_scan, is_hstack, is_select, is_sort};
 
 use crate::ir::IR;
-use plan_core::{Items, Node, TryClone};
+use plan_core::{Items, Node, TryClone, UnitVec};
 use plan_expr::ExprIR;
 use plan_tree::Entry;
 use std::alloc::{AllocError, Global};
@@ -26,7 +26,10 @@ impl Entry for IR {
             | IR::Filter { input, .. }
             | IR::SimpleProjection { input, .. }
             | IR::Select { input, .. }
-            | IR::HStack { input, .. } => {
+            | IR::HStack { input, .. }
+            | IR::Sort { input, .. }
+            | IR::Distinct { input, .. }
+            | IR::Sink { input, .. } => {
                 out.push(*input)?;
                 Ok(())
             }
@@ -37,7 +40,7 @@ impl Entry for IR {
 
 impl IR {
     /// The expressions, in order: for a filter its predicate, for a scan the predicate that it may have, for a selection
-    /// and an addition of columns those that make them. Refuses for want of memory alone.
+    /// and an addition of columns those that make them, for a sort its keys. Refuses for want of memory alone.
     pub fn exprs(&self, alloc: Global) -> Result<Items<&ExprIR>, AllocError>
         ensures { IfOk result (λ exprs. map (λ e. e.now) exprs ≡ exprs_of self.now) }
     {
@@ -51,7 +54,12 @@ impl IR {
                     exprs.push(predicate)?;
                 }
             }
-            IR::Select { expr: list, .. } | IR::HStack { exprs: list, .. } => {
+            IR::Select { expr: list, .. }
+            | IR::HStack { exprs: list, .. }
+            | IR::Sort {
+                by_column: list,
+                ..
+            } => {
                 for expr in list.as_slice() {
                     exprs.push(expr)?;
                 }
@@ -59,9 +67,21 @@ impl IR {
             IR::Slice { .. }
             | IR::DataFrameScan { .. }
             | IR::SimpleProjection { .. }
+            | IR::Distinct { .. }
+            | IR::Sink { .. }
             | IR::Invalid => {}
         }
         Ok(exprs)
+    }
+
+    /// Appends copies of the expressions, in order. Refuses for want of memory alone.
+    pub fn copy_exprs(&self, alloc: Global, out: &mut Items<ExprIR>) -> Result<(), AllocError>
+        ensures { OnOk result (out.new ≡ out.old ++ exprs_of self.now) }
+    {
+        for expr in self.exprs(alloc)?.as_slice() {
+            out.push(expr.try_clone(alloc)?)?;
+        }
+        Ok(())
     }
 
     /// Copies of the expressions, in order. Refuses for want of memory alone.
@@ -69,14 +89,41 @@ impl IR {
         ensures { IfOk result (λ exprs. exprs ≡ exprs_of self.now) }
     {
         let mut copies = Items::new(alloc);
-        for expr in self.exprs(alloc)?.as_slice() {
-            copies.push(expr.try_clone(alloc)?)?;
-        }
+        self.copy_exprs(alloc, &mut copies)?;
         Ok(copies)
     }
 
-    /// A copy with other expressions, over other inputs: as many of each as the node has. Its other fields are as
-    /// they were. Refuses for want of memory alone.
+    /// The numbers of the inputs, from first to last. Refuses for want of memory alone.
+    pub fn get_inputs_vec(&self, alloc: Global) -> Result<Items<Node>, AllocError>
+        ensures { IfOk result (λ inputs. inputs ≡ inputs_of self.now) }
+    {
+        let mut inputs = Items::new(alloc);
+        self.copy_inputs(&mut inputs)?;
+        Ok(inputs)
+    }
+
+    /// The numbers of the inputs, from first to last; one alone takes no memory. Refuses for want of memory alone.
+    pub fn get_inputs(&self, alloc: Global) -> Result<UnitVec<Node>, AllocError>
+        ensures { IfOk result (λ inputs. inputs ≡ inputs_of self.now) }
+    {
+        let mut inputs = UnitVec::new(alloc);
+        match self {
+            IR::Slice { input, .. }
+            | IR::Filter { input, .. }
+            | IR::SimpleProjection { input, .. }
+            | IR::Select { input, .. }
+            | IR::HStack { input, .. }
+            | IR::Sort { input, .. }
+            | IR::Distinct { input, .. }
+            | IR::Sink { input, .. } => inputs.push(*input)?,
+            IR::Scan { .. } | IR::DataFrameScan { .. } | IR::Invalid => {}
+        }
+        Ok(inputs)
+    }
+
+    /// A copy with other expressions, over other inputs: as many of each as the node has, but that a sort keeps its own
+    /// keys. Its other fields are as they were; with its own expressions and inputs it is the same node. Refuses for want of
+    /// memory alone.
     pub fn with_exprs_and_input(
         &self,
         alloc: Global,
@@ -85,9 +132,27 @@ impl IR {
     ) -> Result<IR, AllocError>
         requires exprs_fit { length exprs ≡ length (exprs_of self.now) }
         requires inputs_fit { length inputs ≡ length (inputs_of self.now) }
-        ensures exprs { IfOk result (λ node. exprs_of node ≡ exprs) }
         ensures inputs { IfOk result (λ node. inputs_of node ≡ inputs) }
-        ensures node { IfOk result (λ node. node ≡ over_parts self.now exprs inputs) }
+        ensures node { IfOk result (λ node. node ≡ over_parts self.now (exprs_over self.now exprs) inputs) }
+        ensures own { exprs ≡ exprs_of self.now → inputs ≡ inputs_of self.now → IfOk result (λ node. node ≡ self.now) }
+    {
+        let exprs = match self {
+            IR::Sort { by_column, .. } => by_column.try_clone(alloc)?,
+            _ => exprs,
+        };
+        self.over(alloc, exprs, inputs)
+    }
+
+    /// A copy with other expressions, over other inputs: as many of each as the node has. Its other fields are as they were.
+    pub(crate) fn over(
+        &self,
+        alloc: Global,
+        exprs: Items<ExprIR>,
+        inputs: Items<Node>,
+    ) -> Result<IR, AllocError>
+        requires exprs_fit { length exprs ≡ length (exprs_of self.now) }
+        requires inputs_fit { length inputs ≡ length (inputs_of self.now) }
+        ensures { IfOk result (λ node. node ≡ over_parts self.now exprs inputs) }
     {
         match self {
             IR::Slice { offset, len, .. } => Ok(IR::Slice {
@@ -107,6 +172,15 @@ impl IR {
             }),
             IR::Select { .. } => self.select_over(alloc, exprs, only(inputs)),
             IR::HStack { .. } => self.hstack_over(alloc, exprs, only(inputs)),
+            IR::Sort { .. } => self.sort_over(alloc, exprs, only(inputs)),
+            IR::Distinct { options, .. } => Ok(IR::Distinct {
+                input: only(inputs),
+                options: options.try_clone(alloc)?,
+            }),
+            IR::Sink { payload, .. } => Ok(IR::Sink {
+                input: only(inputs),
+                payload: *payload,
+            }),
             IR::Invalid => Ok(IR::Invalid),
         }
     }
@@ -195,6 +269,31 @@ impl IR {
                 exprs,
                 schema: schema.try_clone(alloc)?,
                 options: *options,
+            }),
+            _ => unreachable!(),
+        }
+    }
+
+    /// A copy of a sort by other keys, over another input.
+    fn sort_over(
+        &self,
+        alloc: Global,
+        by_column: Items<ExprIR>,
+        input: Node,
+    ) -> Result<IR, AllocError>
+        requires { IsTrue (is_sort self.now) }
+        ensures { IfOk result (λ node. node ≡ over_parts self.now by_column (input ∷ [])) }
+    {
+        match self {
+            IR::Sort {
+                slice,
+                sort_options,
+                ..
+            } => Ok(IR::Sort {
+                input,
+                by_column,
+                slice: *slice,
+                sort_options: sort_options.try_clone(alloc)?,
             }),
             _ => unreachable!(),
         }

@@ -4,7 +4,9 @@ ghost use Rattle.plan_expr.specs.Operands.{operands_of};
 ghost use Rattle.plan_ir.specs.Parts.{inputs_of};
 
 use crate::copy::expr_steps;
-use crate::{FileInfo, FileScan, IR, PlanCopy, ScanSources, reads, renumbered, scan_reads};
+use crate::{
+    ArenaLpIter, FileInfo, FileScan, IR, PlanCopy, ScanSources, reads, renumbered, scan_reads,
+};
 use plan_core::{Arena, DataType, FileScanOptions, Items, Node, PlSmallStr, Schema, TryClone};
 use plan_expr::{AExpr, ExprIR, LiteralValue, Operator, OutputName};
 use plan_tree::{Step, walk};
@@ -160,6 +162,32 @@ fn have_same<T: PartialEq>(a: &Arena<T>, b: &Arena<T>) -> bool {
     true
 }
 
+/// The numbers of the nodes below a root, and its own, in the order of a walk, if trees stand there.
+fn walked(alloc: Global, root: Node, lp: &Arena<IR>) -> Result<Option<Items<Node>>, AllocError> {
+    let start = Step {
+        node: root,
+        mark: (),
+    };
+    let nodes = walk(alloc, lp, &[start])?;
+    if nodes.fault.is_some() {
+        return Ok(None);
+    }
+    let mut numbers = Items::new(alloc);
+    for (node, _) in lp.iter(alloc, root)? {
+        numbers.push(node)?;
+    }
+    Ok(Some(numbers))
+}
+
+#[test]
+fn walks_over_nodes(rt: HostRuntime) -> Result<(), Fail> {
+    let alloc = rt.alloc();
+    let lp = nodes_at_five(alloc)?;
+    let numbers = walked(alloc, Node(5), &lp)?.ok_or("a plan")?;
+    assert_eq!(rt; numbers.as_slice(), [Node(5), Node(3), Node(1)].as_slice());
+    Ok(())
+}
+
 #[test]
 fn renumbers_in_walk_order(rt: HostRuntime) -> Result<(), Fail> {
     let alloc = rt.alloc();
@@ -181,6 +209,11 @@ fn takes_nodes_apart_and_puts_them_back(rt: HostRuntime) -> Result<(), Fail> {
     let exprs = node.get_exprs(alloc)?;
     let mut inputs = Items::new(alloc);
     inputs.push(Node(2))?;
+    assert_eq!(rt; node.get_inputs_vec(alloc)?.as_slice(), inputs.as_slice());
+    assert_eq!(rt; node.get_inputs(alloc)?.as_slice(), inputs.as_slice());
+    let mut copies = Items::new(alloc);
+    node.copy_exprs(alloc, &mut copies)?;
+    assert_eq!(rt; copies.len(), 1);
     let copy = node.with_exprs_and_input(alloc, exprs, inputs)?;
     assert!(rt; is_same(&copy, &node));
     Ok(())
