@@ -15,7 +15,7 @@ use Rattle.plan_core.specs.declared.data_type.DataType.{DataType}
 use Rattle.plan_expr.specs.Leaves.{Name, leaves}
 use Rattle.plan_expr.specs.Naming.{naming, may_be_named}
 use Rattle.plan_meaning.specs.Exprs.{all_known, expr_type}
-use Rattle.plan_meaning.specs.Typing.{Check, each, each_new, names_or, columns_or, file_columns, put_out_checks, scan_name_checks, is_built_scan, scan_column_checks, scan_checks, frame_checks, is_known, is_column, is_empty, number_checks, made_schema, form_checks, leaf_checks, type_checks, once_checks, stored_checks, naming_checks, made_checks, out_names, AllHold}
+use Rattle.plan_meaning.specs.Typing.{Check, each, each_new, names_or, columns_or, file_columns, put_out_checks, scan_name_checks, is_built_scan, scan_column_checks, scan_checks, frame_checks, is_known, is_column, is_empty, number_checks, made_schema, form_checks, leaf_checks, type_checks, once_checks, stored_checks, naming_checks, made_checks, plain_checks, key_checks, is_plain_type, out_names, AllHold}
 use Rattle.plan_meaning.proofs.NameSets.{has_cons, has_first, has_later}
 
 pub hold_front : (xs ys : List Check) → AllHold (xs ++ ys) → AllHold xs
@@ -161,3 +161,40 @@ good_made base es stored s g =
     (hold_join a (b ++ (c ++ (n ++ d))) (pass_each SchemaFieldNotFound 1 (λ (e : Named). all_known (leaves e.expr) s) es g.known)
     (hold_join b (c ++ (n ++ d)) (pass_each SchemaMismatch 1 (λ (e : Named). is_some (expr_type e.expr s)) es g.typed)
     (hold_join c (n ++ d) g.once (g.same, pass_each SchemaMismatch 1 (λ (e : Named). may_be_named e.name (naming e.expr)) es g.named))))
+
+-- keys
+
+-- what the checks on keys say, part by part
+pub record KeysGood (keys : List Named) (s : Columns) : Type 0 where
+  pub formed : AllByRecursion (λ (e : Named). has_form e.expr ≡ true) keys
+  pub known : AllByRecursion (λ (e : Named). all_known (leaves e.expr) s ≡ true) keys
+  pub typed : AllByRecursion (λ (e : Named). is_plain_type (expr_type e.expr s) ≡ true) keys
+  pub named : AllByRecursion (λ (e : Named). may_be_named e.name (naming e.expr) ≡ true) keys
+
+pub keys_good : (keys : List Named) (s : Columns) → AllHold (key_checks keys s) → KeysGood keys s
+unfolding key_checks form_checks leaf_checks plain_checks naming_checks
+keys_good keys s h =
+    let f = form_checks keys in
+    let a = leaf_checks keys s in
+    let b = plain_checks keys s in
+    let d = naming_checks keys in
+    let abd = hold_back f (a ++ (b ++ d)) h in
+    let bd = hold_back a (b ++ d) abd in
+    record {
+      formed = each_pass InvalidOperation 1 (λ (e : Named). has_form e.expr) keys (hold_front f (a ++ (b ++ d)) h);
+      known = each_pass SchemaFieldNotFound 1 (λ (e : Named). all_known (leaves e.expr) s) keys (hold_front a (b ++ d) abd);
+      typed = each_pass SchemaMismatch 1 (λ (e : Named). is_plain_type (expr_type e.expr s)) keys (hold_front b d bd);
+      named = each_pass SchemaMismatch 1 (λ (e : Named). may_be_named e.name (naming e.expr)) keys (hold_back b d bd);
+    }
+
+pub good_keys : (keys : List Named) (s : Columns) → KeysGood keys s → AllHold (key_checks keys s)
+unfolding key_checks form_checks leaf_checks plain_checks naming_checks
+good_keys keys s g =
+    let f = form_checks keys in
+    let a = leaf_checks keys s in
+    let b = plain_checks keys s in
+    let d = naming_checks keys in
+    hold_join f (a ++ (b ++ d)) (pass_each InvalidOperation 1 (λ (e : Named). has_form e.expr) keys g.formed)
+    (hold_join a (b ++ d) (pass_each SchemaFieldNotFound 1 (λ (e : Named). all_known (leaves e.expr) s) keys g.known)
+    (hold_join b d (pass_each SchemaMismatch 1 (λ (e : Named). is_plain_type (expr_type e.expr s)) keys g.typed)
+    (pass_each SchemaMismatch 1 (λ (e : Named). may_be_named e.name (naming e.expr)) keys g.named)))

@@ -8,16 +8,16 @@ use Rattle.plan_core.specs.Columns.{Columns, names_of, type_of}
 use Rattle.plan_core.specs.Names.{has, with_names, AreDistinct}
 use Rattle.plan_tree.specs.Rose.{Roses, rose, no_roses, more}
 use Rattle.plan_expr.specs.Exprs.{Named}
-use Rattle.plan_ir.specs.Plans.{Op, slice, filter, scan, frame_scan, simple_projection, select, hstack, invalid, Plan}
+use Rattle.plan_ir.specs.Plans.{Op, slice, filter, scan, frame_scan, simple_projection, select, hstack, sort, distinct, sink, invalid, Plan}
 use Rattle.plan_expr.specs.Leaves.{Name, leaves}
 use Rattle.plan_meaning.specs.Exprs.{all_known, is_type}
-use Rattle.plan_meaning.specs.Typing.{is_empty, each, is_known, is_column, has_columns, names_or, columns_or, file_columns, all_read, put_out_checks, scan_name_checks, made_schema, schema_by, schemas, checks, AllHold, AllValid}
+use Rattle.plan_meaning.specs.Typing.{is_empty, each, is_known, is_column, has_columns, names_or, columns_or, file_columns, all_read, put_out_checks, scan_name_checks, subset_checks, made_schema, schema_by, schemas, checks, AllHold, AllValid}
 use Rattle.plan_meaning.specs.Steps.{IsValid}
 use Rattle.plan_meaning.specs.Relating.{Asked, all, names, cached}
 use Rattle.plan_meaning.specs.Counting.{counts_rows, stand_ins, first_stand_in, stand_in_names}
 use Rattle.plan_meaning.specs.Asked.{asked_names, is_asked, set_of, with_more, kept, asks_columns, kept_exprs, selected_exprs, all_leaves, needed_names, asks_selected, asks_added, asks_stacked, asks, own_site, sites, reads, allowed, Fair, IsFair, SiteFair, AllSites}
 use Rattle.plan_meaning.proofs.NameSets.{has_cons, has_first, has_later, some-type_of, keeps_names, from_names, distinct_names, distinct_none}
-use Rattle.plan_meaning.proofs.CheckParts.{hold_front, each_pass, known_leaf, scan_good, made_good}
+use Rattle.plan_meaning.proofs.CheckParts.{hold_front, each_pass, name_passes, known_leaf, scan_good, made_good, keys_good}
 use Rattle.plan_meaning.proofs.MadeColumns.{types_kept}
 use Rattle.plan_meaning.proofs.StandIns.{IsStandIn, AreStandIns, first_stands, are_stand_ins}
 use Rattle.plan_meaning.proofs.KeptExprs.{all_append, all_kept_exprs, all_selected, known_leaves, where_has, distinct_where}
@@ -128,6 +128,12 @@ fair_stacked es all s h f = tt
 fair_stacked es (names wanted) s h f = fair_added es (kept_exprs (names wanted) es) wanted s refl (all_kept_exprs (λ (e : Named). all_known (leaves e.expr) s ≡ true) (names wanted) es h) f
 fair_stacked es cached s h f = tt
 
+-- the names by which rows are told apart are columns
+pub told_known : (subset : Option (List Name)) (s : Columns) → AllHold (subset_checks subset s) → (b : Name) → has (names_or subset (names_of s)) b ≡ true → is_some (type_of s b) ≡ true
+unfolding subset_checks
+told_known None s h b i = some-type_of s b ∙ i
+told_known (Some given) s h b i = name_passes (λ (x : Name). is_some (type_of s x) ≡ true) given (each_pass SchemaFieldNotFound 1 (is_known s) given h) b i
+
 -- what can be asked of several columns, one for one
 abbrev pub FairAll : List Asked → List Columns → Type 0
 FairAll [] [] = Unit {0}
@@ -145,6 +151,9 @@ fair_asks (slice offset len) a (s ∷ []) os good k f = (f, tt)
 fair_asks (frame_scan df schema output) a [] os good k f = tt
 fair_asks (select es stored options) a (s ∷ []) os good k f = (fair_selected es (first_stand_in os) a s (first_stands os s [] k) (made_good [] es stored s good.1).known, tt)
 fair_asks (hstack es stored options) a (s ∷ []) os good k f = (fair_stacked es a s (made_good s es stored s good).known f, tt)
+fair_asks (sort keys part options) a (s ∷ []) os good k f = (fair_more (all_leaves keys) a s (λ b i. known_leaves keys s (keys_good keys s good.1).known b i) f, tt)
+fair_asks (distinct options) a (s ∷ []) os good k f = (fair_more (names_or options.subset (names_of s)) a s (λ b i. told_known options.subset s good.1 b i) f, tt)
+fair_asks (sink payload) a (s ∷ []) os good k f = (f, tt)
 fair_asks op a ss os good k f = absurd (cc)
 
 -- scans
@@ -216,6 +225,9 @@ site_fair (hstack es stored options) a ss good f = tt
 site_fair (frame_scan df schema output) a (s ∷ ss) good f = cc
 site_fair (filter predicate) a ss good f = tt
 site_fair (simple_projection cols) a ss good f = tt
+site_fair (sort keys part options) a ss good f = tt
+site_fair (distinct options) a ss good f = tt
+site_fair (sink payload) a ss good f = tt
 site_fair invalid a ss good f = tt
 site_fair (scan sources info predicate output kind options) a (s ∷ ss) good f = cc
 

@@ -2,7 +2,7 @@
 use Rattle.std.proofs.Common.{◌≡◌, List, [], ◌∷◌, ◌++◌, map, refl, sym, ap₂, ◌∙◌, append_assoc}
 use Rattle.std.proofs.lemmas.List.{map-append}
 use Rattle.plan_tree.specs.Rose.{Roses, rose, no_roses, more}
-use Rattle.plan_ir.specs.Plans.{Op, slice, filter, scan, frame_scan, simple_projection, select, hstack, invalid, Plan}
+use Rattle.plan_ir.specs.Plans.{Op, slice, filter, scan, frame_scan, simple_projection, select, hstack, sort, distinct, sink, invalid, Plan}
 use Rattle.plan_meaning.specs.Typing.{schemas}
 use Rattle.plan_meaning.specs.Relating.{Asked}
 use Rattle.plan_meaning.specs.Counting.{stand_ins}
@@ -26,6 +26,9 @@ own_scans (filter predicate) = tt
 own_scans (simple_projection columns) = tt
 own_scans (select es stored options) = tt
 own_scans (hstack es stored options) = tt
+own_scans (sort keys part options) = tt
+own_scans (distinct options) = tt
+own_scans (sink payload) = tt
 own_scans invalid = tt
 
 mutual
@@ -68,6 +71,9 @@ own-site (filter predicate) a = refl
 own-site (simple_projection columns) a = refl
 own-site (select es stored options) a = refl
 own-site (hstack es stored options) a = refl
+own-site (sort keys part options) a = refl
+own-site (distinct options) a = refl
+own-site (sink payload) a = refl
 own-site invalid a = refl
 
 pub sites-scans : (ts : Roses (Unit {0}) Op) (asked : List Asked) → map (λ (s : Site). s.at_scan) (sites ts asked) ≡ scans_in ts

@@ -15,6 +15,8 @@ mod Spreads
 mod TypedValues
 pub mod Sound
 pub mod CheckParts
+pub mod OrderLemmas
+pub mod KeptRows
 pub mod MadeColumns
 pub mod KeptExprs
 pub mod Runs

@@ -21,7 +21,7 @@ use Rattle.plan_expr.specs.Forms.{has_form}
 use Rattle.plan_expr.specs.Leaves.{leaves}
 use Rattle.plan_expr.specs.Naming.{naming, may_be_named, name_of}
 use Rattle.plan_meaning.specs.Exprs.{all_known, expr_type}
-use Rattle.plan_meaning.specs.Typing.{each, each_new, form_checks, leaf_checks, type_checks, once_checks, naming_checks, made_schema}
+use Rattle.plan_meaning.specs.Typing.{each, each_new, form_checks, leaf_checks, type_checks, plain_checks, is_plain_type, once_checks, naming_checks, made_schema}
 use Rattle.plan_meaning.proofs.CheckLemmas.{each-map}
 
 module _ (ex : List AExpr) (es : List ExprIR) where
@@ -36,6 +36,10 @@ module _ (ex : List AExpr) (es : List ExprIR) where
   pub type-at : (s : Columns) → type_checks (all_named_at ex es) s ≡ each SchemaMismatch 1 (λ (e : ExprIR). is_some (expr_type (expr_at ex e.node) s)) es
   unfolding type_checks
   type-at s = sym (each-map SchemaMismatch 1 (λ (n : Named). is_some (expr_type n.expr s)) (named_at ex) es)
+
+  pub plain-at : (s : Columns) → plain_checks (all_named_at ex es) s ≡ each SchemaMismatch 1 (λ (e : ExprIR). is_plain_type (expr_type (expr_at ex e.node) s)) es
+  unfolding plain_checks
+  plain-at s = sym (each-map SchemaMismatch 1 (λ (n : Named). is_plain_type (expr_type n.expr s)) (named_at ex) es)
 
   pub naming-at : naming_checks (all_named_at ex es) ≡ each SchemaMismatch 1 (λ (e : ExprIR). may_be_named e.output_name (naming (expr_at ex e.node))) es
   unfolding naming_checks

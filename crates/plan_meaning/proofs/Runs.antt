@@ -7,22 +7,26 @@ use Rattle.plan_core.specs.declared.error.PolarsError.TheVariants.{SchemaFieldNo
 use Rattle.plan_core.specs.Columns.{Columns, names_of, type_of}
 use Rattle.plan_tree.specs.Rose.{Roses, rose, no_roses, more}
 use Rattle.plan_expr.specs.Exprs.{Named}
-use Rattle.plan_ir.specs.Plans.{Op, slice, filter, scan, frame_scan, simple_projection, select, hstack, Plan}
+use Rattle.plan_ir.specs.Plans.{Op, slice, filter, scan, frame_scan, simple_projection, select, hstack, sort, distinct, sink, Plan}
 use Rattle.plan_core.specs.declared.data_type.DataType.TheVariants as types
 use Rattle.plan_expr.specs.Leaves.{Name}
 use Rattle.plan_expr.specs.Naming.{name_of}
 use Rattle.plan_expr.specs.Scalars.{is_scalar}
+use Rattle.plan_expr.specs.Types.{is_plain}
 use Rattle.plan_meaning.specs.Exprs.{expr_type}
-use Rattle.plan_meaning.specs.Typing.{each, is_known, is_column, columns_or, file_columns, has_columns, put_out_checks, made_schema, schema_by, schema, schemas, checks, AllHold, AllValid}
+use Rattle.plan_meaning.specs.Typing.{each, is_known, is_column, columns_or, file_columns, has_columns, put_out_checks, is_plain_type, made_schema, schema_by, schema, schemas, checks, AllHold, AllValid}
 use Rattle.plan_meaning.specs.Frames.{Frame, Column, HaveTypes, HasSchema, Holds, HoldsAll, with_columns, cut}
-use Rattle.plan_meaning.specs.Meaning.{val, filled}
+use Rattle.plan_meaning.specs.Meaning.{are_alike, val, filled}
+use Rattle.plan_meaning.specs.Orders.{key_cells, rows_cmp, told_columns}
 use Rattle.plan_meaning.specs.Contents.{Contents, Source, frame_or, no_frame, handed_in, HasFrame, HasHandedIn, sources_of, frames_of, stack, FitsAt, FitsAll, Fits}
 use Rattle.plan_meaning.specs.Steps.{Step, MayAll, May, IsValid, filtered, true_rows, slice_rows, all_scalar, made_columns, made, selected}
 use Rattle.plan_meaning.specs.Frames.{rows_at}
 use Rattle.std.proofs.lemmas.Bool.{and_parts as parts_of}
 use Rattle.plan_meaning.proofs.FrameLemmas.{rows_schema, schema_holds, all_hold, cut_schema, stack_has, is_type_some, with_has}
 use Rattle.plan_meaning.proofs.Sound.{val_sound, val_single, Fills, cell_fills, one_fills}
-use Rattle.plan_meaning.proofs.CheckParts.{hold_back, each_pass, scan_good, FrameGood, frame_good, made_good}
+use Rattle.plan_meaning.proofs.CheckParts.{hold_back, each_pass, scan_good, FrameGood, frame_good, made_good, keys_good}
+use Rattle.plan_meaning.proofs.KeptRows.{alike_equivalence, kept_exists}
+use Rattle.plan_meaning.proofs.OrderLemmas.{IsKey, rows_total, sorted_exists}
 
 -- frames have these columns, one for one
 abbrev pub HaveSchemas : List Frame → List Columns → Type 0
@@ -101,6 +105,17 @@ selected_has g s es has a = at (all_scalar es) refl
     at true q = made_have 1 g s es [] [] tt (scalar_fill 1 g s es has q a)
     at false q = made_have g.height g s es [] [] tt (typed_fill g s es has a)
 
+-- what keys are over a frame
+plain_some : (o : Option DataType) → is_plain_type o ≡ true → (t : DataType) × (o ≡ Some t) × (is_plain t ≡ true)
+plain_some None e = cc
+plain_some (Some t) e = (t, refl, e)
+
+pub keys_are : (g : Frame) (s : Columns) (keys : List Named) → HasSchema g s → AllByRecursion (λ (e : Named). is_plain_type (expr_type e.expr s) ≡ true) keys → AllByRecursion (IsKey g.height) (key_cells keys g)
+keys_are g s [] has a = tt
+keys_are g s (e ∷ keys) has a =
+    let p = plain_some (expr_type e.expr s) a.0 in
+    ((p.0, p.2, (val_sound s e.expr).by g p.0 has p.1), keys_are g s keys has a.1)
+
 -- per node: what it gives has its columns
 step_has : (c : Contents) (op : Op) (ss : List Columns) (fs : List Frame) (f : Frame) → AllHold (checks op ss) → FitsAt c op → HaveSchemas fs ss → Step c op fs f → HasSchema f (schema_by op ss)
 step_has c (filter predicate) (s ∷ []) (g ∷ []) f good fit has st =
@@ -122,6 +137,11 @@ step_has c (hstack es stored options) (s ∷ []) (g ∷ []) f good fit has st =
 step_has c (simple_projection cols) (s ∷ []) (g ∷ []) f good fit has st =
     let typed = each_pass SchemaMismatch 1 (is_column s) cols (hold_back (each SchemaFieldNotFound 1 (λ (c : Name × DataType). is_known s c.0) cols) (each SchemaMismatch 1 (is_column s) cols) good.1) in
     subst (λ (x : Frame). HasSchema x cols) (sym st) (cut_schema g cols (among_hold (λ a t. Holds g (a, t)) s cols (λ a t e. schema_holds g s a t has.0 e) typed))
+step_has c (sort keys part options) (s ∷ []) (g ∷ []) f good fit has st =
+    subst (λ (x : Frame). HasSchema x s) (sym st.2) (rows_schema st.0 g s has.0)
+step_has c (distinct options) (s ∷ []) (g ∷ []) f good fit has st =
+    subst (λ (x : Frame). HasSchema x s) (sym st.2) (rows_schema st.0 g s has.0)
+step_has c (sink payload) (s ∷ []) (g ∷ []) f good fit has st = subst (λ (x : Frame). HasSchema x s) (sym st) has.0
 step_has c op ss fs f good fit has st = absurd (first_of (search st, cc))
 
 -- per node: it gives something
@@ -133,6 +153,16 @@ step_runs c (frame_scan df schema output) [] [] good fit has = (cut (names_of (c
 step_runs c (select es stored options) (s ∷ []) (g ∷ []) good fit has = (selected es g, refl)
 step_runs c (hstack es stored options) (s ∷ []) (g ∷ []) good fit has = (made g.height g.columns es g, refl)
 step_runs c (simple_projection cols) (s ∷ []) (g ∷ []) good fit has = (cut (names_of cols) g, refl)
+step_runs c (sort keys part options) (s ∷ []) (g ∷ []) good fit has =
+    let cmp = rows_cmp (key_cells keys g) options.descending options.nulls_last in
+    let total = rows_total g.height (key_cells keys g) options.descending options.nulls_last (keys_are g s keys has.0 (keys_good keys s good.1).typed) in
+    let rows = sorted_exists options.maintain_order cmp g.height total in
+    (rows_at rows.0 g, (rows.0, rows.1, refl))
+step_runs c (distinct options) (s ∷ []) (g ∷ []) good fit has =
+    let same = are_alike (told_columns options.subset g) in
+    let rows = kept_exists same (alike_equivalence (told_columns options.subset g)) g.height options.maintain_order options.keep_strategy in
+    (rows_at rows.0 g, (rows.0, rows.1, refl))
+step_runs c (sink payload) (s ∷ []) (g ∷ []) good fit has = (g, refl)
 step_runs c op ss fs good fit has = absurd (first_of (search has, cc))
 
 -- what valid plans give has their columns

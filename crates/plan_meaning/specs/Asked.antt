@@ -6,7 +6,7 @@ use Rattle.plan_core.specs.Columns.{Columns, names_of, type_of}
 use Rattle.plan_core.specs.Names.{has, with_names, AreDistinct}
 use Rattle.plan_tree.specs.Rose.{Roses, rose, no_roses, more}
 use Rattle.plan_expr.specs.Exprs.{Named}
-use Rattle.plan_ir.specs.Plans.{Op, slice, filter, scan, frame_scan, simple_projection, select, hstack, invalid, Plan}
+use Rattle.plan_ir.specs.Plans.{Op, slice, filter, scan, frame_scan, simple_projection, select, hstack, sort, distinct, sink, invalid, Plan}
 use Rattle.plan_expr.specs.Leaves.{Name, leaves}
 use Rattle.plan_expr.specs.Naming.{name_of}
 use Rattle.plan_meaning.specs.Typing.{is_empty, names_or, columns_or, file_columns, first_schema, schema_by, schemas}
@@ -90,6 +90,9 @@ asks (frame_scan df schema output) a ss os = []
 asks (simple_projection columns) a ss os = asks_columns columns a ∷ []
 asks (select exprs schema options) a ss os = asks_selected exprs (first_stand_in os) a ∷ []
 asks (hstack exprs schema options) a ss os = asks_stacked exprs a (first_schema ss) ∷ []
+asks (sort keys part options) a ss os = with_more (all_leaves keys) a ∷ []
+asks (distinct options) a ss os = with_more (names_or options.subset (names_of (first_schema ss))) a ∷ []
+asks (sink payload) a ss os = a ∷ []
 asks invalid a ss os = []
 
 -- the first of what is asked, everything where there is none
@@ -116,6 +119,9 @@ own_site (filter predicate) a = []
 own_site (simple_projection columns) a = []
 own_site (select exprs schema options) a = []
 own_site (hstack exprs schema options) a = []
+own_site (sort keys part options) a = []
+own_site (distinct options) a = []
+own_site (sink payload) a = []
 own_site invalid a = []
 
 -- the scans of plans from left to right, where each plan is asked what the list says
@@ -137,6 +143,9 @@ reads (filter predicate) = []
 reads (simple_projection columns) = []
 reads (select exprs schema options) = []
 reads (hstack exprs schema options) = []
+reads (sort keys part options) = []
+reads (distinct options) = []
+reads (sink payload) = []
 reads invalid = []
 
 -- what a scan may read for what it is asked

@@ -7,7 +7,7 @@ use Rattle.plan_core.specs.Columns.{Columns}
 use Rattle.plan_tree.specs.Rose.{Roses, rose, no_roses, more}
 use Rattle.plan_ir.specs.declared.scan.ScanSources.{ScanSources}
 use Rattle.plan_ir.specs.declared.scan.ScanSources.TheVariants.{Paths}
-use Rattle.plan_ir.specs.Plans.{Op, slice, filter, scan, frame_scan, simple_projection, select, hstack, invalid, Plan}
+use Rattle.plan_ir.specs.Plans.{Op, slice, filter, scan, frame_scan, simple_projection, select, hstack, sort, distinct, sink, invalid, Plan}
 use Rattle.plan_expr.specs.Leaves.{Name}
 use Rattle.plan_meaning.specs.Values.{Value}
 use Rattle.plan_meaning.specs.Frames.{Frame, IsFrame, HoldsAll, column_or, table}
@@ -76,6 +76,9 @@ FitsAt c (frame_scan df schema output) = HasHandedIn c schema df
 FitsAt c (simple_projection columns) = Unit {0}
 FitsAt c (select exprs schema options) = Unit {0}
 FitsAt c (hstack exprs schema options) = Unit {0}
+FitsAt c (sort keys part options) = Unit {0}
+FitsAt c (distinct options) = Unit {0}
+FitsAt c (sink payload) = Unit {0}
 FitsAt c invalid = Unit {0}
 
 -- contents fit each node of each plan

@@ -8,6 +8,7 @@ pub mod Values
 pub mod Frames
 pub mod Aggregates
 pub mod Meaning
+pub mod Orders
 pub mod Contents
 pub mod Steps
 pub mod Relating

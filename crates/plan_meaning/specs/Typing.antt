@@ -1,18 +1,21 @@
 -- Which plans are valid: the schema of a plan, and the checks on its nodes in the order in which faults are told.
-use Rattle.std.specs.Prelude.{◌≡◌, ℕ, suc, min, Bool, true, false, not, ◌&&◌, ◌||◌, List, [], ◌∷◌, ◌++◌, map, length, Option, Some, None, is_some, unwrap_or, if◌then◌else◌, Result, Ok, Err}
+use Rattle.std.specs.Prelude.{◌≡◌, ℕ, ℤ, suc, ◌==◌, min, Bool, true, false, not, ◌&&◌, ◌||◌, List, [], ◌∷◌, ◌++◌, map, length, Option, Some, None, is_some, unwrap_or, if◌then◌else◌, Result, Ok, Err}
 use Rattle.plan_core.specs.declared.arena.Node.{Node}
 use Rattle.plan_core.specs.declared.error.At.{At}
 use Rattle.plan_core.specs.declared.error.PolarsError.{PolarsError}
 use Rattle.plan_core.specs.declared.error.PolarsError.TheVariants.{SchemaFieldNotFound, Duplicate, SchemaMismatch, InvalidOperation, ComputeError, OutOfMemory}
 use Rattle.plan_core.specs.declared.data_type.DataType.{DataType}
 use Rattle.plan_core.specs.declared.options.FileScanOptions.{FileScanOptions}
+use Rattle.plan_options.specs.declared.distinct.DistinctOptionsIR.{DistinctOptionsIR}
+use Rattle.plan_options.specs.declared.sort.SortMultipleOptions.{SortMultipleOptions}
 use Rattle.plan_core.specs.Columns.{Columns, type_of, with_types, same_columns}
 use Rattle.plan_core.specs.Names.{has}
 use Rattle.plan_tree.specs.Rose.{Rose, Roses, rose, no_roses, more}
 use Rattle.plan_ir.specs.declared.scan.FileInfo.{FileInfo}
 use Rattle.plan_expr.specs.Exprs.{Named}
 use Rattle.plan_expr.specs.Forms.{has_form}
-use Rattle.plan_ir.specs.Plans.{Op, slice, filter, scan, frame_scan, simple_projection, select, hstack, invalid}
+use Rattle.plan_expr.specs.Types.{is_plain}
+use Rattle.plan_ir.specs.Plans.{Op, slice, filter, scan, frame_scan, simple_projection, select, hstack, sort, distinct, sink, invalid}
 use Rattle.plan_expr.specs.Leaves.{Name, leaves}
 use Rattle.plan_expr.specs.Naming.{naming, may_be_named, name_of}
 use Rattle.plan_meaning.specs.Exprs.{all_known, expr_type, is_type}
@@ -51,6 +54,9 @@ schema_by (frame_scan df schema output) ss = columns_or output schema
 schema_by (simple_projection columns) ss = columns
 schema_by (select exprs schema options) ss = made_schema [] exprs (first_schema ss)
 schema_by (hstack exprs schema options) ss = made_schema (first_schema ss) exprs (first_schema ss)
+schema_by (sort keys part options) ss = first_schema ss
+schema_by (distinct options) ss = first_schema ss
+schema_by (sink payload) ss = first_schema ss
 schema_by invalid ss = []
 
 -- the columns of plans, from left to right
@@ -211,6 +217,45 @@ made_checks base es stored s =
     ++ (stored_checks stored (made_schema base es s)
     ++ naming_checks es))))
 
+-- there is a type, and it is plain
+abbrev pub is_plain_type : Option DataType → Bool
+is_plain_type None = false
+is_plain_type (Some t) = is_plain t
+
+-- each expression has a plain type
+unfoldable pub plain_checks : List Named → Columns → List Check
+plain_checks es s = each SchemaMismatch 1 (λ (e : Named). is_plain_type (expr_type e.expr s)) es
+
+-- one mark for each of so many keys, or one for all
+abbrev pub are_marks : List Bool → ℕ → Bool
+are_marks bs n = length bs == 1 || length bs == n
+
+-- whether a sort by so many keys has a form that is built: some keys, marks for them, and neither a slice nor a limit
+unfoldable pub is_built_sort : ℕ → Option (ℤ × ℕ) → SortMultipleOptions → Bool
+is_built_sort keys part options =
+    not (keys == 0) && is_none part && is_none options.limit && are_marks options.descending keys && are_marks options.nulls_last keys
+
+-- the keys of a sort have forms, read columns of the input, have plain types there, and are named as they may be
+unfoldable pub key_checks : List Named → Columns → List Check
+key_checks keys s =
+    form_checks keys
+    ++ (leaf_checks keys s
+    ++ (plain_checks keys s
+    ++ naming_checks keys))
+
+-- the names that are told, if they are, are some
+abbrev pub is_some_subset : Option (List Name) → Bool
+is_some_subset None = true
+is_some_subset (Some names) = not (is_empty names)
+
+-- whether distinct rows have a form that is built: no slice, and a name where names are told
+unfoldable pub is_built_distinct : DistinctOptionsIR → Bool
+is_built_distinct options = is_none options.slice && is_some_subset options.subset
+
+-- the names that are told are columns of the input
+unfoldable pub subset_checks : Option (List Name) → Columns → List Check
+subset_checks subset s = each SchemaFieldNotFound 1 (is_known s) (names_or subset [])
+
 -- the checks where a node has no inputs; else one that fails
 abbrev pub with_none : List Columns → List Check → List Check
 with_none [] cs = cs
@@ -230,6 +275,9 @@ checks (frame_scan df schema output) ss = with_none ss (frame_checks df schema (
 checks (simple_projection columns) ss = with_one ss (projection_checks columns)
 checks (select exprs schema options) ss = with_one ss (λ s. check InvalidOperation 0 (not (is_empty exprs)) ∷ made_checks [] exprs schema s)
 checks (hstack exprs schema options) ss = with_one ss (λ s. made_checks s exprs schema s)
+checks (sort keys part options) ss = with_one ss (λ s. check InvalidOperation 0 (is_built_sort (length keys) part options) ∷ key_checks keys s)
+checks (distinct options) ss = with_one ss (λ s. check InvalidOperation 0 (is_built_distinct options) ∷ subset_checks options.subset s)
+checks (sink payload) ss = with_one ss (λ s. [])
 checks invalid ss = check ComputeError 0 false ∷ []
 
 -- all checks hold

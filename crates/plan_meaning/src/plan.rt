@@ -9,8 +9,8 @@ ghost use Rattle.plan_meaning.specs.TreeFaults.{tree_fault};
 ghost use Rattle.plan_meaning.specs.Typed.{typed, IsNodeTyped, IsPlanTyped, IsTyped};
 
 use crate::check::{
-    at, filter_schema, frame_scan_schema, hstack_schema, projection_schema, scan_schema,
-    select_schema,
+    at, distinct_schema, filter_schema, frame_scan_schema, hstack_schema, projection_schema,
+    scan_schema, select_schema, sort_schema,
 };
 use crate::tree::check_tree;
 use plan_core::{Arena, Items, Node, PolarsError, PolarsResult, Schema};
@@ -72,7 +72,7 @@ fn node_schema(
     ensures { IsNodeTyped result node (op_at ex.now entry.now) schemas }
 {
     match entry {
-        IR::Slice { .. } => Ok(only(schemas)),
+        IR::Slice { .. } | IR::Sink { .. } => Ok(only(schemas)),
         IR::Filter { predicate, .. } => filter_schema(node, predicate, ex, only(schemas)),
         IR::Scan { .. } | IR::DataFrameScan { .. } => source_schema(alloc, node, entry, ex),
         IR::SimpleProjection { columns, .. } => {
@@ -84,6 +84,20 @@ fn node_schema(
         IR::HStack { exprs, schema, .. } => {
             hstack_schema(alloc, node, exprs.as_slice(), schema, ex, &only(schemas))
         }
+        IR::Sort {
+            by_column,
+            slice,
+            sort_options,
+            ..
+        } => sort_schema(
+            node,
+            by_column.as_slice(),
+            slice,
+            sort_options,
+            ex,
+            only(schemas),
+        ),
+        IR::Distinct { options, .. } => distinct_schema(node, options, only(schemas)),
         IR::Invalid => Err(PolarsError::ComputeError(at(node, 0))),
     }
 }

@@ -19,7 +19,7 @@ use plan_expr::{AExpr, ExprIR, has_form, may_be_named, output_name};
 use std::alloc::{AllocError, Global};
 
 /// Each expression has a form; the first expression stands at place 1.
-fn check_forms(node: Node, exprs: &[ExprIR], ex: &Arena<AExpr>) -> PolarsResult<()>
+pub fn check_forms(node: Node, exprs: &[ExprIR], ex: &Arena<AExpr>) -> PolarsResult<()>
     requires { All (λ e. IsExpr ex.now e.node) exprs.now }
     ensures { Says result (first_fault node (form_checks (all_named_at ex.now exprs.now))) }
 {
@@ -32,7 +32,7 @@ fn check_forms(node: Node, exprs: &[ExprIR], ex: &Arena<AExpr>) -> PolarsResult<
 }
 
 /// Each expression reads columns of the schema; the first expression stands at place 1.
-fn check_leaves(
+pub fn check_leaves(
     node: Node,
     exprs: &[ExprIR],
     ex: &Arena<AExpr>,
@@ -76,7 +76,7 @@ fn check_outputs(alloc: Global, node: Node, exprs: &[ExprIR], ex: &Arena<AExpr>)
 }
 
 /// Each expression is named as it may be; the first expression stands at place 1.
-fn check_namings(node: Node, exprs: &[ExprIR], ex: &Arena<AExpr>) -> PolarsResult<()>
+pub fn check_namings(node: Node, exprs: &[ExprIR], ex: &Arena<AExpr>) -> PolarsResult<()>
     requires { All (λ e. IsExpr ex.now e.node) exprs.now }
     ensures { Says result (first_fault node (naming_checks (all_named_at ex.now exprs.now))) }
 {
