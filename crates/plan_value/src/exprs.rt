@@ -53,8 +53,8 @@ fn repeated(alloc: Global, value: &AnyValue, height: usize) -> Result<Items<AnyV
     Ok(values)
 }
 
-/// The values of the column of a name; null in each row where there is none.
-fn column(alloc: Global, table: &Table, name: &str) -> Result<Items<AnyValue>, AllocError>
+/// The values of the column of a name; null in each row where there is none. Refuses for want of memory alone.
+pub fn column(alloc: Global, table: &Table, name: &str) -> Result<Items<AnyValue>, AllocError>
     ensures { IfOk result (λ vs. values_of vs ≡ column_or (frame_of table.now) name.now) }
 {
     match table.columns.get(name) {
