@@ -5,3 +5,6 @@ mod FormedLemmas
 mod ColumnLemmas
 mod MadeLemmas
 mod PlanLemmas
+mod PartLemmas
+mod DistinctLemmas
+mod SortLemmas

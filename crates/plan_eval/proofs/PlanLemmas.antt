@@ -9,13 +9,13 @@ use Rattle.plan_ir.specs.declared.ir.IR.{IR}
 use Rattle.plan_ir.specs.Parts.{inputs_of, IsPlan}
 use Rattle.plan_ir.specs.Plans.{Op, bare, op_at, plans_at}
 use Rattle.plan_ir.proofs.PlanLemmas.{plan_open}
-use Rattle.plan_meaning.specs.Contents.{Fits}
+use Rattle.plan_meaning.specs.Contents.{Contents, Fits, FitsAll}
 use Rattle.plan_meaning.specs.Frames.{HasSchema}
 use Rattle.plan_meaning.specs.PlanAt.{one_plan, plan_at}
 use Rattle.plan_meaning.specs.Steps.{IsValid, May, MayAll}
 use Rattle.plan_meaning.specs.Typing.{AllHold, AllValid, checks, schema, schema_by, schemas}
-use Rattle.plan_meaning.proofs.Runs.{may_has}
-use Rattle.plan_meaning.proofs.Validity.{bare-valid, one_stands, schemas-bare}
+use Rattle.plan_meaning.proofs.Runs.{HaveSchemas, may_has, may_have_all}
+use Rattle.plan_meaning.proofs.Validity.{bare-valid, one_stands, schemas-bare, valid-bare}
 use Rattle.plan_table.specs.declared.source_key.SourceKey.{SourceKey}
 use Rattle.plan_table.specs.declared.table.Table.{Table}
 use Rattle.plan_table.specs.Tables.{HasRows}
@@ -43,7 +43,25 @@ module _ (lp : List IR) (ex : List AExpr) (n : Node) (p : IR) (h : IsPlan lp ex 
   pub inputs-valid : AllValid (plans_at lp ex (n ∷ [])) → AllValid (plans_at lp ex (inputs_of p))
   inputs-valid v = (subst (λ (r : Roses Node Op). AllValid r) (plan_open lp ex n p h entry) v).1
 
+  -- contents that fit a plan fit its inputs
+  pub inputs-frames : (c : Contents) → FitsAll c (bare (plans_at lp ex (n ∷ []))) → FitsAll c (bare (plans_at lp ex (inputs_of p)))
+  inputs-frames c f = (subst (λ (r : Roses Node Op). FitsAll c (bare r)) (plan_open lp ex n p h entry) f).1
+
+-- the table that a valid plan gives over contents that fit it has a value of each column's type in each row
+pub given-rows : (ts : List (SourceKey × Table)) (plans : Roses Node Op) (t : Table) → AllValid plans → FitsAll (contents_of ts) (bare plans) → GiveAll ts plans (t ∷ []) → HasRows t
+given-rows ts plans t v f g =
+    let has : HaveSchemas (frame_of t ∷ []) (schemas (bare plans)) = may_have_all (contents_of ts) (bare plans) (frame_of t ∷ []) (valid-bare plans v) f g.may in
+    let typed : HaveSchemas (frame_of t ∷ []) (schema_of t ∷ []) = subst (HaveSchemas (frame_of t ∷ [])) (schemas-bare plans ∙ sym g.types) has in
+    have-columns t.height t.columns typed.0
+
 module _ (lp : List IR) (ex : List AExpr) (root : Node) (h : IsPlan lp ex root) where
+  -- contents fit the plan at a number where they fit what stands there
+  pub plans-fit : (c : Contents) → Fits c (plan_at lp ex root) → FitsAll c (bare (plans_at lp ex (root ∷ [])))
+  plans-fit c f =
+      let t = one_stands lp ex root h in
+      let w : Fits c (rose tt t.1 (bare t.2)) = subst (λ (r : Roses Node Op). Fits c (one_plan (bare r))) t.3 f in
+      subst (λ (r : Roses Node Op). FitsAll c (bare r)) (sym t.3) (w.0, w.1, tt)
+
   -- the plan at a number is valid where what stands there is
   pub plans-valid : IsValid (plan_at lp ex root) → AllValid (plans_at lp ex (root ∷ []))
   plans-valid v =

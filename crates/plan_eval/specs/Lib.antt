@@ -3,3 +3,4 @@ pub mod Sources
 pub mod Fitting
 pub mod Given
 pub mod Stacks
+pub mod Distinct

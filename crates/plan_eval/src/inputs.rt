@@ -14,7 +14,10 @@ pub fn input_of(node: &IR) -> Option<Node>
         | IR::Filter { input, .. }
         | IR::SimpleProjection { input, .. }
         | IR::Select { input, .. }
-        | IR::HStack { input, .. } => Some(*input),
+        | IR::HStack { input, .. }
+        | IR::Sort { input, .. }
+        | IR::Distinct { input, .. }
+        | IR::Sink { input, .. } => Some(*input),
         IR::Scan { .. } | IR::DataFrameScan { .. } | IR::Invalid => None,
     }
 }

@@ -1,6 +1,7 @@
 //! Which tables fit a plan, and the table that a plan gives over them.
 #![tactic(auto)]
 
+mod distinct;
 mod filter;
 mod fitting;
 mod frame_scan;
@@ -11,7 +12,9 @@ mod plan;
 mod projection;
 mod scan;
 mod select;
+mod sink;
 mod slice;
+mod sort;
 mod stack;
 #[cfg(test)]
 mod tests;

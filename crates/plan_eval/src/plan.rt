@@ -3,8 +3,8 @@ ghost use Rattle.std.specs.Prelude.{◌≡◌, List, [], ◌∷◌, All, IfOk, l
 ghost use Rattle.plan_expr.specs.declared.aexpr.AExpr.{AExpr as AExprType};
 ghost use Rattle.plan_expr.specs.Operands.{IsExpr};
 ghost use Rattle.plan_ir.specs.Parts.{IsPlan, exprs_of, inputs_of};
-ghost use Rattle.plan_ir.specs.Plans.{op_at, plans_at};
-ghost use Rattle.plan_meaning.specs.Contents.{Fits};
+ghost use Rattle.plan_ir.specs.Plans.{bare, op_at, plans_at};
+ghost use Rattle.plan_meaning.specs.Contents.{Fits, FitsAll};
 ghost use Rattle.plan_meaning.specs.PlanAt.{plan_at};
 ghost use Rattle.plan_meaning.specs.Steps.{IsValid, May};
 ghost use Rattle.plan_meaning.specs.Typing.{AllHold, AllValid, checks, schema};
@@ -15,6 +15,7 @@ ghost use Rattle.plan_eval.specs.Given.{GiveAll, Gives};
 ghost use Rattle.plan_value.specs.Shown.{frame_of, schema_of};
 ghost use Rattle.plan_eval.specs.Sources.{contents_of};
 
+use crate::distinct::distinct;
 use crate::filter::filter;
 use crate::frame_scan::frame_scan;
 use crate::hstack::hstack;
@@ -22,7 +23,9 @@ use crate::inputs::input_of;
 use crate::projection::projection;
 use crate::scan::scan;
 use crate::select::select;
+use crate::sink::sink;
 use crate::slice::slice;
+use crate::sort::sort;
 use plan_core::{Arena, Node};
 use plan_expr::AExpr;
 use plan_ir::IR;
@@ -61,6 +64,7 @@ fn node_table(
     requires one { length (inputs_of node.now) ≡ 1 }
     requires stand { All (λ e. IsExpr ex.now e.node) (exprs_of node.now) }
     requires valid { AllHold (checks (op_at ex.now node.now) (schema_of table.now ∷ [])) }
+    requires rows { HasRows table.now }
     ensures { (ts : List (SourceKey × TableType)) → IfOk result (Gives ts (op_at ex.now node.now) (table.now ∷ [])) }
 {
     match node {
@@ -69,6 +73,13 @@ fn node_table(
         IR::SimpleProjection { columns, .. } => projection(alloc, table, columns),
         IR::Select { expr, schema, .. } => select(alloc, table, expr.as_slice(), schema, ex),
         IR::HStack { exprs, schema, .. } => hstack(alloc, table, exprs.as_slice(), schema, ex),
+        IR::Sort {
+            by_column,
+            sort_options,
+            ..
+        } => sort(alloc, table, by_column.as_slice(), sort_options, ex),
+        IR::Distinct { options, .. } => distinct(alloc, table, options),
+        IR::Sink { .. } => sink(alloc, table),
         IR::Scan { .. } | IR::DataFrameScan { .. } | IR::Invalid => unreachable!(),
     }
 }
@@ -83,6 +94,7 @@ fn plan_table(
 ) -> Result<Table, AllocError>
     requires stands { IsPlan lp.now ex.now node }
     requires valid { AllValid (plans_at lp.now ex.now (node ∷ [])) }
+    requires fits { FitsAll (contents_of tables.now) (bare (plans_at lp.now ex.now (node ∷ []))) }
     ensures { IfOk result (λ table. GiveAll tables.now (plans_at lp.now ex.now (node ∷ [])) (table ∷ [])) }
 {
     let entry = lp.get(node);

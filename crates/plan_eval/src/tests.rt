@@ -1,4 +1,5 @@
 //! Tables that small plans give.
+mod orders;
 mod windows;
 
 use crate::{evaluate, fits};

@@ -1,8 +1,12 @@
-use Rattle.plan_eval.proofs.PlanLemmas.{plans-valid, plan-may, plan-types, plan-rows}
+use Rattle.plan_eval.specs.Sources.{contents_of}
+use Rattle.plan_eval.proofs.PlanLemmas.{plans-fit, plans-valid, plan-may, plan-types, plan-rows}
 use Rattle.plan_eval.proofs.plan.evaluate.Goals as goal
 
 pub plan_table-requires-clause-valid : goal.plan_table-requires-clause-valid
 plan_table-requires-clause-valid c = plans-valid c.args.lp.now c.args.ex.now c.args.root c.requires.stands c.requires.valid
+
+pub plan_table-requires-clause-fits : goal.plan_table-requires-clause-fits
+plan_table-requires-clause-fits c = plans-fit c.args.lp.now c.args.ex.now c.args.root c.requires.stands (contents_of c.args.tables.now) c.requires.fits
 
 pub returns-clause-may : goal.returns-clause-may
 returns-clause-may c = plan-may c.args.lp.now c.args.ex.now c.args.root c.requires.stands c.args.tables.now c.in_ok-plan_table.field-0 c.in_ok-plan_table.ensures

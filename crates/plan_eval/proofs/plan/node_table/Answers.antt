@@ -6,6 +6,8 @@ use Rattle.plan_ir.specs.declared.ir.IR.{IR}
 use Rattle.plan_expr.specs.Operands.{IsExpr}
 use Rattle.plan_ir.specs.Parts.{exprs_of}
 use Rattle.plan_ir.specs.Plans.{op_at, slice}
+use Rattle.plan_meaning.specs.Typing.{AllHold, checks}
+use Rattle.plan_value.specs.Shown.{schema_of}
 use Rattle.plan_eval.specs.Given.{Gives}
 use Rattle.plan_eval.proofs.plan.node_table.Goals as goal
 
@@ -14,6 +16,14 @@ select-requires-clause-stand c = rw c.as_slice.ensures (subst (λ (p : IR). All 
 
 pub hstack-requires-clause-stand : goal.hstack-requires-clause-stand
 hstack-requires-clause-stand c = rw c.as_slice-in-HStack.ensures (subst (λ (p : IR). All (λ (e : ExprIR). IsExpr c.args.ex.now e.node) (exprs_of p)) c.in-HStack.is c.requires.stand)
+
+pub sort-requires-clause-stand : goal.sort-requires-clause-stand
+sort-requires-clause-stand c = rw c.as_slice-in-Sort.ensures (subst (λ (p : IR). All (λ (e : ExprIR). IsExpr c.args.ex.now e.node) (exprs_of p)) c.in-Sort.is c.requires.stand)
+
+pub sort-requires-clause-valid : goal.sort-requires-clause-valid
+sort-requires-clause-valid c =
+    let valid = subst (λ (p : IR). AllHold (checks (op_at c.args.ex.now p) (schema_of c.args.table.now ∷ []))) c.in-Sort.is c.requires.valid in
+    rw c.as_slice-in-Sort.ensures valid.1
 
 pub returns-in-Slice : goal.returns-in-Slice
 returns-in-Slice c ts =

@@ -1,0 +1,219 @@
+-- The rows that are kept part by part are kept of all rows.
+use Rattle.std.proofs.Common.{◌≡◌, ℕ, zero, suc, ◌+◌, ◌-◌, ◌<◌, ◌≤◌, ◌||◌, Bool, true, false, not, List, [], ◌∷◌, map, length, get_or, Option, Some, None, refl, sym, ap, ap₂, ◌∙◌, subst, arith, eqb-true, eq-eqb}
+use Rattle.std.specs.Prelude.{nat_eq}
+use Rattle.std.specs.Cmp.{IsEquivalence}
+use Rattle.std.specs.List.{AllByRecursion, IsDistinct, cons_option, filter_map, list_any, range_with_len}
+use Rattle.std.specs.List.Sorted.{IsPermutation, IsSorted}
+use Rattle.std.specs.Ordering.{nat_cmp}
+use Rattle.std.proofs.lemmas.List.{get_or_default, same_lists}
+use Rattle.std.proofs.lemmas.List.Elements.{All-from_recursion, recursion_from_All}
+use Rattle.std.proofs.lemmas.List.FromFn.{get_or-map-range_with_len, length-map-range_with_len}
+use Rattle.std.proofs.lemmas.List.Sorted.{All-permutation, list_any-IsPermutation}
+use Rattle.std.proofs.lemmas.Map.Keys.{IsDistinct-IsPermutation, IsDistinct-cons}
+use Rattle.plan_options.specs.declared.distinct.UniqueKeepStrategy.{UniqueKeepStrategy}
+use Rattle.plan_options.specs.declared.distinct.UniqueKeepStrategy.TheVariants as keeps
+use Rattle.plan_meaning.specs.Meaning.{Cell, are_alike, places_from}
+use Rattle.plan_meaning.specs.Orders.{AreKept, has_earlier, has_later, may_be_kept, must_be_kept}
+use Rattle.plan_meaning.proofs.KeptRows.{alike_equivalence}
+use Rattle.plan_value.specs.Groups.{AreNumbered, rows_numbered}
+use Rattle.plan_eval.specs.Distinct.{kept, kept_of}
+use Rattle.plan_eval.proofs.PartLemmas.{NoneWithin, Passes, first-passes, first-there, last-passes, last-there, later-number, only-passes, only-there}
+
+or-first : (a b : Bool) → a ≡ true → (a || b) ≡ true
+or-first true b e = refl
+or-first false b e = cc
+
+or-second : (a b : Bool) → b ≡ true → (a || b) ≡ true
+or-second true b e = refl
+or-second false b e = e
+
+both-false : (a b : Bool) → (a || b) ≡ false → (a ≡ false) × (b ≡ false)
+both-false true b e = cc
+both-false false b e = (refl, e)
+
+neither : (a b : Bool) → not (a || b) ≡ true → (a ≡ false) × (b ≡ false)
+neither true b e = cc
+neither false true e = cc
+neither false false e = (refl, refl)
+
+-- What is chosen of each of so many parts
+
+module _ (chosen : ℕ → Option ℕ) where
+  abbrev gathered : ℕ → ℕ → List ℕ
+  gathered a n = filter_map chosen (range_with_len a n)
+
+  gathered-each : (P : ℕ → Type 0) (a n : ℕ) → ((g i : ℕ) → a ≤ g → g < a + n → chosen g ≡ Some i → P i) → AllByRecursion P (gathered a n)
+  gathered-each P a zero by = tt
+  gathered-each P a (suc n) by = at (chosen a) refl (gathered-each P (a + 1) n (λ g i from below e. by g i (omega (arith, from)) (omega (arith, below)) e))
+    where
+      at : (o : Option ℕ) → chosen a ≡ o → AllByRecursion P (gathered (a + 1) n) → AllByRecursion P (cons_option o (gathered (a + 1) n))
+      at None e rest = rest
+      at (Some i) e rest = (by a i (omega arith) (omega arith) e, rest)
+
+  gathered-apart : (same : ℕ → ℕ → Bool) (a n : ℕ) → ((g k i j : ℕ) → g < k → k < a + n → chosen g ≡ Some i → chosen k ≡ Some j → same i j ≡ false) → IsDistinct same (gathered a n)
+  unfolding IsDistinct
+  gathered-apart same a zero by = tt
+  gathered-apart same a (suc n) by = at (chosen a) refl (gathered-apart same (a + 1) n (λ g k i j lt below e f. by g k i j lt (omega (arith, below)) e f))
+    where
+      at : (o : Option ℕ) → chosen a ≡ o → IsDistinct same (gathered (a + 1) n) → IsDistinct same (cons_option o (gathered (a + 1) n))
+      at None e rest = rest
+      at (Some i) e rest =
+          IsDistinct-cons same i (gathered (a + 1) n) (gathered-each (λ j. same i j ≡ false) (a + 1) n (λ k j from below f. by a k i j (omega (arith, from)) (omega (arith, below)) e f)) rest
+
+  gathered-meets : (test : ℕ → Bool) (a n g i : ℕ) → a ≤ g → g < a + n → chosen g ≡ Some i → test i ≡ true → list_any test (gathered a n) ≡ true
+  gathered-meets test a zero g i from below e f = absurd (omega (arith, from, below))
+  gathered-meets test a (suc n) g i from below e f = at (nat_eq a g) refl (λ later. gathered-meets test (a + 1) n g i (omega (arith, later)) (omega (arith, below)) e f)
+    where
+      with-head : (o : Option ℕ) → list_any test (gathered (a + 1) n) ≡ true → list_any test (cons_option o (gathered (a + 1) n)) ≡ true
+      with-head None r = r
+      with-head (Some k) r = or-second (test k) (list_any test (gathered (a + 1) n)) r
+
+      at : (b : Bool) → nat_eq a g ≡ b → (suc a ≤ g → list_any test (gathered (a + 1) n) ≡ true) → list_any test (gathered a (suc n)) ≡ true
+      at true q rest =
+          subst (λ (o : Option ℕ). list_any test (cons_option o (gathered (a + 1) n)) ≡ true) (sym (ap chosen (eqb-true a g q) ∙ e)) (or-first (test i) (list_any test (gathered (a + 1) n)) f)
+      at false q rest = with-head (chosen a) (rest (later-number a g from q))
+
+kept-parts : (keep : UniqueKeepStrategy) (part : ℕ → List ℕ) (gs : List ℕ) → kept keep (map part gs) ≡ filter_map (λ g. kept_of keep (part g)) gs
+kept-parts keep part [] = refl
+kept-parts keep part (g ∷ gs) = ap (cons_option (kept_of keep (part g))) (kept-parts keep part gs)
+
+-- Tests of numbers one after another
+
+none-any : (test : ℕ → Bool) (a n : ℕ) → NoneWithin test a (a + n) → list_any test (range_with_len a n) ≡ false
+none-any test a zero h = refl
+none-any test a (suc n) h = ap₂ (λ (b c : Bool). b || c) (h a (omega arith) (omega arith)) (none-any test (a + 1) n (λ j from below. h j (omega (arith, from)) (omega (arith, below))))
+
+any-none : (test : ℕ → Bool) (a n : ℕ) → list_any test (range_with_len a n) ≡ false → NoneWithin test a (a + n)
+any-none test a zero e j from below = absurd (omega (arith, from, below))
+any-none test a (suc n) e j from below =
+    let p = both-false (test a) (list_any test (range_with_len (a + 1) n)) e in
+    at p.0 (nat_eq a j) refl (λ later. any-none test (a + 1) n p.1 j (omega (arith, later)) (omega (arith, below)))
+  where
+    at : test a ≡ false → (b : Bool) → nat_eq a j ≡ b → (suc a ≤ j → test j ≡ false) → test j ≡ false
+    at none true q rest = subst (λ (k : ℕ). test k ≡ false) (eqb-true a j q) none
+    at none false q rest = rest (later-number a j from q)
+
+below-differ : (g k : ℕ) → g < k → nat_eq g k ≡ false
+below-differ g k lt = at (nat_eq g k) refl
+  where
+    at : (b : Bool) → nat_eq g k ≡ b → b ≡ false
+    at true q = let same = eqb-true g k q in absurd (omega (arith, same, lt))
+    at false q = refl
+
+-- Rows with numbers, two of which have the same one just where they are the same
+
+module _ (same : ℕ → ℕ → Bool) (h count : ℕ) (number : ℕ → ℕ) (within : (i : ℕ) → i < h → number i < count) (is : (i j : ℕ) → i < h → j < h → nat_eq (number i) (number j) ≡ same i j) where
+  -- the rows that have a number
+  abbrev pub part : ℕ → List ℕ
+  part g = places_from (λ i. nat_eq g (number i)) 0 h
+
+  record IsKept (keep : UniqueKeepStrategy) (g i : ℕ) : Type 0 where
+    row : i < h
+    has : g ≡ number i
+    may : may_be_kept keep same h i ≡ true
+
+  -- rows with another number are others
+  others : (g i a b : ℕ) → i < h → b ≤ h → g ≡ number i → NoneWithin (λ j. nat_eq g (number j)) a b → NoneWithin (same i) a b
+  others g i a b lt le has none j from below =
+      let inside : j < h = omega (arith, le, below) in
+      sym (is i j lt inside) ∙ ap (λ (k : ℕ). nat_eq k (number j)) (sym has) ∙ none j from below
+
+  no-earlier : (g i : ℕ) → i < h → g ≡ number i → NoneWithin (λ j. nat_eq g (number j)) 0 i → has_earlier same i ≡ false
+  no-earlier g i lt has none = none-any (same i) 0 i (λ j from below. others g i 0 i lt (omega (arith, lt)) has none j from (omega (arith, below)))
+
+  no-later : (g i : ℕ) → i < h → g ≡ number i → NoneWithin (λ j. nat_eq g (number j)) (suc i) h → has_later same h i ≡ false
+  no-later g i lt has none = none-any (same i) (suc i) (h - suc i) (λ j from below. others g i (suc i) h lt (omega arith) has none j from (omega (arith, lt, below)))
+
+  row-of : (g i : ℕ) → Passes (λ j. nat_eq g (number j)) 0 h i → (i < h) × (g ≡ number i)
+  row-of g i p = let q = p.below in (omega (arith, q), eqb-true g (number i) p.passes)
+
+  -- what is kept of a part is of the part, and may be kept
+  is-kept : (keep : UniqueKeepStrategy) (g i : ℕ) → kept_of keep (part g) ≡ Some i → IsKept keep g i
+  is-kept keeps.First g i e =
+      let r = first-passes (λ j. nat_eq g (number j)) 0 h i e in
+      let p = row-of g i r.0 in
+      record { row = p.0; has = p.1; may = ap not (no-earlier g i p.0 p.1 r.1) }
+  is-kept keeps.Last g i e =
+      let r = last-passes (λ j. nat_eq g (number j)) 0 h i e in
+      let p = row-of g i r.0 in
+      record { row = p.0; has = p.1; may = ap not (no-later g i p.0 p.1 (λ j from below. r.1 j from (omega (arith, below)))) }
+  is-kept keeps.None g i e =
+      let r = only-passes (λ j. nat_eq g (number j)) 0 h i e in
+      let p = row-of g i r.0 in
+      record { row = p.0; has = p.1; may = ap₂ (λ (a b : Bool). not (a || b)) (no-earlier g i p.0 p.1 r.1) (no-later g i p.0 p.1 (λ j from below. r.2 j from (omega (arith, below)))) }
+  is-kept keeps.Any g i e =
+      let r = first-passes (λ j. nat_eq g (number j)) 0 h i e in
+      let p = row-of g i r.0 in
+      record { row = p.0; has = p.1; may = refl }
+
+  own : (i : ℕ) → nat_eq (number i) (number i) ≡ true
+  own i = eq-eqb (number i) (number i) refl
+
+  -- of the part of a row that must be kept one is
+  one-kept : (keep : UniqueKeepStrategy) (i : ℕ) → i < h → must_be_kept keep same h i ≡ true → (j : ℕ) × (kept_of keep (part (number i)) ≡ Some j)
+  one-kept keeps.First i lt e = first-there (λ j. nat_eq (number i) (number j)) h i lt (own i)
+  one-kept keeps.Last i lt e = last-there (λ j. nat_eq (number i) (number j)) h i lt (own i)
+  one-kept keeps.Any i lt e = first-there (λ j. nat_eq (number i) (number j)) h i lt (own i)
+  one-kept keeps.None i lt e =
+      let n = neither (has_earlier same i) (has_later same h i) e in (
+        i,
+        only-there (λ j. nat_eq (number i) (number j)) h i lt (own i)
+            (λ j from below. is i j lt (omega (arith, lt, below)) ∙ any-none (same i) 0 i n.0 j from (omega (arith, below)))
+            (λ j from below. is i j lt below ∙ any-none (same i) (suc i) (h - suc i) n.1 j from (omega (arith, lt, below))),
+      )
+
+  module _ (keep : UniqueKeepStrategy) where
+    abbrev chosen : ℕ → Option ℕ
+    chosen g = kept_of keep (part g)
+
+    below-all : AllByRecursion (λ i. i < h) (gathered chosen 0 count)
+    below-all = gathered-each chosen (λ i. i < h) 0 count (λ g i from below e. (is-kept keep g i e).row)
+
+    may-all : AllByRecursion (λ i. may_be_kept keep same h i ≡ true) (gathered chosen 0 count)
+    may-all = gathered-each chosen (λ i. may_be_kept keep same h i ≡ true) 0 count (λ g i from below e. (is-kept keep g i e).may)
+
+    apart-all : IsDistinct same (gathered chosen 0 count)
+    apart-all = gathered-apart chosen same 0 count (λ g k i j lt below e f.
+        let a = is-kept keep g i e in
+        let b = is-kept keep k j f in
+        sym (is i j a.row b.row) ∙ ap₂ nat_eq (sym a.has) (sym b.has) ∙ below-differ g k lt)
+
+    met-all : (i : ℕ) → i < h → must_be_kept keep same h i ≡ true → list_any (same i) (gathered chosen 0 count) ≡ true
+    met-all i lt e =
+        let k = one-kept keep i lt e in
+        let a = is-kept keep (number i) k.0 k.1 in
+        gathered-meets chosen (same i) 0 count (number i) k.0 (omega arith) (let q = within i lt in omega (arith, q)) k.1
+        (sym (is i k.0 lt a.row) ∙ eq-eqb (number i) (number k.0) a.has)
+
+    -- in another order too
+    pub are-kept : (stable : Bool) (rows : List ℕ) → IsEquivalence same → IsPermutation (kept keep (map part (range_with_len 0 count))) rows → (stable ≡ true → IsSorted nat_cmp rows) → AreKept stable keep same h rows
+    are-kept stable rows o moved sorted =
+        let all = gathered chosen 0 count in
+        let p : IsPermutation all rows = subst (λ (l : List ℕ). IsPermutation l rows) (kept-parts keep part (range_with_len 0 count)) moved in
+        record {
+          below = recursion_from_All (λ i. i < h) rows (All-permutation (λ i. i < h) all rows p (All-from_recursion (λ i. i < h) all below-all));
+          apart = IsDistinct-IsPermutation same o.symm all rows p apart-all;
+          may = recursion_from_All (λ i. may_be_kept keep same h i ≡ true) rows (All-permutation (λ i. may_be_kept keep same h i ≡ true) all rows p (All-from_recursion (λ i. may_be_kept keep same h i ≡ true) all may-all));
+          must = λ i lt e. sym (list_any-IsPermutation (same i) all rows p) ∙ met-all i lt e;
+          in_order = sorted;
+        }
+
+-- parts by the numbers of their rows
+parts-are : (numbers : List ℕ) (h count : ℕ) (parts : List (List ℕ)) → length numbers ≡ h → length parts ≡ count → ((g : ℕ) → g < count → get_or parts g [] ≡ rows_numbered numbers g)
+    → parts ≡ map (λ g. places_from (λ i. nat_eq g (get_or numbers i 0)) 0 h) (range_with_len 0 count)
+parts-are numbers h count parts high many-parts each =
+    let own : ℕ → List ℕ = λ (g : ℕ). places_from (λ i. nat_eq g (get_or numbers i 0)) 0 h in
+    same_lists parts (map own (range_with_len 0 count)) (many-parts ∙ sym (length-map-range_with_len own 0 count)) (λ k d lt.
+    let below : k < count = omega (arith, many-parts, lt) in
+    get_or_default parts k d [] lt
+    ∙ each k below
+    ∙ ap (places_from (λ i. nat_eq k (get_or numbers i 0)) 0) high
+    ∙ sym (get_or-map-range_with_len own 0 count k k d below (omega arith)))
+
+-- the rows that are kept of the groups of rows that are the same
+pub groups-kept : (cells : List Cell) (h count : ℕ) (numbers : List ℕ) (parts : List (List ℕ)) (rows : List ℕ) (stable : Bool) (keep : UniqueKeepStrategy)
+    → AreNumbered cells h count numbers → length parts ≡ count → ((g : ℕ) → g < count → get_or parts g [] ≡ rows_numbered numbers g)
+    → IsPermutation (kept keep parts) rows → (stable ≡ true → IsSorted nat_cmp rows) → AreKept stable keep (are_alike cells) h rows
+groups-kept cells h count numbers parts rows stable keep n many-parts each moved sorted =
+    are-kept (are_alike cells) h count (λ i. get_or numbers i 0) n.below n.same keep stable rows (alike_equivalence cells)
+    (subst (λ (l : List (List ℕ)). IsPermutation (kept keep l) rows) (parts-are numbers h count parts n.height many-parts each) moved) sorted

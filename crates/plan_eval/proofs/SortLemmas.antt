@@ -1,0 +1,51 @@
+-- The keys of a sort, and rows that a closure sorts.
+use Rattle.std.proofs.Common.{◌≡◌, ◌++◌, ◌+◌, ◌<◌, ℕ, Bool, List, [], ◌∷◌, map, take, length, get_or, ap, ap₂, sym, ◌∙◌}
+use Rattle.std.specs.Borrow.{Bor}
+use Rattle.std.specs.Cmp.{IsStrictWeakOrder, IsTotalOrder}
+use Rattle.std.specs.Fn.{Called, ComparesAs, Mut}
+use Rattle.std.specs.List.Sorted.{IsSorted, IsSortedBy}
+use Rattle.std.specs.Ordering.{is_lt}
+use Rattle.std.specs.declared.cmp.Ordering.{Ordering}
+use Rattle.std.proofs.lemmas.Fn.{always_returns_same}
+use Rattle.std.proofs.lemmas.List.{map-append, take_more}
+use Rattle.std.proofs.lemmas.List.Sorted.{ranks_by}
+use Rattle.plan_expr.specs.declared.aexpr.AExpr.{AExpr}
+use Rattle.plan_expr.specs.declared.expr_ir.ExprIR.{ExprIR}
+use Rattle.plan_expr.specs.Exprs.{Named, all_named_at, expr_at, named_at}
+use Rattle.plan_meaning.specs.Frames.{Frame}
+use Rattle.plan_meaning.specs.Meaning.{Cell, val}
+use Rattle.plan_meaning.specs.Orders.{key_cells, rows_cmp}
+use Rattle.plan_meaning.specs.Typing.{AllHold, key_checks}
+use Rattle.plan_meaning.proofs.CheckParts.{keys_good}
+use Rattle.plan_meaning.proofs.OrderLemmas.{rows_total}
+use Rattle.plan_meaning.proofs.Runs.{keys_are}
+use Rattle.plan_table.specs.declared.table.Table.{Table}
+use Rattle.plan_table.specs.Tables.{HasRows}
+use Rattle.plan_value.specs.declared.exprs.Values.{Values}
+use Rattle.plan_value.specs.Cells.{cell_of, cells_of}
+use Rattle.plan_value.specs.Shown.{frame_of, schema_of}
+use Rattle.plan_eval.proofs.FormedLemmas.{columns-have}
+
+-- the values of one key more
+pub keys-next : (ex : List AExpr) (keys : List ExprIR) (f : Frame) (i : ℕ) (key : ExprIR) (done : List Values) (v : Values) → i < length keys → key ≡ get_or keys i key → cell_of v ≡ val (expr_at ex key.node) f
+    → cells_of done ≡ key_cells (all_named_at ex (take i keys)) f → cells_of (done ++ v ∷ []) ≡ key_cells (all_named_at ex (take (i + 1) keys)) f
+keys-next ex keys f i key done v lt is own before =
+    let cell : Named → Cell = λ (e : Named). val e.expr f in
+    map-append cell_of done (v ∷ [])
+    ∙ ap₂ (λ (cs : List Cell) (c : Cell). cs ++ c ∷ []) before own
+    ∙ sym (map-append cell (all_named_at ex (take i keys)) (named_at ex key ∷ []))
+    ∙ ap (map cell) (sym (map-append (named_at ex) (take i keys) (key ∷ [])))
+    ∙ ap (λ (l : List ExprIR). key_cells (all_named_at ex l) f) (sym (take_more keys i key lt ∙ ap (λ (e : ExprIR). take i keys ++ e ∷ []) (sym is)))
+
+-- rows stand in an order by the keys of a valid sort over a table whose columns have their types
+pub keys-total : (t : Table) (keys : List Named) (descending nulls_last : List Bool) → HasRows t → AllHold (key_checks keys (schema_of t)) → IsTotalOrder (rows_cmp (key_cells keys (frame_of t)) descending nulls_last)
+keys-total t keys descending nulls_last rows valid =
+    rows_total t.height (key_cells keys (frame_of t)) descending nulls_last
+    (keys_are (frame_of t) (schema_of t) keys (columns-have t.height t.columns rows) (keys_good keys (schema_of t) valid).typed)
+
+-- what a sort ensures, where each call of its closure compares the two numbers
+pub sorted-by : {F : Type 0} {g : Mut F (Bor ℕ × (Bor ℕ × Unit {0})) Ordering} {f : F} (cmp : ℕ → ℕ → Ordering) (rows : List ℕ) → IsTotalOrder cmp
+    → ((lt : ℕ → ℕ → Bool) → IsStrictWeakOrder lt → ComparesAs g lt f → IsSortedBy lt rows)
+    → ((a : Bor ℕ × (Bor ℕ × Unit {0})) (r : Ordering) (f' : F) → Called g f a r f' → (r ≡ cmp a.0.now a.1.0.now) × (f' ≡ f)) → IsSorted cmp rows
+sorted-by {g = g} {f = f} cmp rows o up h =
+    up (λ i j. is_lt (cmp i j)) (ranks_by o (λ i. i)) (always_returns_same g (λ a r. is_lt r ≡ is_lt (cmp a.0.now a.1.0.now)) f (λ a r f' k. (ap is_lt (h a r f' k).0, (h a r f' k).1)))
