@@ -4,10 +4,10 @@ use Rattle.plan_core.specs.Columns.{Columns, names_of}
 use Rattle.plan_core.specs.Names.{with_names}
 use Rattle.plan_tree.specs.Rose.{Roses, rose, no_roses, more}
 use Rattle.plan_expr.specs.Exprs.{Named}
-use Rattle.plan_ir.specs.Plans.{Op, slice, filter, scan, frame_scan, simple_projection, select, hstack, invalid}
-use Rattle.plan_meaning.specs.Typing.{is_empty, first_schema, schema_by, schemas, checks, AllHold, AllValid}
+use Rattle.plan_ir.specs.Plans.{Op, slice, filter, scan, frame_scan, simple_projection, select, hstack, sort, distinct, sink, invalid}
+use Rattle.plan_meaning.specs.Typing.{is_empty, names_or, first_schema, schema_by, schemas, checks, AllHold, AllValid}
 use Rattle.plan_meaning.specs.Relating.{Asked, all, names, cached}
-use Rattle.plan_meaning.specs.Asked.{set_of, with_more, asks_columns, kept_exprs, selected_exprs, needed_names, asks_selected, asks_added, asks_stacked, asks as asks_of, IsFair}
+use Rattle.plan_meaning.specs.Asked.{set_of, with_more, asks_columns, kept_exprs, selected_exprs, all_leaves, needed_names, asks_selected, asks_added, asks_stacked, asks as asks_of, IsFair}
 use Rattle.plan_meaning.specs.Asked as asked
 use Rattle.plan_meaning.specs.Counting.{stand_ins, first_stand_in}
 use Rattle.plan_meaning.proofs.NameSets.{has_first, keeps_names}
@@ -36,7 +36,7 @@ pub kept-is : (l : List Name) (cs : Columns) → kept l cs ≡ asked.kept (set_o
 kept-is [] cs = sym (kept_all cs)
 kept-is (a ∷ l) cs = refl
 
-more-is : (l others : List Name) → with_more others (set_of l) ≡ set_of (asked_with l others)
+pub more-is : (l others : List Name) → with_more others (set_of l) ≡ set_of (asked_with l others)
 more-is [] others = refl
 more-is (a ∷ l) others = sym (set_some (with_names (a ∷ l) others) (some_name (with_names (a ∷ l) others) a (keeps_names (a ∷ l) others a (has_first a l))))
 
@@ -95,6 +95,17 @@ asks-each l (hstack es schema options) (more (rose m op us) no_roses) good v =
     ap (λ (x : Asked). x ∷ []) (stacked_asks es l (first_schema (schemas t)) ∙ ap (λ (ss : List Columns). set_of (stacked_names l es (first_schema ss))) (sym (stored-schemas t v)))
 asks-each l (hstack es schema options) (more (rose m op us) (more (rose k q vs) rest)) good v = cc
 asks-each l (hstack es schema options) no_roses good v = cc
+asks-each l (sort keys part options) (more (rose m op us) no_roses) good v = ap (λ (x : Asked). x ∷ []) (more-is l (all_leaves keys))
+asks-each l (sort keys part options) (more (rose m op us) (more (rose k q vs) rest)) good v = cc
+asks-each l (sort keys part options) no_roses good v = cc
+asks-each l (distinct options) (more (rose m op us) no_roses) good v =
+    let t = more (rose m op us) no_roses in
+    ap (λ (x : Asked). x ∷ []) (more-is l (names_or options.subset (names_of (first_schema (schemas t)))) ∙ ap (λ (ss : List Columns). set_of (asked_with l (names_or options.subset (names_of (first_schema ss))))) (sym (stored-schemas t v)))
+asks-each l (distinct options) (more (rose m op us) (more (rose k q vs) rest)) good v = cc
+asks-each l (distinct options) no_roses good v = cc
+asks-each l (sink payload) (more (rose m op us) no_roses) good v = refl
+asks-each l (sink payload) (more (rose m op us) (more (rose k q vs) rest)) good v = cc
+asks-each l (sink payload) no_roses good v = cc
 asks-each l invalid ts good v = cc
 
 -- what a node asks can be asked of its inputs

@@ -15,6 +15,7 @@ pub mod AskedNames
 pub mod ProjectionNarrows
 pub mod ScanNarrows
 pub mod MadeNarrows
+pub mod OrderNarrows
 pub mod SelectNarrows
 pub mod StackNarrows
 mod FrameNarrows

@@ -100,10 +100,10 @@ needed_frames es ks o f g none h = at (counts_rows es) none h
     at true n k = agree_fewer (all_leaves ks) (stand_in_names o) f g (λ b i. absurd (no_leaf ks (n refl) b i)) (set_frames (stand_in_names o) f g k)
     at false n k = leaf_frames ks f g k
 
-front_leaves : (e : Named) (es : List Named) (r s : Columns) → SameLeaves (e ∷ es) r s → (b : Name) → has (leaves e.expr) b ≡ true → type_of r b ≡ type_of s b
+pub front_leaves : (e : Named) (es : List Named) (r s : Columns) → SameLeaves (e ∷ es) r s → (b : Name) → has (leaves e.expr) b ≡ true → type_of r b ≡ type_of s b
 front_leaves e es r s h b i = h b (has_front (leaves e.expr) (all_leaves es) b i)
 
-back_leaves : (e : Named) (es : List Named) (r s : Columns) → SameLeaves (e ∷ es) r s → SameLeaves es r s
+pub back_leaves : (e : Named) (es : List Named) (r s : Columns) → SameLeaves (e ∷ es) r s → SameLeaves es r s
 back_leaves e es r s h b i = h b (has_back (leaves e.expr) (all_leaves es) b i)
 
 -- over these the expressions make the same columns
@@ -111,7 +111,7 @@ pub same_made : (es : List Named) (r s : Columns) → SameLeaves es r s → map 
 same_made [] r s h = refl
 same_made (e ∷ es) r s h = ap₂ (λ (o : Option DataType) (cs : Columns). (name_of e.name, unwrap_or o types.Int64) ∷ cs) (type_within e.expr r s (front_leaves e es r s h)) (same_made es r s (back_leaves e es r s h))
 
-same_known : (es : List Named) (r s : Columns) → SameLeaves es r s → AllByRecursion (λ (e : Named). all_known (leaves e.expr) s ≡ true) es → AllByRecursion (λ (e : Named). all_known (leaves e.expr) r ≡ true) es
+pub same_known : (es : List Named) (r s : Columns) → SameLeaves es r s → AllByRecursion (λ (e : Named). all_known (leaves e.expr) s ≡ true) es → AllByRecursion (λ (e : Named). all_known (leaves e.expr) r ≡ true) es
 same_known [] r s h k = tt
 same_known (e ∷ es) r s h k = (known_within (leaves e.expr) r s (front_leaves e es r s h) ∙ k.0, same_known es r s (back_leaves e es r s h) k.1)
 

@@ -2,6 +2,9 @@
 use Rattle.std.proofs.Common.{◌≡◌, ℕ, ℤ, Bool, true, false, List, [], ◌∷◌, Option, Some, refl, sym, ap, ◌∙◌, subst}
 use Rattle.plan_core.specs.declared.options.FileScanOptions.{FileScanOptions}
 use Rattle.plan_core.specs.declared.options.ProjectionOptions.{ProjectionOptions}
+use Rattle.plan_options.specs.declared.distinct.DistinctOptionsIR.{DistinctOptionsIR}
+use Rattle.plan_options.specs.declared.sink.SinkType.{SinkType}
+use Rattle.plan_options.specs.declared.sort.SortMultipleOptions.{SortMultipleOptions}
 use Rattle.plan_core.specs.Columns.{Columns, names_of, with_types}
 use Rattle.plan_core.specs.Names.{with_names}
 use Rattle.plan_tree.specs.Rose.{Roses, rose, no_roses, more}
@@ -9,8 +12,8 @@ use Rattle.plan_ir.specs.declared.scan.FileInfo.{FileInfo}
 use Rattle.plan_ir.specs.declared.scan.FileScan.{FileScan}
 use Rattle.plan_ir.specs.declared.scan.ScanSources.{ScanSources}
 use Rattle.plan_expr.specs.Exprs.{Named}
-use Rattle.plan_ir.specs.Plans.{Op, slice, filter, scan, frame_scan, simple_projection, select, hstack, invalid, Plan}
-use Rattle.plan_meaning.specs.Typing.{columns_or, file_columns, first_schema, out_names, made_schema, schema_by, schema, schemas, checks, AllHold, AllValid}
+use Rattle.plan_ir.specs.Plans.{Op, slice, filter, scan, frame_scan, simple_projection, select, hstack, sort, distinct, sink, invalid, Plan}
+use Rattle.plan_meaning.specs.Typing.{columns_or, file_columns, first_schema, names_or, out_names, made_schema, schema_by, schema, schemas, checks, AllHold, AllValid}
 use Rattle.plan_meaning.specs.Steps.{made, IsValid}
 use Rattle.plan_meaning.specs.Relating.{Refines, Asked, all, names, NarrowColumns, AgreeOn, Narrows}
 use Rattle.plan_meaning.specs.Asked.{set_of, kept_exprs, selected_exprs, needed_names, all_leaves, asks_added, Fair, IsFair}
@@ -22,11 +25,12 @@ use Rattle.plan_meaning.proofs.Related.{SchemasRelated, AllRelate, relates_node,
 use Rattle.plan_meaning.proofs.Fairness.{FairAll}
 use Rattle.plan_meaning.proofs.KeptExprs.{selected-all}
 use Rattle.plan_expr.specs.Leaves.{Name}
-use Rattle.plan_prune.specs.Pruned.{kept, pruned_output, typed_names, reading, projected, stacked_names, pruned_select, stacked, pruned_hstack, asks, asks_plans, rebuilt, top_below, top_after, pruned, pruned_all}
+use Rattle.plan_prune.specs.Pruned.{asked_with, kept, pruned_output, typed_names, reading, projected, stacked_names, pruned_select, stacked, pruned_hstack, asks, asks_plans, rebuilt, top_below, top_after, pruned, pruned_all}
 use Rattle.plan_prune.specs.Stored.{stored_all}
-use Rattle.plan_prune.proofs.AskedNames.{set_some, kept-is, filter_asks, stacked_asks, each_asked, fair_each}
+use Rattle.plan_prune.proofs.AskedNames.{set_some, kept-is, more-is, filter_asks, stacked_asks, each_asked, fair_each}
 use Rattle.plan_prune.proofs.NarrowLemmas.{Local, same_one, same_none, local_filter, local_slice}
 use Rattle.plan_prune.proofs.MadeNarrows.{SameLeaves, none_selected, needed_types, needed_frames}
+use Rattle.plan_prune.proofs.OrderNarrows.{local_sort, local_distinct, local_sink}
 use Rattle.plan_prune.proofs.SelectNarrows.{local_selected, whole_selected}
 use Rattle.plan_prune.proofs.StackNarrows.{dropped_holds, dropped_agrees, local_added}
 use Rattle.plan_prune.proofs.StoredLemmas.{stored-schemas}
@@ -119,6 +123,30 @@ slice_narrows : (offset : ℤ) (len : ℕ) (l : List Name) (rs : Roses (Unit {0}
 slice_narrows offset len l rs t s is v h =
     one_narrows (slice offset len) (slice offset len) (set_of l) (set_of l) rs t s is v h (λ r q. local_slice offset len (set_of l) r s q)
 
+-- sorts, distinct rows and sinks
+
+sort_narrows : (keys : List Named) (part : Option (ℤ × ℕ)) (options : SortMultipleOptions) (l : List Name) (rs : Roses (Unit {0}) Op) (t : Plan) (s : Columns) → schemas (more t no_roses) ≡ s ∷ [] → IsValid (rose tt (sort keys part options) (more t no_roses)) → AllNarrow (set_of (asked_with l (all_leaves keys)) ∷ []) rs (more t no_roses) → Narrows (rose tt (sort keys part options) rs) (rose tt (sort keys part options) (more t no_roses)) (set_of l)
+sort_narrows keys part options l rs t s is v h =
+    let op = sort keys part options in
+    let a = set_of (asked_with l (all_leaves keys)) in
+    let good : AllHold (checks op (s ∷ [])) = subst (λ (ss : List Columns). AllHold (checks op ss)) is v.0 in
+    one_narrows op op a (set_of l) rs t s is v h (λ r q.
+    subst (λ (x : Asked). Local op op (x ∷ []) (set_of l) (r ∷ []) (s ∷ [])) (more-is l (all_leaves keys))
+    (local_sort keys part options (set_of l) r s good (subst (λ (x : Asked). NarrowColumns x r s) (sym (more-is l (all_leaves keys))) q)))
+
+distinct_narrows : (options : DistinctOptionsIR) (l : List Name) (rs : Roses (Unit {0}) Op) (t : Plan) (s : Columns) → schemas (more t no_roses) ≡ s ∷ [] → IsValid (rose tt (distinct options) (more t no_roses)) → AllNarrow (set_of (asked_with l (names_or options.subset (names_of s))) ∷ []) rs (more t no_roses) → Narrows (rose tt (distinct options) rs) (rose tt (distinct options) (more t no_roses)) (set_of l)
+distinct_narrows options l rs t s is v h =
+    let op = distinct options in
+    let told = names_or options.subset (names_of s) in
+    let a = set_of (asked_with l told) in
+    let good : AllHold (checks op (s ∷ [])) = subst (λ (ss : List Columns). AllHold (checks op ss)) is v.0 in
+    one_narrows op op a (set_of l) rs t s is v h (λ r q.
+    subst (λ (x : Asked). Local op op (x ∷ []) (set_of l) (r ∷ []) (s ∷ [])) (more-is l told)
+    (local_distinct options (set_of l) r s good (subst (λ (x : Asked). NarrowColumns x r s) (sym (more-is l told)) q)))
+
+sink_narrows : (payload : SinkType) (l : List Name) (rs : Roses (Unit {0}) Op) (t : Plan) (s : Columns) → schemas (more t no_roses) ≡ s ∷ [] → IsValid (rose tt (sink payload) (more t no_roses)) → AllNarrow (set_of l ∷ []) rs (more t no_roses) → Narrows (rose tt (sink payload) rs) (rose tt (sink payload) (more t no_roses)) (set_of l)
+sink_narrows payload l rs t s is v h = one_narrows (sink payload) (sink payload) (set_of l) (set_of l) rs t s is v h (λ r q. local_sink payload (set_of l) r s q)
+
 -- selections
 
 select_narrows : (es : List Named) (stored : Columns) (options : ProjectionOptions) (o : Option Name) (l : List Name) (rs : Roses (Unit {0}) Op) (t : Plan) (s : Columns) → schemas (more t no_roses) ≡ s ∷ [] → IsValid (rose tt (select es stored options) (more t no_roses)) → IsFair (set_of l) (made_schema [] es s) → AllNarrow (set_of (needed_names es o (selected_exprs (set_of l) es)) ∷ []) rs (more t no_roses) → Narrows (pruned_select l es stored options rs) (rose tt (select es stored options) (more t no_roses)) (set_of l)
@@ -208,6 +236,17 @@ rebuilt_narrows top l (select es stored options) rs no_roses v fair h = cc
 rebuilt_narrows top l (hstack es stored options) rs (more (rose n o us) no_roses) v fair h = stack_narrows es stored options n o us v l rs fair h
 rebuilt_narrows top l (hstack es stored options) rs (more (rose n o us) (more (rose m o' us') rest)) v fair h = cc
 rebuilt_narrows top l (hstack es stored options) rs no_roses v fair h = cc
+rebuilt_narrows top l (sort keys part options) rs (more (rose n o us) no_roses) v fair h = sort_narrows keys part options l rs (rose n o us) (schema_by o (schemas us)) refl v h
+rebuilt_narrows top l (sort keys part options) rs (more (rose n o us) (more (rose m o' us') rest)) v fair h = cc
+rebuilt_narrows top l (sort keys part options) rs no_roses v fair h = cc
+rebuilt_narrows top l (distinct options) rs (more (rose n o us) no_roses) v fair h =
+    distinct_narrows options l rs (rose n o us) (schema_by o (schemas us)) refl v
+    (subst (λ (ss : List Columns). AllNarrow (set_of (asked_with l (names_or options.subset (names_of (first_schema ss)))) ∷ []) rs (more (rose n o us) no_roses)) (stored-schemas (more (rose n o us) no_roses) v.1) h)
+rebuilt_narrows top l (distinct options) rs (more (rose n o us) (more (rose m o' us') rest)) v fair h = cc
+rebuilt_narrows top l (distinct options) rs no_roses v fair h = cc
+rebuilt_narrows top l (sink payload) rs (more (rose n o us) no_roses) v fair h = sink_narrows payload l rs (rose n o us) (schema_by o (schemas us)) refl v h
+rebuilt_narrows top l (sink payload) rs (more (rose n o us) (more (rose m o' us') rest)) v fair h = cc
+rebuilt_narrows top l (sink payload) rs no_roses v fair h = cc
 rebuilt_narrows top l invalid rs ts v fair h = cc
 
 -- pruned plans narrow at what they are asked

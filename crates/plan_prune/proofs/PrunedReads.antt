@@ -8,7 +8,7 @@ use Rattle.plan_core.specs.declared.options.ProjectionOptions.{ProjectionOptions
 use Rattle.plan_meaning.proofs.NameSets.{has_cons, has_first, has_later}
 use Rattle.plan_tree.specs.Rose.{Roses, rose, no_roses, more, size}
 use Rattle.plan_expr.specs.Exprs.{Named}
-use Rattle.plan_ir.specs.Plans.{Op, slice, filter, scan, frame_scan, simple_projection, select, hstack, invalid, Plan}
+use Rattle.plan_ir.specs.Plans.{Op, slice, filter, scan, frame_scan, simple_projection, select, hstack, sort, distinct, sink, invalid, Plan}
 use Rattle.plan_meaning.specs.Typing.{schemas, checks, AllHold, AllValid}
 use Rattle.plan_meaning.specs.PlanAt.{one_plan}
 use Rattle.plan_meaning.specs.Steps.{IsValid}
@@ -55,6 +55,9 @@ one_at_most top l (frame_scan df schema output) (more (rose n o us) (more (rose 
 one_at_most top l (simple_projection cs) (more (rose n o us) (more (rose m q vs) rest)) good = cc
 one_at_most top l (select es schema options) (more (rose n o us) (more (rose m q vs) rest)) good = cc
 one_at_most top l (hstack es schema options) (more (rose n o us) (more (rose m q vs) rest)) good = cc
+one_at_most top l (sort keys part options) (more (rose n o us) (more (rose m q vs) rest)) good = cc
+one_at_most top l (distinct options) (more (rose n o us) (more (rose m q vs) rest)) good = cc
+one_at_most top l (sink payload) (more (rose n o us) (more (rose m q vs) rest)) good = cc
 one_at_most top l invalid (more (rose n o us) (more (rose m q vs) rest)) good = cc
 
 one-scans : (rs : Roses (Unit {0}) Op) → AtMostOne rs → scans_in rs ≡ scans (one_plan rs)
@@ -77,6 +80,9 @@ rebuilt_reads top [] (frame_scan df schema output) rs zs few h = (refl, (λ a i.
 rebuilt_reads top (b ∷ l) (frame_scan df schema output) rs zs few h = (refl, (λ a i. typed_asked schema (b ∷ l) a i), h)
 rebuilt_reads top l (filter p) rs zs few h = h
 rebuilt_reads top l (simple_projection cs) rs zs few h = h
+rebuilt_reads top l (sort keys part options) rs zs few h = h
+rebuilt_reads top l (distinct options) rs zs few h = h
+rebuilt_reads top l (sink payload) rs zs few h = h
 rebuilt_reads top l invalid rs zs few h = h
 rebuilt_reads top [] (scan sources info predicate output kind options) rs zs few h = ((refl, refl), (λ a i. i), h)
 rebuilt_reads false (b ∷ l) (scan sources info predicate output kind options) rs zs few h = ((refl, refl), (λ a i. i), h)
@@ -139,6 +145,9 @@ rebuilt_nodes top [] (hstack es schema options) ss rs = omega arith
 rebuilt_nodes top (b ∷ l) (hstack es schema options) ss rs = let h = stacked_nodes (kept_exprs (names (b ∷ l)) es) schema options rs in omega arith
 rebuilt_nodes top l (filter p) ss rs = omega arith
 rebuilt_nodes top l (simple_projection cs) ss rs = omega arith
+rebuilt_nodes top l (sort keys part options) ss rs = omega arith
+rebuilt_nodes top l (distinct options) ss rs = omega arith
+rebuilt_nodes top l (sink payload) ss rs = omega arith
 rebuilt_nodes top l invalid ss rs = omega arith
 rebuilt_nodes top [] (scan sources info predicate output kind options) ss rs = omega arith
 rebuilt_nodes false (b ∷ l) (scan sources info predicate output kind options) ss rs = omega arith

@@ -4,7 +4,7 @@ use Rattle.plan_core.specs.declared.options.ProjectionOptions.{ProjectionOptions
 use Rattle.plan_core.specs.Columns.{Columns}
 use Rattle.plan_tree.specs.Rose.{Roses, rose, no_roses, more}
 use Rattle.plan_expr.specs.Exprs.{Named}
-use Rattle.plan_ir.specs.Plans.{Op, slice, filter, scan, frame_scan, simple_projection, select, hstack, invalid, Plan}
+use Rattle.plan_ir.specs.Plans.{Op, slice, filter, scan, frame_scan, simple_projection, select, hstack, sort, distinct, sink, invalid, Plan}
 use Rattle.plan_expr.specs.Leaves.{Name}
 use Rattle.plan_meaning.specs.Typing.{schemas, AllValid}
 use Rattle.plan_meaning.specs.PlanAt.{one_plan}
@@ -38,6 +38,9 @@ rebuilt_made top [] (hstack es schema options) rs = let e : length (kept_exprs a
 rebuilt_made top (b ∷ l) (hstack es schema options) rs = let h = stacked_made (kept_exprs (names (b ∷ l)) es) schema options rs in omega arith
 rebuilt_made top l (filter p) rs = omega arith
 rebuilt_made top l (simple_projection cs) rs = omega arith
+rebuilt_made top l (sort keys part options) rs = omega arith
+rebuilt_made top l (distinct options) rs = omega arith
+rebuilt_made top l (sink payload) rs = omega arith
 rebuilt_made top l invalid rs = omega arith
 rebuilt_made top [] (scan sources info predicate output kind options) rs = omega arith
 rebuilt_made false (b ∷ l) (scan sources info predicate output kind options) rs = omega arith

@@ -8,16 +8,18 @@ use Rattle.plan_tree.proofs.Frames.{StandsOnce-set}
 use Rattle.plan_tree.proofs.TreeLemmas.{opened}
 use Rattle.plan_expr.specs.declared.aexpr.AExpr.{AExpr}
 use Rattle.plan_ir.specs.declared.ir.IR.{IR}
-use Rattle.plan_ir.specs.declared.ir.IR.TheVariants.{Slice, Filter, Scan, DataFrameScan, SimpleProjection, Select, HStack, Invalid}
+use Rattle.plan_ir.specs.declared.ir.IR.TheVariants.{Slice, Filter, Scan, DataFrameScan, SimpleProjection, Select, HStack, Sort, Distinct, Sink, Invalid}
 use Rattle.plan_ir.specs.Parts.{plan_shape, inputs_of}
 use Rattle.plan_expr.specs.Exprs.{Named, all_named_at}
 use Rattle.plan_ir.specs.Plans.{bare, op_at, plans_at, plans_of}
 use Rattle.plan_expr.specs.Leaves.{Name}
+use Rattle.plan_core.specs.Columns.{names_of}
+use Rattle.plan_meaning.specs.Typing.{names_or}
 use Rattle.plan_meaning.specs.Counting.{is_count, meet_count}
 use Rattle.plan_meaning.specs.Asked.{needed_names, selected_exprs, set_of}
 use Rattle.plan_prune.specs.declared.push_down.step.Step.TheVariants.{Leaf, Over}
 use Rattle.plan_prune.specs.Kept.{is_some_name, names_at, selected_at, stacked_at, stored_after}
-use Rattle.plan_prune.specs.Pruned.{kept, pruned_output, top_below}
+use Rattle.plan_prune.specs.Pruned.{asked_with, kept, pruned_output, top_below}
 use Rattle.plan_prune.specs.Prunes.{MarksAt, Prunes, PrunesAt}
 use Rattle.plan_prune.specs.Scans.{kept_scan, with_node}
 use Rattle.plan_prune.specs.Steps.{columns_at, stand_in_at, step_of, put_back}
@@ -52,6 +54,9 @@ is_over lp ex asked names (DataFrameScan df schema output) q i e = cc
 is_over lp ex asked names (SimpleProjection j columns) q i e = made_over i j names _ (SimpleProjection j columns) q _ refl refl e
 is_over lp ex asked names (Select j es schema options) q i e = made_over i j names _ (Select j es schema options) q _ refl refl e
 is_over lp ex asked names (HStack j es schema options) q i e = made_over i j names _ (HStack j es schema options) q _ refl refl e
+is_over lp ex asked names (Sort j keys part options) q i e = made_over i j names _ (Sort j keys part options) q _ refl refl e
+is_over lp ex asked names (Distinct j options) q i e = made_over i j names _ (Distinct j options) q _ refl refl e
+is_over lp ex asked names (Sink j payload) q i e = made_over i j names _ (Sink j payload) q _ refl refl e
 is_over lp ex asked names Invalid q i e = cc
 
 -- a step without an input puts back a node without inputs
@@ -64,6 +69,9 @@ kept_alone (a ∷ asked) (Filter j predicate) e = e
 kept_alone (a ∷ asked) (SimpleProjection j columns) e = e
 kept_alone (a ∷ asked) (Select j es schema options) e = e
 kept_alone (a ∷ asked) (HStack j es schema options) e = e
+kept_alone (a ∷ asked) (Sort j keys part options) e = e
+kept_alone (a ∷ asked) (Distinct j options) e = e
+kept_alone (a ∷ asked) (Sink j payload) e = e
 kept_alone (a ∷ asked) Invalid e = refl
 
 is_leaf : (lp : List IR) (ex : List AExpr) (asked : List Name) (p q : IR) → Leaf q ≡ step_of lp ex asked p → inputs_of q ≡ []
@@ -74,6 +82,9 @@ is_leaf lp ex asked (DataFrameScan df schema output) q e = ap inputs_of (leaf_pa
 is_leaf lp ex asked (SimpleProjection j columns) q e = cc
 is_leaf lp ex asked (Select j es schema options) q e = cc
 is_leaf lp ex asked (HStack j es schema options) q e = cc
+is_leaf lp ex asked (Sort j keys part options) q e = cc
+is_leaf lp ex asked (Distinct j options) q e = cc
+is_leaf lp ex asked (Sink j payload) q e = cc
 is_leaf lp ex asked Invalid q e = ap inputs_of (leaf_part q _ e)
 
 -- and it is that of a node without inputs
@@ -85,6 +96,9 @@ leaf_alone lp ex asked (DataFrameScan df schema output) q e = refl
 leaf_alone lp ex asked (SimpleProjection j columns) q e = cc
 leaf_alone lp ex asked (Select j es schema options) q e = cc
 leaf_alone lp ex asked (HStack j es schema options) q e = cc
+leaf_alone lp ex asked (Sort j keys part options) q e = cc
+leaf_alone lp ex asked (Distinct j options) q e = cc
+leaf_alone lp ex asked (Sink j payload) q e = cc
 leaf_alone lp ex asked Invalid q e = refl
 
 pub leaf_stands : (lp : List IR) (ex : List AExpr) (asked : List Name) (p q : IR) → Leaf q ≡ step_of lp ex asked p → (t : Trees IR) × StandsOnce plan_shape lp (inputs_of q) t
@@ -116,6 +130,9 @@ module _ (top : Bool) (asked : List Name) (a b z : List IR) (ex : List AExpr) (n
   leaf_pruned (SimpleProjection j columns) e is = cc
   leaf_pruned (Select j es schema options) e is = cc
   leaf_pruned (HStack j es schema options) e is = cc
+  leaf_pruned (Sort j keys part options) e is = cc
+  leaf_pruned (Distinct j options) e is = cc
+  leaf_pruned (Sink j payload) e is = cc
   leaf_pruned Invalid e is = let o = opened plan_shape a n Invalid t h e in let v : true ≡ false = o.valid in cc
 
 -- a node over an input is pruned by its step, once the input is pruned
@@ -152,6 +169,13 @@ module _ (top low : Bool) (asked names : List Name) (a b c z : List IR) (ex : Li
       (named _ _ _ is ∙ hstack_asks ex asked es (stacked_at asked es) (columns_at b ex j) refl)
       (subst (λ (k : Node). PrunesAt low names b c ex k) x.0 below)
       (is_some_name asked) (stacked_at asked es) z refl refl (put_over _ _ _ is)
+  over_pruned (Sort j keys part options) e low_is is =
+      rw (put_over _ _ _ is) (finish top low asked names a b c ex n i (Sort j keys part options) (Sort j keys part options) d t h e taken (one _ _ _ is) refl refl (λ before after x. x) low_is (named _ _ _ is) refl below)
+  over_pruned (Distinct j options) e low_is is =
+      rw (put_over _ _ _ is) (finish top low asked names a b c ex n i (Distinct j options) (Distinct j options) d t h e taken (one _ _ _ is) refl refl (λ before after x. x) low_is
+      (named _ _ _ is ∙ ap (λ (k : Node). asked_with asked (names_or options.subset (names_of (columns_at b ex k)))) (sym (over_parts i j names _ q _ is).0)) refl below)
+  over_pruned (Sink j payload) e low_is is =
+      rw (put_over _ _ _ is) (finish top low asked names a b c ex n i (Sink j payload) (Sink j payload) d t h e taken (one _ _ _ is) refl refl (λ before after x. x) low_is (named _ _ _ is) refl below)
   over_pruned (Scan sources info predicate output kind options) e low_is is = cc
   over_pruned (DataFrameScan df schema output) e low_is is = cc
   over_pruned Invalid e low_is is = cc

@@ -3,7 +3,7 @@ use Rattle.std.proofs.Common.{◌≡◌, true, List, [], ◌∷◌, Option, Some
 use Rattle.plan_core.specs.Columns.{Columns, same_columns}
 use Rattle.plan_core.proofs.SameLemmas.{same_columns-Decides}
 use Rattle.plan_tree.specs.Rose.{Roses, rose, no_roses, more}
-use Rattle.plan_ir.specs.Plans.{Op, slice, filter, scan, frame_scan, simple_projection, select, hstack, invalid}
+use Rattle.plan_ir.specs.Plans.{Op, slice, filter, scan, frame_scan, simple_projection, select, hstack, sort, distinct, sink, invalid}
 use Rattle.plan_meaning.specs.Typing.{columns_or, file_columns, schema_by, schemas, checks, AllHold, AllValid}
 use Rattle.plan_meaning.proofs.CheckParts.{scan_good, made_good}
 use Rattle.plan_prune.specs.Stored.{stored_by, stored_all}
@@ -33,6 +33,9 @@ stored-by (select es schema options) (s ∷ t ∷ ss) good = cc
 stored-by (hstack es schema options) (s ∷ []) good = same_is schema _ (made_good s es schema s good).same
 stored-by (hstack es schema options) [] good = cc
 stored-by (hstack es schema options) (s ∷ t ∷ ss) good = cc
+stored-by (sort keys part options) ss good = refl
+stored-by (distinct options) ss good = refl
+stored-by (sink payload) ss good = refl
 stored-by invalid ss good = refl
 
 -- the stored columns of valid plans are those that are computed

@@ -10,11 +10,11 @@ use Rattle.plan_ir.specs.declared.scan.FileInfo.{FileInfo}
 use Rattle.plan_ir.specs.declared.scan.FileScan.{FileScan}
 use Rattle.plan_ir.specs.declared.scan.ScanSources.{ScanSources}
 use Rattle.plan_expr.specs.Exprs.{Named}
-use Rattle.plan_ir.specs.Plans.{Op, slice, filter, scan, frame_scan, simple_projection, select, hstack, invalid, Plan}
+use Rattle.plan_ir.specs.Plans.{Op, slice, filter, scan, frame_scan, simple_projection, select, hstack, sort, distinct, sink, invalid, Plan}
 use Rattle.plan_core.specs.declared.options.ProjectionOptions.{ProjectionOptions}
 use Rattle.plan_core.specs.Columns.{with_types}
 use Rattle.plan_expr.specs.Leaves.{Name, leaves}
-use Rattle.plan_meaning.specs.Typing.{first_schema, out_names}
+use Rattle.plan_meaning.specs.Typing.{first_schema, names_or, out_names}
 use Rattle.plan_meaning.specs.PlanAt.{one_plan}
 use Rattle.plan_meaning.specs.Relating.{names as these}
 use Rattle.plan_meaning.specs.Counting.{is_count, meets_count, stand_ins, first_stand_in}
@@ -97,6 +97,9 @@ asks asked (frame_scan df schema output) ss os = []
 asks asked (select exprs schema options) ss os = needed_names exprs (first_stand_in os) (selected_exprs (set_of asked) exprs)
 asks asked (hstack exprs schema options) ss os = stacked_names asked exprs (first_schema ss)
 asks asked (simple_projection columns) ss os = with_names [] (names_of (kept asked columns))
+asks asked (sort keys part options) ss os = asked_with asked (all_leaves keys)
+asks asked (distinct options) ss os = asked_with asked (names_or options.subset (names_of (first_schema ss)))
+asks asked (sink payload) ss os = asked
 asks asked invalid ss os = []
 
 -- a node that is asked names, over its pruned inputs
@@ -108,6 +111,9 @@ rebuilt top asked (frame_scan df schema output) inputs = rose tt (frame_scan df 
 rebuilt top asked (select exprs schema options) inputs = pruned_select asked exprs schema options inputs
 rebuilt top asked (hstack exprs schema options) inputs = pruned_hstack asked exprs schema options inputs
 rebuilt top asked (simple_projection columns) inputs = rose tt (simple_projection (kept asked columns)) inputs
+rebuilt top asked (sort keys part options) inputs = rose tt (sort keys part options) inputs
+rebuilt top asked (distinct options) inputs = rose tt (distinct options) inputs
+rebuilt top asked (sink payload) inputs = rose tt (sink payload) inputs
 rebuilt top asked invalid inputs = rose tt invalid inputs
 
 -- what a node asks of plans

@@ -3,7 +3,7 @@ use Rattle.std.specs.Prelude.{◌≡◌, ℕ, ◌+◌, true, List, [], ◌∷◌
 use Rattle.plan_core.specs.Columns.{Columns}
 use Rattle.plan_core.specs.Names.{has}
 use Rattle.plan_tree.specs.Rose.{Roses, rose, no_roses, more}
-use Rattle.plan_ir.specs.Plans.{Op, slice, filter, scan, frame_scan, simple_projection, select, hstack, invalid, Plan}
+use Rattle.plan_ir.specs.Plans.{Op, slice, filter, scan, frame_scan, simple_projection, select, hstack, sort, distinct, sink, invalid, Plan}
 use Rattle.plan_expr.specs.Leaves.{Name}
 use Rattle.plan_meaning.specs.Typing.{schemas}
 use Rattle.plan_meaning.specs.Relating.{Asked, all, names, cached}
@@ -32,6 +32,9 @@ own_tops (frame_scan df schema output) a ss = 0
 own_tops (select exprs schema options) a ss = 0
 own_tops (hstack exprs schema options) a ss = 0
 own_tops (simple_projection columns) a ss = 0
+own_tops (sort keys part options) a ss = 0
+own_tops (distinct options) a ss = 0
+own_tops (sink payload) a ss = 0
 own_tops invalid a ss = 0
 
 -- the projections that may be put on the nodes of plans that are asked what the list says

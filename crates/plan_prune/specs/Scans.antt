@@ -3,7 +3,7 @@ use Rattle.std.specs.Prelude.{Bool, true, false, List, [], ◌∷◌, ◌++◌, 
 use Rattle.plan_core.specs.declared.arena.Node.{Node}
 use Rattle.plan_core.specs.Columns.{Columns}
 use Rattle.plan_ir.specs.declared.ir.IR.{IR}
-use Rattle.plan_ir.specs.declared.ir.IR.TheVariants.{Slice, Filter, Scan, DataFrameScan, SimpleProjection, Select, HStack, Invalid}
+use Rattle.plan_ir.specs.declared.ir.IR.TheVariants.{Slice, Filter, Scan, DataFrameScan, SimpleProjection, Select, HStack, Sort, Distinct, Sink, Invalid}
 use Rattle.plan_expr.specs.Leaves.{Name}
 use Rattle.plan_prune.specs.Pruned.{typed_names, reading}
 
@@ -17,6 +17,9 @@ narrowed names (DataFrameScan df schema output_schema) = DataFrameScan df schema
 narrowed names (Select input expr schema options) = Select input expr schema options
 narrowed names (HStack input exprs schema options) = HStack input exprs schema options
 narrowed names (SimpleProjection input columns) = SimpleProjection input columns
+narrowed names (Sort input keys part options) = Sort input keys part options
+narrowed names (Distinct input options) = Distinct input options
+narrowed names (Sink input payload) = Sink input payload
 narrowed names Invalid = Invalid
 
 -- the scan that goes back where names are asked; asked nothing, it stays
@@ -38,6 +41,9 @@ output_of (DataFrameScan df schema output_schema) = []
 output_of (Select input expr schema options) = []
 output_of (HStack input exprs schema options) = []
 output_of (SimpleProjection input columns) = []
+output_of (Sort input keys part options) = []
+output_of (Distinct input options) = []
+output_of (Sink input payload) = []
 output_of Invalid = []
 
 -- the node at a number, with a projection on top that takes the number, or without

@@ -7,13 +7,13 @@ use Rattle.plan_core.specs.Names.{with_names}
 use Rattle.plan_expr.specs.declared.aexpr.AExpr.{AExpr}
 use Rattle.plan_expr.specs.declared.expr_ir.ExprIR.{ExprIR}
 use Rattle.plan_ir.specs.declared.ir.IR.{IR}
-use Rattle.plan_ir.specs.declared.ir.IR.TheVariants.{Slice, Filter, Scan, DataFrameScan, SimpleProjection, Select, HStack, Invalid}
+use Rattle.plan_ir.specs.declared.ir.IR.TheVariants.{Slice, Filter, Scan, DataFrameScan, SimpleProjection, Select, HStack, Sort, Distinct, Sink, Invalid}
 use Rattle.plan_expr.specs.Exprs.{expr_at, all_named_at}
 use Rattle.plan_ir.specs.Plans.{bare, plans_at}
 use Rattle.plan_expr.specs.Leaves.{Name, leaves}
-use Rattle.plan_meaning.specs.Typing.{first_schema}
+use Rattle.plan_meaning.specs.Typing.{first_schema, names_or}
 use Rattle.plan_meaning.specs.Counting.{stand_ins, first_stand_in}
-use Rattle.plan_meaning.specs.Asked.{needed_names}
+use Rattle.plan_meaning.specs.Asked.{all_leaves, needed_names}
 use Rattle.plan_prune.specs.declared.push_down.step.Step.{Step}
 use Rattle.plan_prune.specs.declared.push_down.step.Step.TheVariants.{Leaf, Over}
 use Rattle.plan_prune.specs.Stored.{stored_all}
@@ -50,6 +50,9 @@ step_of lp ex asked (DataFrameScan df schema output) = Leaf (DataFrameScan df sc
 step_of lp ex asked (SimpleProjection i columns) = Over i (with_names [] (names_of (kept asked columns))) (SimpleProjection i (kept asked columns))
 step_of lp ex asked (Select i es schema options) = selected_step ex asked i es schema options (stand_in_at lp ex i)
 step_of lp ex asked (HStack i es schema options) = stacked_step ex asked i es schema options (columns_at lp ex i)
+step_of lp ex asked (Sort i keys part options) = Over i (asked_with asked (all_leaves (all_named_at ex keys))) (Sort i keys part options)
+step_of lp ex asked (Distinct i options) = Over i (asked_with asked (names_or options.subset (names_of (columns_at lp ex i)))) (Distinct i options)
+step_of lp ex asked (Sink i payload) = Over i asked (Sink i payload)
 step_of lp ex asked Invalid = Leaf Invalid
 
 -- the arena with a node back at its number, over its pruned input: with projections on top of narrowed scans or without, where names are asked of it or none
@@ -61,4 +64,7 @@ put_back top some lp ex n (Filter i predicate) = slice_set lp n.0 (Filter i pred
 put_back top some lp ex n (DataFrameScan df schema output) = slice_set lp n.0 (DataFrameScan df schema output)
 put_back top some lp ex n (SimpleProjection i columns) = slice_set lp n.0 (SimpleProjection i columns)
 put_back top some lp ex n (Select i es schema options) = slice_set lp n.0 (Select i es schema options)
+put_back top some lp ex n (Sort i keys part options) = slice_set lp n.0 (Sort i keys part options)
+put_back top some lp ex n (Distinct i options) = slice_set lp n.0 (Distinct i options)
+put_back top some lp ex n (Sink i payload) = slice_set lp n.0 (Sink i payload)
 put_back top some lp ex n Invalid = slice_set lp n.0 Invalid

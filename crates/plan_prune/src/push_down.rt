@@ -1,7 +1,7 @@
 //! The pass that prunes a plan to the columns that it needs.
 //! Each node is told the names that are asked of it, and asks its inputs the names that it needs;
 //! no names stand for every column. The rule of a node kind is in a file of its own, and `step` finds it.
-ghost use Rattle.std.specs.Prelude.{◌≡◌, ◌≤◌, ◌+◌, [], ◌∷◌, OnOk, ◌||◌, false, length, not};
+ghost use Rattle.std.specs.Prelude.{◌≡◌, ◌≤◌, ◌+◌, [], ◌∷◌, OnOk, ◌||◌, false, length, not, true};
 ghost use Rattle.plan_ir.specs.Parts.{IsPlan};
 ghost use Rattle.plan_ir.specs.Plans.{bare, plans_at};
 ghost use Rattle.plan_meaning.specs.PlanAt.{plan_at};
@@ -15,14 +15,18 @@ ghost use Rattle.plan_prune.specs.Pruned.{pruned_all};
 ghost use Rattle.plan_prune.specs.Prunes.{MarksAt, PrunesAt};
 ghost use Rattle.plan_prune.specs.Reads.{ReadWithin, tops};
 
+mod distinct;
 mod exprs;
 mod filter;
 mod frame_scan;
 mod hstack;
+mod names;
 mod projection;
 mod scan;
 mod select;
+mod sink;
 mod slice;
+mod sort;
 mod stand_in;
 mod step;
 mod stored;
@@ -51,8 +55,8 @@ impl ProjectionPushDown {
     }
 
     /// Prunes the plan at `root`, of which every column is asked, and marks whether it counts rows. A projection goes on top of
-    /// each narrowed scan, but from the first count of rows on. Refuses for want of memory alone, and then nothing is known of
-    /// what stands at `root`.
+    /// each narrowed scan, and on none from the first count of rows on. Refuses for want of memory alone, and then nothing is
+    /// known of what stands at `root`, and of the mark only that it isn't set back.
     pub fn optimize(
         &mut self,
         alloc: Global,
@@ -72,6 +76,7 @@ impl ProjectionPushDown {
         ensures work { OnOk result (IsValid (plan_at lp.old ex.now root) → made (plan_at lp.new ex.now root) ≤ kept (plan_at lp.old ex.now root)) }
         ensures grows { length lp.old ≤ length lp.new }
         ensures marks { OnOk result (self.new.is_count_star ≡ (self.old.is_count_star || meets_count (plan_at lp.old ex.now root))) }
+        ensures stays { self.old.is_count_star ≡ true → self.new.is_count_star ≡ true }
     {
         let asked = Names::new(alloc);
         self.push_down(alloc, root, asked, lp, ex)?;
@@ -90,6 +95,7 @@ impl ProjectionPushDown {
         requires { IsPlan lp.old ex.now node }
         ensures prunes { OnOk result (PrunesAt (not self.old.is_count_star) asked lp.old lp.new ex.now node) }
         ensures marks { OnOk result (MarksAt self.old.is_count_star self.new.is_count_star lp.old ex.now node) }
+        ensures stays { self.old.is_count_star ≡ true → self.new.is_count_star ≡ true }
         ensures grows { length lp.old ≤ length lp.new }
     {
         let is_asked = asked.len() > 0;

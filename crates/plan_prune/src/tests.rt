@@ -6,6 +6,7 @@ use plan_core::{
 use plan_expr::{AExpr, ExprIR, LiteralValue, Operator, OutputName, output_name};
 use plan_ir::{FileInfo, FileScan, IR, ScanSources};
 use plan_meaning::check_plan;
+use plan_options::{DistinctOptionsIR, SinkType, SortMultipleOptions, UniqueKeepStrategy};
 use std::alloc::{AllocError, Global};
 use std::process::Abort;
 use std::test::Fail;
@@ -72,6 +73,18 @@ fn write_node(alloc: Global, text: &mut String, node: &IR) -> Result<Option<Node
     match node {
         IR::Filter { input, .. } => {
             text.push_str("Filter")?;
+            Ok(Some(*input))
+        }
+        IR::Sort { input, .. } => {
+            text.push_str("Sort")?;
+            Ok(Some(*input))
+        }
+        IR::Distinct { input, .. } => {
+            text.push_str("Distinct")?;
+            Ok(Some(*input))
+        }
+        IR::Sink { input, .. } => {
+            text.push_str("Sink")?;
             Ok(Some(*input))
         }
         IR::SimpleProjection { input, columns } => {
@@ -196,6 +209,58 @@ impl Sample {
         let predicate = ExprIR::new(node, name);
         let input = self.root;
         self.root = self.lp.add(IR::Filter { input, predicate })?;
+        Ok(())
+    }
+
+    /// Adds a sort by a column.
+    fn sort(&mut self, name: &str) -> Result<(), AllocError> {
+        let node = self
+            .ex
+            .add(AExpr::Column(PlSmallStr::new(self.alloc, name)?))?;
+        let name = OutputName::ColumnLhs(PlSmallStr::new(self.alloc, name)?);
+        let mut by_column = Items::new(self.alloc);
+        by_column.push(ExprIR::new(node, name))?;
+        let mut marks = Items::new(self.alloc);
+        marks.push(false)?;
+        let sort_options = SortMultipleOptions {
+            descending: marks.try_clone(self.alloc)?,
+            nulls_last: marks,
+            multithreaded: true,
+            maintain_order: false,
+            limit: None,
+        };
+        let input = self.root;
+        self.root = self.lp.add(IR::Sort {
+            input,
+            by_column,
+            slice: None,
+            sort_options,
+        })?;
+        Ok(())
+    }
+
+    /// Keeps any of the rows that are the same in the columns of these names; in all columns without names.
+    fn distinct(&mut self, names: &[&str]) -> Result<(), AllocError> {
+        let mut told = Items::new(self.alloc);
+        for name in names {
+            told.push(PlSmallStr::new(self.alloc, *name)?)?;
+        }
+        let options = DistinctOptionsIR {
+            subset: if names.is_empty() { None } else { Some(told) },
+            maintain_order: false,
+            keep_strategy: UniqueKeepStrategy::Any,
+            slice: None,
+        };
+        let input = self.root;
+        self.root = self.lp.add(IR::Distinct { input, options })?;
+        Ok(())
+    }
+
+    /// Adds a sink.
+    fn sink(&mut self) -> Result<(), AllocError> {
+        let payload = SinkType::Memory;
+        let input = self.root;
+        self.root = self.lp.add(IR::Sink { input, payload })?;
         Ok(())
     }
 
@@ -328,6 +393,41 @@ fn the_mark_is_set_by_a_count_alone(rt: HostRuntime) -> Result<(), Fail> {
     plan.optimize(&mut pass)?;
     assert!(rt; pass.is_count_star);
     Ok(())
+}
+
+#[test]
+fn keys_and_told_columns_are_read(rt: HostRuntime) -> Result<(), Fail> {
+    let mut plan = Sample::scan(rt.alloc())?;
+    plan.distinct(&["c"])?;
+    plan.sort("b")?;
+    plan.sink()?;
+    plan.projection(&["a"])?;
+    assert_pruned(
+        &rt,
+        &mut plan,
+        "SimpleProjection a; Sink; Sort; Distinct; SimpleProjection a b c; Scan reads a b c puts out a b c",
+    )?;
+    let mut plan = Sample::scan(rt.alloc())?;
+    plan.sort("b")?;
+    plan.distinct(&["b"])?;
+    plan.projection(&["a"])?;
+    assert_pruned(
+        &rt,
+        &mut plan,
+        "SimpleProjection a; Distinct; Sort; SimpleProjection a b; Scan reads a b puts out a b",
+    )
+}
+
+#[test]
+fn rows_that_are_the_same_throughout_read_all(rt: HostRuntime) -> Result<(), Fail> {
+    let mut plan = Sample::scan(rt.alloc())?;
+    plan.distinct(&[])?;
+    plan.projection(&["c"])?;
+    assert_pruned(
+        &rt,
+        &mut plan,
+        "SimpleProjection c; Distinct; SimpleProjection c a b; Scan reads c a b puts out c a b",
+    )
 }
 
 #[test]

@@ -7,6 +7,7 @@ ghost use Rattle.plan_ir.specs.declared.ir.IR.TheVariants.{SimpleProjection};
 ghost use Rattle.plan_prune.specs.declared.push_down.step.Step.TheVariants.{Over};
 ghost use Rattle.plan_prune.specs.Pruned.{kept as kept_of};
 
+use crate::push_down::names::add_columns;
 use crate::push_down::step::Step;
 use plan_core::{Names, Node, PlSmallStr, Schema};
 use plan_ir::IR;
@@ -35,11 +36,7 @@ fn asks(alloc: Global, columns: &Schema) -> Result<Names, AllocError>
     ensures { IfOk result (λ names. names ≡ with_names [] (names_of columns.now)) }
 {
     let mut names = Names::new(alloc);
-    for i in 0..columns.len() {
-        if let Some((name, _)) = columns.get_at_index(i) {
-            let _ = names.add(name)?;
-        }
-    }
+    add_columns(&mut names, columns)?;
     Ok(names)
 }
 

@@ -8,7 +8,9 @@ ghost use Rattle.plan_ir.specs.Parts.{IsPlan, inputs_of, plan_shape, roots_of};
 ghost use Rattle.plan_prune.specs.Prunes.{StandExprs};
 ghost use Rattle.plan_prune.specs.Steps.{put_back, step_of};
 
-use crate::push_down::{filter, frame_scan, hstack, projection, scan, select, slice};
+use crate::push_down::{
+    distinct, filter, frame_scan, hstack, projection, scan, select, sink, slice, sort,
+};
 use plan_core::{Arena, Names, Node};
 use plan_expr::AExpr;
 use plan_ir::IR;
@@ -70,6 +72,14 @@ pub fn prepare(
             schema,
             options,
         } => hstack::prepare(alloc, input, exprs, schema, options, asked, lp, ex),
+        IR::Sort {
+            input,
+            by_column,
+            slice,
+            sort_options,
+        } => sort::prepare(input, by_column, slice, sort_options, asked, ex),
+        IR::Distinct { input, options } => distinct::prepare(input, options, asked, lp),
+        IR::Sink { input, payload } => Ok(sink::prepare(input, payload, asked)),
         IR::Invalid => Ok(Step::Leaf { entry: IR::Invalid }),
     }
 }

@@ -29,6 +29,9 @@ pub fn stored(node: Node, lp: &Arena<IR>) -> &Schema
     match lp.get(node) {
         IR::Slice { input, .. } => stored(*input, lp),
         IR::Filter { input, .. } => stored(*input, lp),
+        IR::Sort { input, .. } => stored(*input, lp),
+        IR::Distinct { input, .. } => stored(*input, lp),
+        IR::Sink { input, .. } => stored(*input, lp),
         IR::Scan {
             output_schema,
             file_info,

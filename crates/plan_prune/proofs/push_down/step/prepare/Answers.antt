@@ -1,8 +1,13 @@
-use Rattle.std.proofs.Common.{ap}
+use Rattle.std.proofs.Common.{◌∙◌, ap, sym}
+use Rattle.std.proofs.lemmas.Result.{IfOk-weaker}
 use Rattle.std.specs.List.{slice_get}
 use Rattle.plan_ir.specs.declared.ir.IR.{IR}
 use Rattle.plan_ir.specs.Parts.{inputs_of}
+use Rattle.plan_prune.specs.Steps.{step_of}
 use Rattle.plan_prune.proofs.push_down.step.prepare.Goals as goal
 
 pub prepare-requires-in-Select-clause-input : goal.prepare-requires-in-Select-clause-input
 prepare-requires-in-Select-clause-input c = c.requires.plans 0 c.in-Select.input (ap (λ (p : IR). slice_get (inputs_of p) 0) c.in-Select.is)
+
+pub returns-in-Distinct : goal.returns-in-Distinct
+returns-in-Distinct c = IfOk-weaker c.prepare-in-Distinct.result _ _ (λ step same. same c.args.ex.now ∙ ap (step_of c.args.lp.now c.args.ex.now c.args.asked) (sym c.in-Distinct.is)) c.prepare-in-Distinct.ensures

@@ -1,5 +1,5 @@
 use Rattle.std.proofs.Common.{◌∙◌, ap, refl, arith, Some}
-use Rattle.plan_ir.specs.declared.ir.IR.TheVariants.{Slice, Filter, Scan, DataFrameScan, SimpleProjection, Select, HStack}
+use Rattle.plan_ir.specs.declared.ir.IR.TheVariants.{Slice, Filter, Scan, DataFrameScan, SimpleProjection, Select, HStack, Sort, Distinct, Sink}
 use Rattle.plan_ir.specs.Parts.{plan_shape}
 use Rattle.plan_tree.proofs.TreeLemmas.{height-falls, StandsOnce-input}
 use Rattle.plan_prune.proofs.StoredNodes.{stored_open}
@@ -37,3 +37,30 @@ returns-in-Select t c = λ ex. stored_open c.args.lp.now ex c.args.node (Select 
 
 pub returns-in-HStack : goal.returns-in-HStack
 returns-in-HStack t c = λ ex. stored_open c.args.lp.now ex c.args.node (HStack c.in-HStack.input c.in-HStack.exprs c.in-HStack.schema c.in-HStack.options) c.requires (c.get.ensures.entry ∙ ap Some c.in-HStack.is)
+
+pub stored-requires-in-Sort : goal.stored-requires-in-Sort
+stored-requires-in-Sort t c =
+    let e = c.get.ensures.entry ∙ ap Some c.in-Sort.is in
+    let falls = height-falls plan_shape c.args.lp.now c.args.node c.in-Sort.input (Sort c.in-Sort.input c.in-Sort.by_column c.in-Sort.slice c.in-Sort.sort_options) c.requires.0 0 c.requires.1 e refl in
+    (omega (arith, falls, c.decreases), StandsOnce-input plan_shape c.args.lp.now c.args.node c.in-Sort.input (Sort c.in-Sort.input c.in-Sort.by_column c.in-Sort.slice c.in-Sort.sort_options) 0 c.requires e refl)
+
+pub returns-in-Sort : goal.returns-in-Sort
+returns-in-Sort t c = λ ex. c.stored-in-Sort.ensures ex ∙ stored_open c.args.lp.now ex c.args.node (Sort c.in-Sort.input c.in-Sort.by_column c.in-Sort.slice c.in-Sort.sort_options) c.requires (c.get.ensures.entry ∙ ap Some c.in-Sort.is)
+
+pub stored-requires-in-Distinct : goal.stored-requires-in-Distinct
+stored-requires-in-Distinct t c =
+    let e = c.get.ensures.entry ∙ ap Some c.in-Distinct.is in
+    let falls = height-falls plan_shape c.args.lp.now c.args.node c.in-Distinct.input (Distinct c.in-Distinct.input c.in-Distinct.options) c.requires.0 0 c.requires.1 e refl in
+    (omega (arith, falls, c.decreases), StandsOnce-input plan_shape c.args.lp.now c.args.node c.in-Distinct.input (Distinct c.in-Distinct.input c.in-Distinct.options) 0 c.requires e refl)
+
+pub returns-in-Distinct : goal.returns-in-Distinct
+returns-in-Distinct t c = λ ex. c.stored-in-Distinct.ensures ex ∙ stored_open c.args.lp.now ex c.args.node (Distinct c.in-Distinct.input c.in-Distinct.options) c.requires (c.get.ensures.entry ∙ ap Some c.in-Distinct.is)
+
+pub stored-requires-in-Sink : goal.stored-requires-in-Sink
+stored-requires-in-Sink t c =
+    let e = c.get.ensures.entry ∙ ap Some c.in-Sink.is in
+    let falls = height-falls plan_shape c.args.lp.now c.args.node c.in-Sink.input (Sink c.in-Sink.input c.in-Sink.payload) c.requires.0 0 c.requires.1 e refl in
+    (omega (arith, falls, c.decreases), StandsOnce-input plan_shape c.args.lp.now c.args.node c.in-Sink.input (Sink c.in-Sink.input c.in-Sink.payload) 0 c.requires e refl)
+
+pub returns-in-Sink : goal.returns-in-Sink
+returns-in-Sink t c = λ ex. c.stored-in-Sink.ensures ex ∙ stored_open c.args.lp.now ex c.args.node (Sink c.in-Sink.input c.in-Sink.payload) c.requires (c.get.ensures.entry ∙ ap Some c.in-Sink.is)

@@ -1,0 +1,21 @@
+use Rattle.std.proofs.Common.{◌∙◌, ap, refl, sym, subst, All, List, []}
+use Rattle.plan_expr.specs.declared.expr_ir.ExprIR.{ExprIR}
+use Rattle.plan_ir.specs.declared.ir.IR.TheVariants.{Sort}
+use Rattle.plan_expr.specs.Operands.{IsExpr}
+use Rattle.plan_expr.specs.Exprs.{all_named_at}
+use Rattle.plan_expr.specs.Leaves.{Name}
+use Rattle.plan_meaning.specs.Asked.{all_leaves}
+use Rattle.plan_prune.specs.declared.push_down.step.Step.TheVariants.{Over}
+use Rattle.plan_prune.specs.Pruned.{asked_with}
+use Rattle.plan_prune.proofs.KeptLemmas.{stacked_stand}
+use Rattle.plan_prune.proofs.push_down.sort.prepare.Goals as goal
+
+pub asks-requires : goal.asks-requires
+asks-requires c =
+    subst (λ (l : List ExprIR). All (λ (x : ExprIR). IsExpr c.args.ex.now x.node) l) (sym c.as_slice.ensures)
+    (stacked_stand c.args.ex.now [] c.args.by_column c.args.by_column refl c.requires)
+
+pub returns : goal.returns
+returns c =
+    ap (λ (l : List Name). Over c.args.input l (Sort c.args.input c.args.by_column c.args.slice c.args.sort_options))
+    (c.in_ok-asked.ensures ∙ ap (λ (l : List ExprIR). asked_with c.args.asked (all_leaves (all_named_at c.args.ex.now l))) c.as_slice.ensures)

@@ -1,0 +1,29 @@
+//! Names that are added to those that are asked, each last unless it is there.
+ghost use Rattle.std.specs.Prelude.{◌≡◌, OnOk};
+ghost use Rattle.plan_core.specs.Columns.{names_of};
+ghost use Rattle.plan_core.specs.Names.{with_names};
+
+use plan_core::{Names, PlSmallStr, Schema};
+use std::alloc::AllocError;
+
+/// Adds the names, in their order.
+pub fn add_listed(names: &mut Names, others: &[PlSmallStr]) -> Result<(), AllocError>
+    ensures { OnOk result (names.new ≡ with_names names.old others.now) }
+{
+    for name in others {
+        let _ = names.add(name.as_str())?;
+    }
+    Ok(())
+}
+
+/// Adds the names of the columns, in their order.
+pub fn add_columns(names: &mut Names, columns: &Schema) -> Result<(), AllocError>
+    ensures { OnOk result (names.new ≡ with_names names.old (names_of columns.now)) }
+{
+    for i in 0..columns.len() {
+        if let Some((name, _)) = columns.get_at_index(i) {
+            let _ = names.add(name)?;
+        }
+    }
+    Ok(())
+}

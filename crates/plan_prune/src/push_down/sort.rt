@@ -1,0 +1,57 @@
+//! A sort stays as it is.
+//! Asked something, it asks its input that, and the columns of its keys, each last unless it is asked already.
+//! Asked nothing, it asks nothing.
+ghost use Rattle.std.specs.Prelude.{◌≡◌, All, IfOk, map};
+ghost use Rattle.plan_expr.specs.Operands.{IsExpr};
+ghost use Rattle.plan_ir.specs.declared.ir.IR.TheVariants.{Sort};
+ghost use Rattle.plan_expr.specs.Exprs.{all_named_at};
+ghost use Rattle.plan_meaning.specs.Asked.{all_leaves};
+ghost use Rattle.plan_prune.specs.declared.push_down.step.Step.TheVariants.{Over};
+ghost use Rattle.plan_prune.specs.Pruned.{asked_with};
+ghost use Rattle.plan_prune.specs.Prunes.{StandExprs};
+
+use crate::push_down::exprs::add_all_names;
+use crate::push_down::step::Step;
+use plan_core::{Arena, Items, Names, Node};
+use plan_expr::{AExpr, ExprIR};
+use plan_ir::IR;
+use plan_options::SortMultipleOptions;
+use std::alloc::AllocError;
+
+/// What a sort asks its input: the asked names, and then the other names that the keys read; no names stand for every
+/// column, and then it asks none.
+fn asks(asked: Names, keys: &[ExprIR], ex: &Arena<AExpr>) -> Result<Names, AllocError>
+    requires { All (λ e. IsExpr ex.now e.node) keys.now }
+    ensures { IfOk result (λ names. names ≡ asked_with asked (all_leaves (all_named_at ex.now keys.now))) }
+{
+    let mut names = asked;
+    if names.len() > 0 {
+        add_all_names(&mut names, keys, ex)?;
+    }
+    Ok(names)
+}
+
+/// The step of a sort.
+pub fn prepare(
+    input: Node,
+    by_column: Items<ExprIR>,
+    slice: Option<(i64, usize)>,
+    sort_options: SortMultipleOptions,
+    asked: Names,
+    ex: &Arena<AExpr>,
+) -> Result<Step, AllocError>
+    requires { StandExprs ex.now (map (λ e. e.node) by_column) }
+    ensures { IfOk result (λ step. step ≡ Over input (asked_with asked (all_leaves (all_named_at ex.now by_column))) (Sort input by_column slice sort_options)) }
+{
+    let asked = asks(asked, by_column.as_slice(), ex)?;
+    Ok(Step::Over {
+        input,
+        asked,
+        entry: IR::Sort {
+            input,
+            by_column,
+            slice,
+            sort_options,
+        },
+    })
+}
