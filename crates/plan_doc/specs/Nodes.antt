@@ -1,5 +1,5 @@
 -- The nodes that the entries of a document stand for.
-use Rattle.std.specs.Prelude.{ℕ, List, [], ◌∷◌, Option, Some, None, if◌then◌else◌, codes, bytes_eq}
+use Rattle.std.specs.Prelude.{ℕ, List, [], ◌∷◌, true, Option, Some, None, if◌then◌else◌, codes, bytes_eq}
 use Rattle.serde_json.specs.Data.{Data}
 use Rattle.serde_json.specs.Find.{get}
 use Rattle.plan_core.specs.Options.{default_scan}
@@ -14,7 +14,12 @@ use Rattle.plan_ir.specs.declared.scan.ScanSources.TheVariants as sources
 use Rattle.plan_ir.specs.declared.scan.FileInfo.{FileInfo}
 use Rattle.plan_ir.specs.declared.ir.IR.{IR}
 use Rattle.plan_ir.specs.declared.ir.IR.TheVariants as nodes
-use Rattle.plan_doc.specs.Parts.{◌>>=◌, object_of, nullable, name_of, number_of, link_of, integer_of, truth_of, names_of, columns_of, output_of, outputs_of, slice_of, options_of}
+use Rattle.plan_options.specs.declared.distinct.DistinctOptionsIR.{DistinctOptionsIR}
+use Rattle.plan_options.specs.declared.distinct.UniqueKeepStrategy.{UniqueKeepStrategy}
+use Rattle.plan_options.specs.declared.distinct.UniqueKeepStrategy.TheVariants as keeps
+use Rattle.plan_options.specs.declared.sink.SinkType.TheVariants as sinks
+use Rattle.plan_options.specs.declared.sort.SortMultipleOptions.{SortMultipleOptions}
+use Rattle.plan_doc.specs.Parts.{◌>>=◌, object_of, nullable, name_of, number_of, link_of, integer_of, truth_of, truths_of, names_of, columns_of, output_of, outputs_of, slice_of, options_of}
 use Rattle.plan_doc.specs.Built.{one_path, null_fields}
 
 -- some rows of the input, one after another
@@ -81,6 +86,82 @@ hstack_of d = do
   i ← link_of input
   m ← made_of o
   Some (nodes.HStack i m.0 m.1 m.2)
+
+-- the keys of a sort
+unfoldable pub sort_keys : List (List ℕ)
+sort_keys = codes "by" ∷ codes "descending" ∷ codes "input" ∷ codes "maintain_order" ∷ codes "nulls_last" ∷ codes "op" ∷ codes "slice" ∷ []
+
+-- how rows are sorted: several threads may sort, and all rows are put out
+unfoldable pub sort_options_of : Data → Option SortMultipleOptions
+sort_options_of o = do
+  descending ← get (codes "descending") o
+  ds ← truths_of descending
+  nulls_last ← get (codes "nulls_last") o
+  ns ← truths_of nulls_last
+  maintain_order ← get (codes "maintain_order") o
+  m ← truth_of maintain_order
+  Some (record { descending = ds; nulls_last = ns; multithreaded = true; maintain_order = m; limit = None })
+
+-- the rows of the input in the order of some keys
+unfoldable pub sort_of : Data → Option IR
+sort_of d = do
+  o ← object_of sort_keys d
+  input ← get (codes "input") o
+  i ← link_of input
+  keys ← get (codes "by") o
+  ks ← outputs_of keys
+  slice ← get (codes "slice") o
+  s ← nullable slice_of slice
+  options ← sort_options_of o
+  Some (nodes.Sort i ks s options)
+
+-- which row of those that are the same is kept, as a text names it
+unfoldable pub keep_named : List ℕ → Option UniqueKeepStrategy
+keep_named s =
+    if bytes_eq s (codes "First") then Some keeps.First else (
+    if bytes_eq s (codes "Last") then Some keeps.Last else (
+    if bytes_eq s (codes "Any") then Some keeps.Any else (
+    if bytes_eq s (codes "None") then Some keeps.None else None)))
+
+-- the name of which row is kept
+unfoldable pub keep_of : Data → Option UniqueKeepStrategy
+keep_of d = do
+  s ← name_of d
+  keep_named s
+
+-- the keys of distinct rows
+unfoldable pub distinct_keys : List (List ℕ)
+distinct_keys = codes "input" ∷ codes "keep" ∷ codes "maintain_order" ∷ codes "op" ∷ codes "slice" ∷ codes "subset" ∷ []
+
+-- which rows are distinct, and which of them are kept
+unfoldable pub distinct_options_of : Data → Option DistinctOptionsIR
+distinct_options_of o = do
+  subset ← get (codes "subset") o
+  ns ← nullable names_of subset
+  maintain_order ← get (codes "maintain_order") o
+  m ← truth_of maintain_order
+  keep ← get (codes "keep") o
+  k ← keep_of keep
+  slice ← get (codes "slice") o
+  s ← nullable slice_of slice
+  Some (record { subset = ns; maintain_order = m; keep_strategy = k; slice = s })
+
+-- of the rows that are the same in some columns one, or those that are alone
+unfoldable pub distinct_of : Data → Option IR
+distinct_of d = do
+  o ← object_of distinct_keys d
+  input ← get (codes "input") o
+  i ← link_of input
+  options ← distinct_options_of o
+  Some (nodes.Distinct i options)
+
+-- the input, whose rows are kept in memory
+unfoldable pub sink_of : Data → Option IR
+sink_of d = do
+  o ← object_of (codes "input" ∷ codes "op" ∷ []) d
+  input ← get (codes "input") o
+  i ← link_of input
+  Some (nodes.Sink i sinks.Memory)
 
 -- the columns of a frame that is handed in
 unfoldable pub frame_scan_of : Data → Option IR
@@ -174,4 +255,7 @@ node_of d = do
       if bytes_eq s (codes "SimpleProjection") then simple_projection_of d else (
       if bytes_eq s (codes "Select") then select_of d else (
       if bytes_eq s (codes "HStack") then hstack_of d else (
-      if bytes_eq s (codes "Invalid") then invalid_of d else None)))))))
+      if bytes_eq s (codes "Sort") then sort_of d else (
+      if bytes_eq s (codes "Distinct") then distinct_of d else (
+      if bytes_eq s (codes "Sink") then sink_of d else (
+      if bytes_eq s (codes "Invalid") then invalid_of d else None))))))))))

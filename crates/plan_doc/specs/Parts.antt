@@ -92,6 +92,12 @@ integer_of d = do
 unfoldable pub truth_of : Data → Option Bool
 truth_of d = as_bool d
 
+-- an array of truth values
+unfoldable pub truths_of : Data → Option (List Bool)
+truths_of d = do
+  ds ← entries_of d
+  each truth_of ds
+
 -- both of two
 abbrev pub pair : List Data → Option (Data × Data)
 pair (a ∷ b ∷ []) = Some (a, b)

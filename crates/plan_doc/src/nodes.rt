@@ -3,7 +3,7 @@ ghost use Rattle.std.specs.Prelude.{◌≡◌};
 ghost use Rattle.serde_json.specs.View.{view};
 ghost use Rattle.plan_doc.specs.Gives.{Gives, Shows};
 ghost use Rattle.plan_doc.specs.Parts.{object_of};
-ghost use Rattle.plan_doc.specs.Nodes.{slice_node_of, filter_of, simple_projection_of, made_keys, made_of, select_of, hstack_of, frame_scan_of, invalid_of, kind_of, sources_of, files_of, file_info_of, file_options_of, scan_keys, scan_of, node_of};
+ghost use Rattle.plan_doc.specs.Nodes.{slice_node_of, filter_of, simple_projection_of, made_keys, made_of, select_of, hstack_of, sort_keys, sort_options_of, sort_of, keep_of, distinct_keys, distinct_options_of, distinct_of, sink_of, frame_scan_of, invalid_of, kind_of, sources_of, files_of, file_info_of, file_options_of, scan_keys, scan_of, node_of};
 
 use crate::built::{null_fields, one_path};
 use crate::fault::Fault;
@@ -12,10 +12,12 @@ use crate::optional::{
 };
 use crate::parts::{
     columns, field, integer, link, names, number, object, options, output, outputs, text, truth,
+    truths,
 };
 use plan_core::{FileScanOptions, Items, ProjectionOptions, Schema};
 use plan_expr::ExprIR;
 use plan_ir::{FileInfo, FileScan, IR, ScanSources};
+use plan_options::{DistinctOptionsIR, SinkType, SortMultipleOptions, UniqueKeepStrategy};
 use serde_json::Value;
 use std::alloc::Global;
 
@@ -101,6 +103,126 @@ fn hstack(alloc: Global, value: &Value) -> Result<IR, Fault>
         exprs,
         schema,
         options,
+    })
+}
+
+/// An object with the keys of a sort and no other.
+#[tactic(auto, unfolding(crate::specs::Nodes::sort_keys))]
+fn sort_object(value: &Value) -> Result<&Value, Fault>
+    ensures { Shows (λ v. view v.now) result (object_of sort_keys (view value.now)) }
+{
+    object(
+        value,
+        &[
+            "by",
+            "descending",
+            "input",
+            "maintain_order",
+            "nulls_last",
+            "op",
+            "slice",
+        ],
+    )
+}
+
+/// How rows are sorted, from the object of a sort: several threads may sort, and all rows are put out.
+#[tactic(auto, unfolding(crate::specs::Nodes::sort_options_of))]
+fn sort_options(alloc: Global, object: &Value) -> Result<SortMultipleOptions, Fault>
+    ensures { Gives result (sort_options_of (view object.now)) }
+{
+    let descending = truths(alloc, field(object, "descending")?)?;
+    let nulls_last = truths(alloc, field(object, "nulls_last")?)?;
+    let maintain_order = truth(field(object, "maintain_order")?)?;
+    Ok(SortMultipleOptions {
+        descending,
+        nulls_last,
+        multithreaded: true,
+        maintain_order,
+        limit: None,
+    })
+}
+
+/// The sort of an entry.
+#[tactic(auto, unfolding(crate::specs::Nodes::sort_of))]
+fn sort(alloc: Global, value: &Value) -> Result<IR, Fault>
+    ensures { Gives result (sort_of (view value.now)) }
+{
+    let object = sort_object(value)?;
+    let input = link(field(object, "input")?)?;
+    let by_column = outputs(alloc, field(object, "by")?)?;
+    let slice = optional_slice(field(object, "slice")?)?;
+    let sort_options = sort_options(alloc, object)?;
+    Ok(IR::Sort {
+        input,
+        by_column,
+        slice,
+        sort_options,
+    })
+}
+
+/// Which row of those that are the same is kept, by its name.
+#[tactic(auto, unfolding(crate::specs::Nodes::keep_of, crate::specs::Nodes::keep_named))]
+fn keep(value: &Value) -> Result<UniqueKeepStrategy, Fault>
+    ensures { Gives result (keep_of (view value.now)) }
+{
+    match text(value)? {
+        "First" => Ok(UniqueKeepStrategy::First),
+        "Last" => Ok(UniqueKeepStrategy::Last),
+        "Any" => Ok(UniqueKeepStrategy::Any),
+        "None" => Ok(UniqueKeepStrategy::None),
+        _ => Err(Fault::Form),
+    }
+}
+
+/// An object with the keys of distinct rows and no other.
+#[tactic(auto, unfolding(crate::specs::Nodes::distinct_keys))]
+fn distinct_object(value: &Value) -> Result<&Value, Fault>
+    ensures { Shows (λ v. view v.now) result (object_of distinct_keys (view value.now)) }
+{
+    object(
+        value,
+        &["input", "keep", "maintain_order", "op", "slice", "subset"],
+    )
+}
+
+/// Which rows are distinct, and which of them are kept, from the object of distinct rows.
+#[tactic(auto, unfolding(crate::specs::Nodes::distinct_options_of))]
+fn distinct_options(alloc: Global, object: &Value) -> Result<DistinctOptionsIR, Fault>
+    ensures { Gives result (distinct_options_of (view object.now)) }
+{
+    let subset = optional_names(alloc, field(object, "subset")?)?;
+    let maintain_order = truth(field(object, "maintain_order")?)?;
+    let keep_strategy = keep(field(object, "keep")?)?;
+    let slice = optional_slice(field(object, "slice")?)?;
+    Ok(DistinctOptionsIR {
+        subset,
+        maintain_order,
+        keep_strategy,
+        slice,
+    })
+}
+
+/// The distinct rows of an entry.
+#[tactic(auto, unfolding(crate::specs::Nodes::distinct_of))]
+fn distinct(alloc: Global, value: &Value) -> Result<IR, Fault>
+    ensures { Gives result (distinct_of (view value.now)) }
+{
+    let object = distinct_object(value)?;
+    let input = link(field(object, "input")?)?;
+    let options = distinct_options(alloc, object)?;
+    Ok(IR::Distinct { input, options })
+}
+
+/// The sink of an entry; its rows are kept in memory.
+#[tactic(auto, unfolding(crate::specs::Nodes::sink_of))]
+fn sink(value: &Value) -> Result<IR, Fault>
+    ensures { Gives result (sink_of (view value.now)) }
+{
+    let object = object(value, &["input", "op"])?;
+    let input = link(field(object, "input")?)?;
+    Ok(IR::Sink {
+        input,
+        payload: SinkType::Memory,
     })
 }
 
@@ -250,6 +372,9 @@ pub fn node(alloc: Global, value: &Value) -> Result<IR, Fault>
         "SimpleProjection" => simple_projection(alloc, value),
         "Select" => select(alloc, value),
         "HStack" => hstack(alloc, value),
+        "Sort" => sort(alloc, value),
+        "Distinct" => distinct(alloc, value),
+        "Sink" => sink(value),
         "Invalid" => invalid(value),
         _ => Err(Fault::Form),
     }

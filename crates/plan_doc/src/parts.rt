@@ -3,7 +3,7 @@ ghost use Rattle.std.specs.Prelude.{◌≡◌, map};
 ghost use Rattle.serde_json.specs.Find.{get, as_null};
 ghost use Rattle.serde_json.specs.View.{view};
 ghost use Rattle.plan_doc.specs.Gives.{Gives, Shows};
-ghost use Rattle.plan_doc.specs.Parts.{entries_of, object_of, name_of, number_of, link_of, links_of, truth_of, integer_of, names_of, two_of, three_of, type_of, plain_of, column_of, columns_of, output_of, outputs_of, slice_of, options_of, count_of, has_keys as has_keys_of};
+ghost use Rattle.plan_doc.specs.Parts.{entries_of, object_of, name_of, number_of, link_of, links_of, truth_of, integer_of, truths_of, names_of, two_of, three_of, type_of, plain_of, column_of, columns_of, output_of, outputs_of, slice_of, options_of, count_of, has_keys as has_keys_of};
 
 use crate::arrays::each;
 use crate::fault::Fault;
@@ -106,6 +106,15 @@ pub fn truth(value: &Value) -> Result<bool, Fault>
     ensures { Gives result (truth_of (view value.now)) }
 {
     value.as_bool().ok_or(Fault::Form)
+}
+
+/// An array of truth values.
+#[tactic(auto, unfolding(crate::specs::Parts::truths_of))]
+pub fn truths(alloc: Global, value: &Value) -> Result<Items<bool>, Fault>
+    ensures { Gives result (truths_of (view value.now)) }
+{
+    let entries = entries(value)?;
+    each(alloc, entries, |entry| truth(entry))
 }
 
 /// A text.

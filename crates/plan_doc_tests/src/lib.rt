@@ -8,4 +8,6 @@ mod exprs;
 #[cfg(test)]
 mod further;
 #[cfg(test)]
+mod nodes;
+#[cfg(test)]
 mod tables;

@@ -1,0 +1,177 @@
+//! What sorts, distinct rows and sinks read as, and entries that are no nodes.
+
+use plan_core::{Items, Node, PlSmallStr};
+use plan_doc::{ReadError, read_document};
+use plan_expr::{ExprIR, OutputName};
+use plan_ir::IR;
+use plan_options::{DistinctOptionsIR, SinkType, SortMultipleOptions, UniqueKeepStrategy};
+use std::alloc::{AllocError, Global};
+use std::process::Abort;
+use std::test::Fail;
+
+const ONE: &str = r#"{"root":0,"nodes":[ENTRY],"exprs":[],"flags":0,"shared":false,"tables":null}"#;
+
+const SORT: &str =
+    r#"{"op":"Sort","input":1,"by":[[3,"col","a"],[4,"alias","x"]],"descending":[true,false],"nulls_last":[false],"maintain_order":true,"slice":[-3,4294967295]}"#;
+
+const UNSORTED: &str =
+    r#"{"op":"Sort","input":4294967295,"by":[],"descending":[],"nulls_last":[],"maintain_order":false,"slice":null}"#;
+
+const DISTINCT: &str =
+    r#"{"op":"Distinct","input":2,"subset":["b","a","b"],"maintain_order":true,"keep":"Any","slice":[0,1]}"#;
+
+const SINK: &str = r#"{"op":"Sink","input":5}"#;
+
+fn reads_as(rt: &impl Abort, alloc: Global, entry: &str, wanted: IR) -> Result<(), Fail> {
+    let text = ONE.replacen(alloc, "ENTRY", entry, 1)?;
+    let lp = read_document(alloc, text.as_bytes())?.lp;
+    assert_eq!(rt; lp.len(), 1);
+    assert!(rt; *lp.get(Node(0)) == wanted, "another node: {entry}");
+    Ok(())
+}
+
+fn names(alloc: Global, texts: &[&str]) -> Result<Items<PlSmallStr>, AllocError> {
+    let mut names = Items::new(alloc);
+    for text in texts {
+        names.push(PlSmallStr::new(alloc, text)?)?;
+    }
+    Ok(names)
+}
+
+fn marks(alloc: Global, given: &[bool]) -> Result<Items<bool>, AllocError> {
+    let mut marks = Items::new(alloc);
+    for mark in given {
+        marks.push(*mark)?;
+    }
+    Ok(marks)
+}
+
+// Two keys, with a direction for each, and one mark for the nulls of both.
+fn sort_of_two(alloc: Global) -> Result<IR, AllocError> {
+    let mut by_column = Items::new(alloc);
+    let column = OutputName::ColumnLhs(PlSmallStr::new(alloc, "a")?);
+    by_column.push(ExprIR::new(Node(3), column))?;
+    let alias = OutputName::Alias(PlSmallStr::new(alloc, "x")?);
+    by_column.push(ExprIR::new(Node(4), alias))?;
+    Ok(IR::Sort {
+        input: Node(1),
+        by_column,
+        slice: Some((-3, 4294967295)),
+        sort_options: SortMultipleOptions {
+            descending: marks(alloc, &[true, false])?,
+            nulls_last: marks(alloc, &[false])?,
+            multithreaded: true,
+            maintain_order: true,
+            limit: None,
+        },
+    })
+}
+
+fn sort_of_none(alloc: Global) -> IR {
+    IR::Sort {
+        input: Node(4294967295),
+        by_column: Items::new(alloc),
+        slice: None,
+        sort_options: SortMultipleOptions {
+            descending: Items::new(alloc),
+            nulls_last: Items::new(alloc),
+            multithreaded: true,
+            maintain_order: false,
+            limit: None,
+        },
+    }
+}
+
+#[test]
+fn sorts_and_sinks_read(rt: HostRuntime) -> Result<(), Fail> {
+    let alloc = rt.alloc();
+    reads_as(&rt, alloc, SORT, sort_of_two(alloc)?)?;
+    reads_as(&rt, alloc, UNSORTED, sort_of_none(alloc))?;
+    let sink = IR::Sink {
+        input: Node(5),
+        payload: SinkType::Memory,
+    };
+    reads_as(&rt, alloc, SINK, sink)
+}
+
+fn distinct(subset: Option<Items<PlSmallStr>>, keep_strategy: UniqueKeepStrategy) -> IR {
+    IR::Distinct {
+        input: Node(2),
+        options: DistinctOptionsIR {
+            subset,
+            maintain_order: true,
+            keep_strategy,
+            slice: Some((0, 1)),
+        },
+    }
+}
+
+#[test]
+fn each_kept_row_has_its_name(rt: HostRuntime) -> Result<(), Fail> {
+    let alloc = rt.alloc();
+    for (name, keep) in [
+        ("First", UniqueKeepStrategy::First),
+        ("Last", UniqueKeepStrategy::Last),
+        ("Any", UniqueKeepStrategy::Any),
+        ("None", UniqueKeepStrategy::None),
+    ] {
+        let entry = DISTINCT.replacen(alloc, "Any", name, 1)?;
+        let subset = names(alloc, &["b", "a", "b"])?;
+        reads_as(&rt, alloc, entry.as_str(), distinct(Some(subset), keep))?;
+    }
+    let entry = DISTINCT.replacen(alloc, r#"["b","a","b"]"#, "null", 1)?;
+    reads_as(
+        &rt,
+        alloc,
+        entry.as_str(),
+        distinct(None, UniqueKeepStrategy::Any),
+    )
+}
+
+fn refuses(
+    rt: &impl Abort,
+    alloc: Global,
+    entry: &str,
+    old: &str,
+    new: &str,
+) -> Result<(), AllocError> {
+    let changed = entry.replacen(alloc, old, new, 1)?;
+    let text = ONE.replacen(alloc, "ENTRY", changed.as_str(), 1)?;
+    let found = read_document(alloc, text.as_bytes()).err();
+    assert!(rt; found == Some(ReadError::Form), "not refused: {changed}");
+    Ok(())
+}
+
+#[test]
+fn other_entries_are_no_nodes(rt: HostRuntime) -> Result<(), Fail> {
+    for (entry, old, new) in [
+        (SORT, r#","slice":[-3,4294967295]"#, ""),
+        (SORT, r#""slice""#, r#""limit":null,"slice""#),
+        (SORT, r#""slice""#, r#""limit""#),
+        (SORT, r#""input":1"#, r#""input":"1""#),
+        (SORT, r#"[3,"col","a"]"#, r#""a""#),
+        (SORT, "[true,false]", "[true,1]"),
+        (SORT, "[true,false]", "true"),
+        (SORT, "[false]", "[null]"),
+        (SORT, r#""maintain_order":true"#, r#""maintain_order":null"#),
+        (SORT, "4294967295", "4294967296"),
+        (SORT, "[-3,4294967295]", "[-3]"),
+        (DISTINCT, r#","keep":"Any""#, ""),
+        (DISTINCT, r#""keep""#, r#""by":[],"keep""#),
+        (DISTINCT, r#""input":2"#, r#""input":-1"#),
+        (DISTINCT, r#"["b","a","b"]"#, r#""b""#),
+        (DISTINCT, r#"["b","a","b"]"#, r#"["b",1]"#),
+        (DISTINCT, "true", r#""true""#),
+        (DISTINCT, "Any", "any"),
+        (DISTINCT, r#""Any""#, "null"),
+        (DISTINCT, "[0,1]", "[0,-1]"),
+        (DISTINCT, "[0,1]", "[null,1]"),
+        (SINK, r#","input":5"#, ""),
+        (SINK, "5", "null"),
+        (SINK, "5", r#"5,"payload":"Memory""#),
+        (SINK, "Sink", "Unique"),
+    ] {
+        refuses(&rt, rt.alloc(), entry, old, new)?;
+    }
+    Ok(())
+}
