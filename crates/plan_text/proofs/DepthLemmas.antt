@@ -1,6 +1,6 @@
 -- A plan nests few levels, so its text reads back.
-use Rattle.std.proofs.Common.{◌≡◌, ℕ, ℤ, suc, max, ◌≤◌, List, [], ◌∷◌, map, Option, Some, None, refl, arith}
-use Rattle.serde_json.specs.Data.{Data, string, depth, items_depth}
+use Rattle.std.proofs.Common.{◌≡◌, ℕ, ℤ, suc, max, ◌≤◌, Bool, List, [], ◌∷◌, map, Option, Some, None, refl, arith}
+use Rattle.serde_json.specs.Data.{Data, boolean, string, depth, items_depth}
 use Rattle.serde_json.specs.Read.{max_depth}
 use Rattle.serde_json.specs.View.{items_of}
 use Rattle.plan_core.specs.Columns.{Columns}
@@ -18,7 +18,9 @@ use Rattle.plan_ir.specs.declared.scan.FileInfo.{FileInfo}
 use Rattle.plan_ir.specs.declared.scan.FileScan.{FileScan}
 use Rattle.plan_ir.specs.declared.scan.ScanSources.{ScanSources}
 use Rattle.plan_ir.specs.declared.scan.ScanSources.TheVariants as sources
-use Rattle.plan_text.specs.Written.{link_data, list_data, nullable_data, number_data, field_data, columns_data, names_data, output_data, outputs_data, options_data, slice_data, row_index_data, sources_data, literal_data, expr_data, slice_node_data, scan_data, frame_scan_data, made_data, node_data, plan_data}
+use Rattle.plan_options.specs.declared.distinct.DistinctOptionsIR.{DistinctOptionsIR}
+use Rattle.plan_options.specs.declared.sort.SortMultipleOptions.{SortMultipleOptions}
+use Rattle.plan_text.specs.Written.{link_data, list_data, nullable_data, number_data, field_data, columns_data, names_data, truths_data, output_data, outputs_data, options_data, slice_data, row_index_data, sources_data, literal_data, expr_data, slice_node_data, scan_data, frame_scan_data, made_data, sort_data, distinct_data, node_data, plan_data}
 
 both : (a b k : ℕ) → a ≤ k → b ≤ k → max a b ≤ k
 both a b k p q = omega arith
@@ -40,6 +42,9 @@ flat d k e = omega (arith, e)
 
 names_deep : (ns : List (List ℕ)) → depth (names_data ns) ≤ 2
 names_deep ns = let below = list_deep string 0 ns (λ n. flat (string n) 0 refl) in omega arith
+
+truths_deep : (bs : List Bool) → depth (truths_data bs) ≤ 1
+truths_deep bs = list_deep boolean 0 bs (λ b. flat (boolean b) 0 refl)
 
 columns_deep : (cs : Columns) → depth (columns_data cs) ≤ 2
 columns_deep cs = list_deep field_data 1 cs (λ f. omega arith)
@@ -92,6 +97,22 @@ made_deep op input exprs schema options =
     let all = columns_deep schema in
     omega arith
 
+sort_deep : (input : Node) (keys : List ExprIR) (slice : Option (ℤ × ℕ)) (options : SortMultipleOptions) → depth (sort_data input keys slice options) ≤ 4
+unfolding sort_data
+sort_deep input keys slice options =
+    let named = outputs_deep keys in
+    let falls = truths_deep options.descending in
+    let nulls = truths_deep options.nulls_last in
+    let some = nullable_deep slice_data 1 slice (λ r. omega arith) in
+    omega arith
+
+distinct_deep : (input : Node) (options : DistinctOptionsIR) → depth (distinct_data input options) ≤ 4
+unfolding distinct_data
+distinct_deep input options =
+    let some = nullable_deep slice_data 1 options.slice (λ r. omega arith) in
+    let told = nullable_deep names_data 2 options.subset names_deep in
+    omega arith
+
 literal_deep : (v : LiteralValue) → depth (literal_data v) ≤ 0
 literal_deep (literals.Null t) = omega arith
 literal_deep (literals.Int64 z) = omega arith
@@ -122,6 +143,9 @@ node_deep (nodes.DataFrameScan df schema output) = frame_scan_deep df schema out
 node_deep (nodes.SimpleProjection input columns) = let below = columns_deep columns in omega arith
 node_deep (nodes.Select input expr schema options) = made_deep _ input expr schema options
 node_deep (nodes.HStack input exprs schema options) = made_deep _ input exprs schema options
+node_deep (nodes.Sort input keys slice options) = sort_deep input keys slice options
+node_deep (nodes.Distinct input options) = distinct_deep input options
+node_deep (nodes.Sink input payload) = omega arith
 node_deep nodes.Invalid = omega arith
 
 pub plan_deep : (lp : List IR) (ex : List AExpr) (root : Node) → depth (plan_data lp ex root) ≤ max_depth

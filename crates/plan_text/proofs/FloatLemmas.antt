@@ -1,5 +1,5 @@
 -- No plan, listing or error has a float, so its text is known.
-use Rattle.std.proofs.Common.{◌≡◌, ℕ, ℤ, pos, negsuc, List, [], ◌∷◌, false, Option, Some, None, refl}
+use Rattle.std.proofs.Common.{◌≡◌, ℕ, ℤ, pos, negsuc, Bool, List, [], ◌∷◌, false, Option, Some, None, refl}
 use Rattle.std.specs.Prelude.{codes}
 use Rattle.serde_json.specs.Data as json
 use Rattle.serde_json.specs.Data.{Data, boolean, string, member, no_members}
@@ -20,8 +20,10 @@ use Rattle.plan_ir.specs.declared.scan.FileInfo.{FileInfo}
 use Rattle.plan_ir.specs.declared.scan.FileScan.{FileScan}
 use Rattle.plan_ir.specs.declared.scan.ScanSources.{ScanSources}
 use Rattle.plan_ir.specs.declared.scan.ScanSources.TheVariants as sources
+use Rattle.plan_options.specs.declared.distinct.DistinctOptionsIR.{DistinctOptionsIR}
+use Rattle.plan_options.specs.declared.sort.SortMultipleOptions.{SortMultipleOptions}
 use Rattle.plan_text.specs.Kinds.{place_of, format_text}
-use Rattle.plan_text.specs.Written.{link_data, integer_data, number_data, list_data, nullable_data, field_data, columns_data, names_data, output_data, outputs_data, options_data, slice_data, row_index_data, sources_data, literal_data, expr_data, slice_node_data, scan_data, frame_scan_data, made_data, node_data, plan_data, fault_data}
+use Rattle.plan_text.specs.Written.{link_data, integer_data, number_data, list_data, nullable_data, field_data, columns_data, names_data, truths_data, output_data, outputs_data, options_data, slice_data, row_index_data, sources_data, literal_data, expr_data, slice_node_data, scan_data, frame_scan_data, made_data, sort_data, distinct_data, node_data, plan_data, fault_data}
 
 -- the value has no float
 abbrev IsPlain : Data → Type 0
@@ -53,6 +55,9 @@ options_plain o = refl
 
 names_plain : (ns : List (List ℕ)) → IsPlain (names_data ns)
 names_plain ns = list_plain string ns (λ n. refl)
+
+truths_plain : (bs : List Bool) → IsPlain (truths_data bs)
+truths_plain bs = list_plain boolean bs (λ b. refl)
 
 pub columns_plain : (cs : Columns) → IsPlain (columns_data cs)
 columns_plain cs = list_plain field_data cs (λ f. refl)
@@ -111,6 +116,15 @@ made_plain : (op : List ℕ) (input : Node) (exprs : List ExprIR) (schema : Colu
 unfolding made_data
 made_plain op input exprs schema options = rw (outputs_plain exprs, options_plain options, columns_plain schema) refl
 
+sort_plain : (input : Node) (keys : List ExprIR) (slice : Option (ℤ × ℕ)) (options : SortMultipleOptions) → IsPlain (sort_data input keys slice options)
+unfolding sort_data
+sort_plain input keys slice options =
+    rw (outputs_plain keys, truths_plain options.descending, truths_plain options.nulls_last, nullable_plain slice_data slice slice_plain) refl
+
+distinct_plain : (input : Node) (options : DistinctOptionsIR) → IsPlain (distinct_data input options)
+unfolding distinct_data
+distinct_plain input options = rw (nullable_plain slice_data options.slice slice_plain, nullable_plain names_data options.subset names_plain) refl
+
 -- the same of the members of a scan, whatever their values are called
 pub scan_members_plain : (from : ScanSources) (info : FileInfo) (predicate : Option ExprIR) (output : Option Columns) (format : FileScan) (options : FileScanOptions)
     (columns hive kind op out path named reader rechunk row all slice places : Data)
@@ -132,6 +146,9 @@ node_plain (nodes.DataFrameScan df schema output) = frame_scan_plain df schema o
 node_plain (nodes.SimpleProjection input columns) = rw (columns_plain columns) refl
 node_plain (nodes.Select input expr schema options) = made_plain _ input expr schema options
 node_plain (nodes.HStack input exprs schema options) = made_plain _ input exprs schema options
+node_plain (nodes.Sort input keys slice options) = sort_plain input keys slice options
+node_plain (nodes.Distinct input options) = distinct_plain input options
+node_plain (nodes.Sink input payload) = refl
 node_plain nodes.Invalid = refl
 
 pub exprs_plain : (ex : List AExpr) → has_float (list_data expr_data ex) ≡ false

@@ -1,4 +1,4 @@
--- The texts of types, operators, aggregates, functions, formats of files, and errors.
+-- The texts of types, operators, aggregates, functions, formats of files, rows that are kept, and errors.
 use Rattle.std.specs.Prelude.{ℕ, List, None, true, false, codes}
 use Rattle.plan_core.specs.declared.data_type.DataType.{DataType}
 use Rattle.plan_core.specs.declared.data_type.DataType.TheVariants as types
@@ -17,6 +17,8 @@ use Rattle.plan_expr.specs.declared.operator.Operator.{Operator}
 use Rattle.plan_expr.specs.declared.operator.Operator.TheVariants as operators
 use Rattle.plan_ir.specs.declared.scan.FileScan.{FileScan}
 use Rattle.plan_ir.specs.declared.scan.FileScan.TheVariants as files
+use Rattle.plan_options.specs.declared.distinct.UniqueKeepStrategy.{UniqueKeepStrategy}
+use Rattle.plan_options.specs.declared.distinct.UniqueKeepStrategy.TheVariants as keeps
 
 -- the name of a type of lists
 abbrev pub list_text : PlainType → List ℕ
@@ -85,6 +87,13 @@ function_text functions.CumSum = codes "CumSum"
 -- the name of a format of files
 abbrev pub format_text : FileScan → List ℕ
 format_text files.Parquet = codes "Parquet"
+
+-- the name of which row is kept
+abbrev pub keep_text : UniqueKeepStrategy → List ℕ
+keep_text keeps.First = codes "First"
+keep_text keeps.Last = codes "Last"
+keep_text keeps.None = codes "None"
+keep_text keeps.Any = codes "Any"
 
 -- the name of an error's kind
 abbrev pub fault_text : PolarsError → List ℕ

@@ -1,5 +1,5 @@
 -- The JSON values of plans, listings, errors and schemas, and their texts: members in the byte order of their keys.
-use Rattle.std.specs.Prelude.{ℕ, ℤ, List, [], ◌∷◌, ◌++◌, map, Option, Some, None, codes}
+use Rattle.std.specs.Prelude.{ℕ, ℤ, Bool, List, [], ◌∷◌, ◌++◌, map, Option, Some, None, codes}
 use Rattle.serde_json.specs.Data as json
 use Rattle.serde_json.specs.Data.{Data, unsigned, number, boolean, string, array, object, no_items, item, no_members, member}
 use Rattle.serde_json.specs.Find.{of_integer}
@@ -26,13 +26,15 @@ use Rattle.plan_ir.specs.declared.scan.FileInfo.{FileInfo}
 use Rattle.plan_ir.specs.declared.scan.FileScan.{FileScan}
 use Rattle.plan_ir.specs.declared.scan.ScanSources.{ScanSources}
 use Rattle.plan_ir.specs.declared.scan.ScanSources.TheVariants as sources
+use Rattle.plan_options.specs.declared.distinct.DistinctOptionsIR.{DistinctOptionsIR}
+use Rattle.plan_options.specs.declared.sort.SortMultipleOptions.{SortMultipleOptions}
 use Rattle.plan_table.specs.declared.column.Column.{Column}
 use Rattle.plan_table.specs.declared.table.Table.{Table}
 use Rattle.plan_table.specs.declared.value.AnyValue.{AnyValue}
 use Rattle.plan_table.specs.declared.value.AnyValue.TheVariants as values
 use Rattle.plan_table.specs.declared.value.PlainValue.{PlainValue}
 use Rattle.plan_table.specs.declared.value.PlainValue.TheVariants as singles
-use Rattle.plan_text.specs.Kinds.{type_text, literal_text, operator_text, agg_text, function_text, format_text, fault_text, place_of}
+use Rattle.plan_text.specs.Kinds.{type_text, literal_text, operator_text, agg_text, function_text, format_text, keep_text, fault_text, place_of}
 
 -- the number of a node or of an expression
 abbrev pub link_data : Node → Data
@@ -70,6 +72,10 @@ columns_data cs = list_data field_data cs
 -- names
 abbrev pub names_data : List (List ℕ) → Data
 names_data ns = list_data string ns
+
+-- truths
+abbrev pub truths_data : List Bool → Data
+truths_data bs = list_data boolean bs
 
 -- where an output name comes from
 abbrev pub origin_text : OutputName → List ℕ
@@ -170,6 +176,27 @@ made_data op input exprs schema options = object (
     member (codes "options") (options_data options) (
     member (codes "schema") (columns_data schema) no_members)))))
 
+-- the rows of the input in the order of some keys
+unfoldable pub sort_data : Node → List ExprIR → Option (ℤ × ℕ) → SortMultipleOptions → Data
+sort_data input keys slice options = object (
+    member (codes "by") (outputs_data keys) (
+    member (codes "descending") (truths_data options.descending) (
+    member (codes "input") (link_data input) (
+    member (codes "maintain_order") (boolean options.maintain_order) (
+    member (codes "nulls_last") (truths_data options.nulls_last) (
+    member (codes "op") (string (codes "Sort")) (
+    member (codes "slice") (nullable_data slice_data slice) no_members)))))))
+
+-- of the rows that are the same in some columns one, or those that are alone
+unfoldable pub distinct_data : Node → DistinctOptionsIR → Data
+distinct_data input options = object (
+    member (codes "input") (link_data input) (
+    member (codes "keep") (string (keep_text options.keep_strategy)) (
+    member (codes "maintain_order") (boolean options.maintain_order) (
+    member (codes "op") (string (codes "Distinct")) (
+    member (codes "slice") (nullable_data slice_data options.slice) (
+    member (codes "subset") (nullable_data names_data options.subset) no_members))))))
+
 -- a node
 unfoldable pub node_data : IR → Data
 node_data (nodes.Slice input offset len) = slice_node_data input offset len
@@ -179,6 +206,9 @@ node_data (nodes.DataFrameScan df schema output) = frame_scan_data df schema out
 node_data (nodes.SimpleProjection input columns) = object (member (codes "columns") (columns_data columns) (member (codes "input") (link_data input) (member (codes "op") (string (codes "SimpleProjection")) no_members)))
 node_data (nodes.Select input expr schema options) = made_data (codes "Select") input expr schema options
 node_data (nodes.HStack input exprs schema options) = made_data (codes "HStack") input exprs schema options
+node_data (nodes.Sort input keys slice options) = sort_data input keys slice options
+node_data (nodes.Distinct input options) = distinct_data input options
+node_data (nodes.Sink input payload) = object (member (codes "input") (link_data input) (member (codes "op") (string (codes "Sink")) no_members))
 node_data nodes.Invalid = object (member (codes "op") (string (codes "Invalid")) no_members)
 
 -- a plan: its expressions, its nodes and its root

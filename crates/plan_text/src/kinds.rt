@@ -1,10 +1,11 @@
-//! The names of types, operators, aggregates, functions, formats of files, and errors.
+//! The names of types, operators, aggregates, functions, formats of files, rows that are kept, and errors.
 ghost use Rattle.std.specs.Prelude.{◌≡◌};
-ghost use Rattle.plan_text.specs.Kinds.{list_text, type_text, plain_text, literal_text, operator_text, agg_text, function_text, format_text, fault_text, place_of};
+ghost use Rattle.plan_text.specs.Kinds.{list_text, type_text, plain_text, literal_text, operator_text, agg_text, function_text, format_text, keep_text, fault_text, place_of};
 
 use plan_core::{At, DataType, PlainType, PolarsError};
 use plan_expr::{FunctionExpr, IRAggExpr, LiteralValue, Operator};
 use plan_ir::FileScan;
+use plan_options::UniqueKeepStrategy;
 
 /// The name of a type of lists in a document: `List(Int64)`, `List(String)` or `List(Boolean)`.
 fn list_name(plain: PlainType) -> &'static str
@@ -111,6 +112,18 @@ pub fn format_name(format: FileScan) -> &'static str
 {
     match format {
         FileScan::Parquet => "Parquet",
+    }
+}
+
+/// The name of which row is kept in a document: the `keep` of distinct rows.
+pub fn keep_name(keep: UniqueKeepStrategy) -> &'static str
+    ensures { result.now ≡ keep_text keep }
+{
+    match keep {
+        UniqueKeepStrategy::First => "First",
+        UniqueKeepStrategy::Last => "Last",
+        UniqueKeepStrategy::None => "None",
+        UniqueKeepStrategy::Any => "Any",
     }
 }
 

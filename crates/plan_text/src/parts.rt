@@ -2,7 +2,7 @@
 ghost use Rattle.std.specs.Prelude.{◌≡◌, IfOk};
 ghost use Rattle.serde_json.specs.Data.{string};
 ghost use Rattle.serde_json.specs.View.{view};
-ghost use Rattle.plan_text.specs.Written.{columns_data, names_data, list_data, link_data, number_data, field_data, output_data, outputs_data, options_data, literal_data, sources_data, slice_data, row_index_data, nullable_data, origin_text, name_text};
+ghost use Rattle.plan_text.specs.Written.{columns_data, names_data, truths_data, list_data, link_data, number_data, field_data, output_data, outputs_data, options_data, literal_data, sources_data, slice_data, row_index_data, nullable_data, origin_text, name_text};
 
 use crate::kinds::type_name;
 use crate::lists::each;
@@ -37,6 +37,14 @@ pub fn names(alloc: Global, names: &Items<PlSmallStr>) -> Result<Value, AllocErr
     let written = each(alloc, names.as_slice(), |name| {
         Value::try_from_str(alloc, name.as_str())
     })?;
+    Ok(Value::Array(written))
+}
+
+/// The array of truths, in order.
+pub fn truths(alloc: Global, given: &Items<bool>) -> Result<Value, AllocError>
+    ensures { IfOk result (λ v. view v ≡ truths_data given.now) }
+{
+    let written = each(alloc, given.as_slice(), |truth| Ok(Value::from(*truth)))?;
     Ok(Value::Array(written))
 }
 

@@ -2,19 +2,20 @@
 ghost use Rattle.std.specs.Prelude.{◌≡◌, IfOk};
 ghost use Rattle.serde_json.specs.View.{view};
 ghost use Rattle.plan_ir.specs.declared.ir.IR.TheVariants.{Filter, SimpleProjection};
-ghost use Rattle.plan_text.specs.Written.{node_data, slice_node_data, scan_data, frame_scan_data, made_data, list_data, plan_data};
+ghost use Rattle.plan_text.specs.Written.{node_data, slice_node_data, scan_data, frame_scan_data, made_data, sort_data, distinct_data, list_data, plan_data};
 
 use crate::exprs::exprs;
-use crate::kinds::format_name;
+use crate::kinds::{format_name, keep_name};
 use crate::lists::each_entry;
 use crate::objects::object;
 use crate::parts::{
     columns, optional_columns, optional_name, optional_names, optional_number, optional_output,
-    optional_row_index, optional_slice, options, output, outputs, sources,
+    optional_row_index, optional_slice, options, output, outputs, sources, truths,
 };
 use plan_core::{Arena, FileScanOptions, Items, Node, ProjectionOptions, Schema};
 use plan_expr::ExprIR;
 use plan_ir::{FileInfo, FileScan, IR, PlanCopy, ScanSources};
+use plan_options::{DistinctOptionsIR, SortMultipleOptions};
 use serde_json::{Value, json};
 use std::alloc::{AllocError, Global};
 
@@ -109,6 +110,54 @@ fn made(
     })
 }
 
+/// The object of a sort.
+#[tactic(auto, unfolding(crate::specs::Written::sort_data))]
+fn sort(
+    alloc: Global,
+    input: Node,
+    keys: &Items<ExprIR>,
+    slice: Option<(i64, usize)>,
+    options: &SortMultipleOptions,
+) -> Result<Value, AllocError>
+    ensures { IfOk result (λ v. view v ≡ sort_data input keys.now slice options.now) }
+{
+    let by = outputs(alloc, keys)?;
+    let descending = truths(alloc, &options.descending)?;
+    let nulls_last = truths(alloc, &options.nulls_last)?;
+    let op = Value::try_from_str(alloc, "Sort")?;
+    let slice = optional_slice(alloc, slice)?;
+    let entries = vec![in alloc;
+        ("by", by),
+        ("descending", descending),
+        ("input", Value::from(input.0)),
+        ("maintain_order", Value::Bool(options.maintain_order)),
+        ("nulls_last", nulls_last),
+        ("op", op),
+        ("slice", slice),
+    ]?;
+    object(alloc, entries)
+}
+
+/// The object of distinct rows.
+#[tactic(auto, unfolding(crate::specs::Written::distinct_data))]
+fn distinct(alloc: Global, input: Node, options: &DistinctOptionsIR) -> Result<Value, AllocError>
+    ensures { IfOk result (λ v. view v ≡ distinct_data input options.now) }
+{
+    let keep = Value::try_from_str(alloc, keep_name(options.keep_strategy))?;
+    let op = Value::try_from_str(alloc, "Distinct")?;
+    let slice = optional_slice(alloc, options.slice)?;
+    let subset = optional_names(alloc, &options.subset)?;
+    let entries = vec![in alloc;
+        ("input", Value::from(input.0)),
+        ("keep", keep),
+        ("maintain_order", Value::Bool(options.maintain_order)),
+        ("op", op),
+        ("slice", slice),
+        ("subset", subset),
+    ]?;
+    object(alloc, entries)
+}
+
 /// The object of a filter.
 #[tactic(auto, unfolding(crate::specs::Written::node_data))]
 fn filter(alloc: Global, input: Node, predicate: &ExprIR) -> Result<Value, AllocError>
@@ -145,6 +194,10 @@ pub fn node(alloc: Global, node: &IR) -> Result<Value, AllocError>
             made(alloc, "Select", *input, expr, schema, *options),
         IR::HStack { input, exprs, schema, options } =>
             made(alloc, "HStack", *input, exprs, schema, *options),
+        IR::Sort { input, by_column, slice, sort_options } =>
+            sort(alloc, *input, by_column, *slice, sort_options),
+        IR::Distinct { input, options } => distinct(alloc, *input, options),
+        IR::Sink { input, .. } => json!(in alloc; {"input": input.0, "op": "Sink"}),
         IR::Invalid => json!(in alloc; {"op": "Invalid"}),
     }
 }

@@ -6,6 +6,7 @@ use plan_core::{
 };
 use plan_expr::{AExpr, ExprIR, FunctionExpr, IRAggExpr, LiteralValue, Operator, OutputName};
 use plan_ir::{FileInfo, FileScan, IR, PlanCopy, ScanSources};
+use plan_options::{DistinctOptionsIR, SinkType, SortMultipleOptions, UniqueKeepStrategy};
 use std::alloc::{AllocError, Global};
 
 fn name(alloc: Global, text: &str) -> Result<PlSmallStr, AllocError> {
@@ -285,6 +286,81 @@ pub fn more_plan(alloc: Global) -> Result<PlanCopy, AllocError> {
         lp: more_nodes(alloc)?,
         ex: more_exprs(alloc)?,
     })
+}
+
+fn marks(alloc: Global, given: &[bool]) -> Result<Items<bool>, AllocError> {
+    let mut marks = Items::new(alloc);
+    for mark in given {
+        marks.push(*mark)?;
+    }
+    Ok(marks)
+}
+
+fn sort_of_two(alloc: Global) -> Result<IR, AllocError> {
+    let mut by_column = Items::new(alloc);
+    by_column.push(ExprIR::new(Node(0), OutputName::ColumnLhs(name(alloc, "a")?)))?;
+    by_column.push(ExprIR::new(Node(1), OutputName::Alias(name(alloc, "x")?)))?;
+    Ok(IR::Sort {
+        input: Node(2),
+        by_column,
+        slice: Some((-3, 4294967295)),
+        sort_options: SortMultipleOptions {
+            descending: marks(alloc, &[true, false])?,
+            nulls_last: marks(alloc, &[false])?,
+            multithreaded: true,
+            maintain_order: true,
+            limit: None,
+        },
+    })
+}
+
+fn sort_of_none(alloc: Global) -> IR {
+    IR::Sort {
+        input: Node(3),
+        by_column: Items::new(alloc),
+        slice: None,
+        sort_options: SortMultipleOptions {
+            descending: Items::new(alloc),
+            nulls_last: Items::new(alloc),
+            multithreaded: true,
+            maintain_order: false,
+            limit: None,
+        },
+    }
+}
+
+fn distinct(subset: Option<Items<PlSmallStr>>, keep_strategy: UniqueKeepStrategy) -> IR {
+    IR::Distinct {
+        input: Node(4),
+        options: DistinctOptionsIR {
+            subset,
+            maintain_order: true,
+            keep_strategy,
+            slice: Some((0, 1)),
+        },
+    }
+}
+
+// Two sorts, distinct rows of each kind, and a sink.
+pub fn ordered_plan(alloc: Global) -> Result<PlanCopy, AllocError> {
+    let mut plan = no_plan(alloc);
+    let _ = plan.lp.add(sort_of_two(alloc)?)?;
+    let _ = plan.lp.add(sort_of_none(alloc))?;
+    for keep in [
+        UniqueKeepStrategy::First,
+        UniqueKeepStrategy::Last,
+        UniqueKeepStrategy::None,
+        UniqueKeepStrategy::Any,
+    ] {
+        let subset = names(alloc, &["b", "a"])?;
+        let _ = plan.lp.add(distinct(Some(subset), keep))?;
+    }
+    let _ = plan.lp.add(distinct(None, UniqueKeepStrategy::Any))?;
+    let _ = plan.lp.add(IR::Sink {
+        input: Node(5),
+        payload: SinkType::Memory,
+    })?;
+    Ok(plan)
 }
 
 pub fn all_operators(alloc: Global) -> Result<PlanCopy, AllocError> {

@@ -1,6 +1,8 @@
 //! Whole texts, as they must be written.
 
-use crate::plans::{all_kinds, all_operators, full_plan, more_plan, names, schema, simple_plan};
+use crate::plans::{
+    all_kinds, all_operators, full_plan, more_plan, names, ordered_plan, schema, simple_plan,
+};
 use plan_core::{At, DataType, Node, PolarsError};
 use plan_ir::PlanCopy;
 use plan_text::{write_fault, write_listing, write_plan, write_schema};
@@ -21,6 +23,9 @@ const OPERATORS: &str =
 
 const KINDS: &str =
     r#"{"exprs":[{"falsy":3,"op":"Ternary","predicate":1,"truthy":2},{"input":4,"kind":"Count","op":"Agg"},{"input":4,"kind":"CountAll","op":"Agg"},{"inputs":[1,4],"name":"FillNull","op":"Function"},{"function":5,"op":"Window","partition_by":[3,2]},{"op":"Len"}],"nodes":[],"root":0}"#;
+
+const ORDERED: &str =
+    r#"{"exprs":[],"nodes":[{"by":[[0,"col","a"],[1,"alias","x"]],"descending":[true,false],"input":2,"maintain_order":true,"nulls_last":[false],"op":"Sort","slice":[-3,4294967295]},{"by":[],"descending":[],"input":3,"maintain_order":false,"nulls_last":[],"op":"Sort","slice":null},{"input":4,"keep":"First","maintain_order":true,"op":"Distinct","slice":[0,1],"subset":["b","a"]},{"input":4,"keep":"Last","maintain_order":true,"op":"Distinct","slice":[0,1],"subset":["b","a"]},{"input":4,"keep":"None","maintain_order":true,"op":"Distinct","slice":[0,1],"subset":["b","a"]},{"input":4,"keep":"Any","maintain_order":true,"op":"Distinct","slice":[0,1],"subset":["b","a"]},{"input":4,"keep":"Any","maintain_order":true,"op":"Distinct","slice":[0,1],"subset":null},{"input":5,"op":"Sink"}],"root":0}"#;
 
 fn is_written(
     rt: &impl Abort,
@@ -61,6 +66,12 @@ fn writes_each_operator(rt: HostRuntime) -> Result<(), AllocError> {
 fn writes_each_kind_of_expression(rt: HostRuntime) -> Result<(), AllocError> {
     let plan = all_kinds(rt.alloc())?;
     is_written(&rt, rt.alloc(), &plan, KINDS)
+}
+
+#[test]
+fn writes_sorts_distinct_rows_and_sinks(rt: HostRuntime) -> Result<(), AllocError> {
+    let plan = ordered_plan(rt.alloc())?;
+    is_written(&rt, rt.alloc(), &plan, ORDERED)
 }
 
 #[test]
