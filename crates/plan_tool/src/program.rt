@@ -1,6 +1,7 @@
 //! The program: words and a source in, a text and a status out.
 ghost use Rattle.std.specs.Prelude.{map, string_bytes};
 ghost use Rattle.plan_tool.specs.Causes.{Comes, Completes, Finishes, Follows};
+ghost use Rattle.plan_tool.specs.Limits.{byte_limit};
 
 use crate::answers::answer;
 use crate::command::{Command, command_of};
@@ -26,7 +27,7 @@ fn finish<K: Sink>(text: &[u8], sink: &mut K, answer: Status) -> Status
 /// Reads a document from the source, and writes the command's answer for it to the sink, or the text of its plan's first
 /// fault.
 fn obey<S: Source, K: Sink>(alloc: Global, command: Command, source: &mut S, sink: &mut K) -> Status
-    ensures { Follows LIMIT command (record {
+    ensures { Follows byte_limit command (record {
       given = S.left source.old;
       left = S.left source.new;
       held = K.held sink.old;
@@ -67,7 +68,7 @@ pub fn run<S: Source, K: Sink>(
     source: &mut S,
     sink: &mut K,
 ) -> Status
-    ensures comes { Comes LIMIT (map string_bytes words.now) (record {
+    ensures comes { Comes byte_limit (map string_bytes words.now) (record {
       given = S.left source.old;
       left = S.left source.new;
       held = K.held sink.old;
@@ -78,7 +79,7 @@ pub fn run<S: Source, K: Sink>(
       write_faults = K.faults sink.old;
       write_faults_now = K.faults sink.new;
     }) result }
-    ensures complete { Completes LIMIT (map string_bytes words.now) (record {
+    ensures complete { Completes byte_limit (map string_bytes words.now) (record {
       given = S.left source.old;
       left = S.left source.new;
       held = K.held sink.old;
