@@ -19,7 +19,7 @@ use Rattle.plan_expr.specs.declared.aexpr.AExpr.{AExpr}
 use Rattle.plan_expr.specs.declared.aexpr.AExpr.TheVariants.{Column, Literal, Alias, BinaryExpr, Ternary, Agg, Function, Window, Len}
 use Rattle.plan_expr.specs.declared.expr_ir.ExprIR.{ExprIR}
 use Rattle.plan_ir.specs.declared.ir.IR.{IR}
-use Rattle.plan_ir.specs.declared.ir.IR.TheVariants.{Slice, Filter, Scan, DataFrameScan, SimpleProjection, Select, HStack, Sort, Distinct, Sink, Invalid}
+use Rattle.plan_ir.specs.declared.ir.IR.TheVariants.{Slice, Filter, Scan, DataFrameScan, SimpleProjection, Select, HStack, Sort, Distinct, Sink, Union, Cache, Invalid}
 use Rattle.plan_ir.specs.Copies.{IsRenumbered, Lists}
 use Rattle.plan_ir.specs.Moved.{entries_at, moved_expr, moved_named, moved_node, new_number}
 use Rattle.plan_expr.specs.Operands.{expr_shape, operands_of}
@@ -113,6 +113,8 @@ module _ (nodes exprs : List Node) where
   inputs-moved (Sort input by_column slice sort_options) = refl
   inputs-moved (Distinct input options) = refl
   inputs-moved (Sink input payload) = refl
+  inputs-moved (Union inputs options) = refl
+  inputs-moved (Cache input id cache_hits) = refl
   inputs-moved Invalid = refl
 
   pub invalid-moved : (p : IR) → is_invalid (moved_node nodes exprs p) ≡ is_invalid p
@@ -126,6 +128,8 @@ module _ (nodes exprs : List Node) where
   invalid-moved (Sort input by_column slice sort_options) = refl
   invalid-moved (Distinct input options) = refl
   invalid-moved (Sink input payload) = refl
+  invalid-moved (Union inputs options) = refl
+  invalid-moved (Cache input id cache_hits) = refl
   invalid-moved Invalid = refl
 
   nodes-moved : (es : List ExprIR) → map (λ (e : ExprIR). e.node) (map (moved_named exprs) es) ≡ map (new_number exprs) (map (λ (e : ExprIR). e.node) es)
@@ -143,6 +147,8 @@ module _ (nodes exprs : List Node) where
   roots-moved (Sort input by_column slice sort_options) = nodes-moved by_column
   roots-moved (Distinct input options) = refl
   roots-moved (Sink input payload) = refl
+  roots-moved (Union inputs options) = refl
+  roots-moved (Cache input id cache_hits) = refl
   roots-moved Invalid = refl
 
   roots_in-moved : (t : Trees IR) → roots_in (map_roses (new_number nodes) (moved_node nodes exprs) t) ≡ map (new_number exprs) (roots_in t)
@@ -179,6 +185,8 @@ module _ (ex ex' : List AExpr) (nodes exprs : List Node) where
   op_at-moved (Sort input by_column slice sort_options) same = ap (λ (ns : List Named). sort ns slice sort_options) (all-moved by_column same)
   op_at-moved (Distinct input options) same = refl
   op_at-moved (Sink input payload) same = refl
+  op_at-moved (Union inputs options) same = refl
+  op_at-moved (Cache input id cache_hits) same = refl
   op_at-moved Invalid same = refl
 
   bare-moved : (t : Trees IR) → AllByRecursion Same (roots_in t) → bare (plans_of ex' (map_roses (new_number nodes) (moved_node nodes exprs) t)) ≡ bare (plans_of ex t)

@@ -7,7 +7,7 @@ use Rattle.plan_expr.specs.declared.aexpr.AExpr.{AExpr}
 use Rattle.plan_expr.specs.declared.expr_ir.ExprIR.{ExprIR}
 use Rattle.plan_expr.specs.Operands.{expr_shape}
 use Rattle.plan_ir.specs.declared.ir.IR.{IR}
-use Rattle.plan_ir.specs.declared.ir.IR.TheVariants.{Slice, Filter, Scan, DataFrameScan, SimpleProjection, Select, HStack, Sort, Distinct, Sink, Invalid}
+use Rattle.plan_ir.specs.declared.ir.IR.TheVariants.{Slice, Filter, Scan, DataFrameScan, SimpleProjection, Select, HStack, Sort, Distinct, Sink, Union, Cache, Invalid}
 
 -- a value that may be there, as a list
 abbrev pub list_of : {A : Type 0} → Option A → List A
@@ -26,6 +26,8 @@ inputs_of (HStack input exprs schema options) = input ∷ []
 inputs_of (Sort input by_column slice sort_options) = input ∷ []
 inputs_of (Distinct input options) = input ∷ []
 inputs_of (Sink input payload) = input ∷ []
+inputs_of (Union inputs options) = inputs
+inputs_of (Cache input id cache_hits) = input ∷ []
 inputs_of Invalid = []
 
 -- the expressions of a node, in order
@@ -40,6 +42,8 @@ exprs_of (HStack input exprs schema options) = exprs
 exprs_of (Sort input by_column slice sort_options) = by_column
 exprs_of (Distinct input options) = []
 exprs_of (Sink input payload) = []
+exprs_of (Union inputs options) = []
+exprs_of (Cache input id cache_hits) = []
 exprs_of Invalid = []
 
 -- what a node that was taken leaves behind
@@ -55,6 +59,8 @@ is_invalid (HStack input exprs schema options) = false
 is_invalid (Sort input by_column slice sort_options) = false
 is_invalid (Distinct input options) = false
 is_invalid (Sink input payload) = false
+is_invalid (Union inputs options) = false
+is_invalid (Cache input id cache_hits) = false
 
 -- a scan of files
 abbrev pub is_file_scan : IR → Bool
@@ -117,6 +123,8 @@ over_parts (HStack input own schema options) exprs inputs = HStack (get_or input
 over_parts (Sort input by_column slice sort_options) exprs inputs = Sort (get_or inputs 0 input) exprs slice sort_options
 over_parts (Distinct input options) exprs inputs = Distinct (get_or inputs 0 input) options
 over_parts (Sink input payload) exprs inputs = Sink (get_or inputs 0 input) payload
+over_parts (Union own options) exprs inputs = Union inputs options
+over_parts (Cache input id cache_hits) exprs inputs = Cache (get_or inputs 0 input) id cache_hits
 over_parts Invalid exprs inputs = Invalid
 
 -- the expressions that a copy has: a sort keeps its own keys, any other node takes these

@@ -6,6 +6,7 @@ use Rattle.plan_core.specs.declared.options.ProjectionOptions.{ProjectionOptions
 use Rattle.plan_options.specs.declared.distinct.DistinctOptionsIR.{DistinctOptionsIR}
 use Rattle.plan_options.specs.declared.sink.SinkType.{SinkType}
 use Rattle.plan_options.specs.declared.sort.SortMultipleOptions.{SortMultipleOptions}
+use Rattle.plan_options.specs.declared.union.UnionOptions.{UnionOptions}
 use Rattle.plan_core.specs.Columns.{Columns}
 use Rattle.plan_tree.specs.Stands.{Trees}
 use Rattle.plan_tree.specs.Read.{trees_at}
@@ -31,6 +32,8 @@ pub data Op : Type 0 where
   sort : (keys : List Named) → (cut : Option (ℤ × ℕ)) → (options : SortMultipleOptions) → Op
   distinct : (options : DistinctOptionsIR) → Op
   sink : (payload : SinkType) → Op
+  union : (options : UnionOptions) → Op
+  cache : (id hits : ℕ) → Op
   invalid : Op
 
 -- a plan without numbers
@@ -49,6 +52,8 @@ op_at ex (nodes.HStack input exprs schema options) = hstack (all_named_at ex exp
 op_at ex (nodes.Sort input by_column cut sort_options) = sort (all_named_at ex by_column) cut sort_options
 op_at ex (nodes.Distinct input options) = distinct options
 op_at ex (nodes.Sink input payload) = sink payload
+op_at ex (nodes.Union inputs options) = union options
+op_at ex (nodes.Cache input id cache_hits) = cache id cache_hits
 op_at ex nodes.Invalid = invalid
 
 -- the plans that trees in an arena are, each node with its number

@@ -4,7 +4,7 @@ ghost use Rattle.std.specs.Prelude.{◌≡◌, IfOk};
 use crate::scan::{FileInfo, FileScan, ScanSources};
 use plan_core::{FileScanOptions, Items, Node, ProjectionOptions, Schema, TryClone};
 use plan_expr::ExprIR;
-use plan_options::{DistinctOptionsIR, SinkType, SortMultipleOptions};
+use plan_options::{DistinctOptionsIR, SinkType, SortMultipleOptions, UnionOptions};
 use std::alloc::{AllocError, Global};
 
 /// A node of a plan; it names its inputs and its expressions by their numbers.
@@ -104,6 +104,22 @@ pub enum IR {
         input: Node,
         /// Where they go.
         payload: SinkType,
+    },
+    /// The rows of the inputs, those of one after those of another.
+    Union {
+        /// The numbers of the nodes whose rows are put together, in order.
+        inputs: Items<Node>,
+        /// Whether the rows stay in the order of the inputs, and how they are put together.
+        options: UnionOptions,
+    },
+    /// The input, whose rows are kept for all caches of one number.
+    Cache {
+        /// The number of the node whose rows are kept.
+        input: Node,
+        /// The number that caches of the same rows have in common.
+        id: u32,
+        /// How often the rows are asked for.
+        cache_hits: u32,
     },
     /// No node: what `take` leaves behind.
     Invalid,

@@ -29,8 +29,15 @@ impl Entry for IR {
             | IR::HStack { input, .. }
             | IR::Sort { input, .. }
             | IR::Distinct { input, .. }
-            | IR::Sink { input, .. } => {
+            | IR::Sink { input, .. }
+            | IR::Cache { input, .. } => {
                 out.push(*input)?;
+                Ok(())
+            }
+            IR::Union { inputs, .. } => {
+                for input in inputs.as_slice() {
+                    out.push(*input)?;
+                }
                 Ok(())
             }
             IR::Scan { .. } | IR::DataFrameScan { .. } | IR::Invalid => Ok(()),
@@ -69,6 +76,8 @@ impl IR {
             | IR::SimpleProjection { .. }
             | IR::Distinct { .. }
             | IR::Sink { .. }
+            | IR::Union { .. }
+            | IR::Cache { .. }
             | IR::Invalid => {}
         }
         Ok(exprs)
@@ -115,7 +124,13 @@ impl IR {
             | IR::HStack { input, .. }
             | IR::Sort { input, .. }
             | IR::Distinct { input, .. }
-            | IR::Sink { input, .. } => inputs.push(*input)?,
+            | IR::Sink { input, .. }
+            | IR::Cache { input, .. } => inputs.push(*input)?,
+            IR::Union { inputs: list, .. } => {
+                for input in list.as_slice() {
+                    inputs.push(*input)?;
+                }
+            }
             IR::Scan { .. } | IR::DataFrameScan { .. } | IR::Invalid => {}
         }
         Ok(inputs)
@@ -180,6 +195,15 @@ impl IR {
             IR::Sink { payload, .. } => Ok(IR::Sink {
                 input: only(inputs),
                 payload: *payload,
+            }),
+            IR::Union { options, .. } => Ok(IR::Union {
+                inputs,
+                options: *options,
+            }),
+            IR::Cache { id, cache_hits, .. } => Ok(IR::Cache {
+                input: only(inputs),
+                id: *id,
+                cache_hits: *cache_hits,
             }),
             IR::Invalid => Ok(IR::Invalid),
         }
