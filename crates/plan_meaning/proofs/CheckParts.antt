@@ -1,5 +1,5 @@
 -- What it takes that the checks on a node hold, part by part.
-use Rattle.std.proofs.Common.{◌≡◌, ℕ, suc, Bool, true, ◌||◌, List, [], ◌∷◌, ◌++◌, length, Option, sym, ap, ◌∙◌, subst, is_some, ⊎_elim}
+use Rattle.std.proofs.Common.{◌≡◌, ℕ, suc, Bool, true, ◌||◌, List, [], ◌∷◌, ◌++◌, length, Option, refl, sym, ap, ◌∙◌, subst, is_some, ⊎_elim}
 use Rattle.std.specs.List.{AllByRecursion}
 use Rattle.std.proofs.lemmas.Bool.{and_parts}
 use Rattle.plan_core.specs.declared.error.At.{At}
@@ -8,6 +8,7 @@ use Rattle.plan_core.specs.declared.error.PolarsError.TheVariants.{InvalidOperat
 use Rattle.plan_core.specs.declared.options.FileScanOptions.{FileScanOptions}
 use Rattle.plan_core.specs.Columns.{Columns, type_of, same_columns}
 use Rattle.plan_core.specs.Names.{has}
+use Rattle.plan_core.proofs.SameLemmas.{same_columns-Decides}
 use Rattle.plan_ir.specs.declared.scan.FileInfo.{FileInfo}
 use Rattle.plan_expr.specs.Exprs.{Named}
 use Rattle.plan_expr.specs.Forms.{has_form}
@@ -38,6 +39,13 @@ each_pass fault k holds (x ∷ xs) h = (h.0, each_pass fault (suc k) holds xs h.
 pub pass_each : {A : Type 0} (fault : At → PolarsError) (k : ℕ) (holds : A → Bool) (xs : List A) → AllByRecursion (λ (x : A). holds x ≡ true) xs → AllHold (each fault k holds xs)
 pass_each fault k holds [] h = tt
 pass_each fault k holds (x ∷ xs) h = (h.0, pass_each fault (suc k) holds xs h.1)
+
+-- columns that are compared and found the same are
+pub same_is : (cs ds : Columns) → same_columns cs ds ≡ true → cs ≡ ds
+same_is cs ds e = (same_columns-Decides cs ds true (sym e)).0 refl
+
+pub is_same : (cs ds : Columns) → cs ≡ ds → same_columns cs ds ≡ true
+is_same cs ds e = (same_columns-Decides cs ds (same_columns cs ds) refl).1 e
 
 -- each name of a list that passes
 pub name_passes : (P : Name → Type 0) (names : List Name) → AllByRecursion P names → (a : Name) → has names a ≡ true → P a

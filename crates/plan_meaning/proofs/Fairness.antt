@@ -8,16 +8,17 @@ use Rattle.plan_core.specs.Columns.{Columns, names_of, type_of}
 use Rattle.plan_core.specs.Names.{has, with_names, AreDistinct}
 use Rattle.plan_tree.specs.Rose.{Roses, rose, no_roses, more}
 use Rattle.plan_expr.specs.Exprs.{Named}
-use Rattle.plan_ir.specs.Plans.{Op, slice, filter, scan, frame_scan, simple_projection, select, hstack, sort, distinct, sink, invalid, Plan}
+use Rattle.plan_ir.specs.Plans.{Op, slice, filter, scan, frame_scan, simple_projection, select, hstack, sort, distinct, sink, union, cache, invalid, Plan}
 use Rattle.plan_expr.specs.Leaves.{Name, leaves}
 use Rattle.plan_meaning.specs.Exprs.{all_known, is_type}
-use Rattle.plan_meaning.specs.Typing.{is_empty, each, is_known, is_column, has_columns, names_or, columns_or, file_columns, all_read, put_out_checks, scan_name_checks, subset_checks, made_schema, schema_by, schemas, checks, AllHold, AllValid}
+use Rattle.plan_meaning.specs.Typing.{is_empty, each, is_known, is_column, has_columns, names_or, columns_or, file_columns, all_read, put_out_checks, scan_name_checks, subset_checks, made_schema, first_schema, schema_by, schemas, checks, AllHold, AllValid}
 use Rattle.plan_meaning.specs.Steps.{IsValid}
 use Rattle.plan_meaning.specs.Relating.{Asked, all, names, cached}
 use Rattle.plan_meaning.specs.Counting.{counts_rows, stand_ins, first_stand_in, stand_in_names}
-use Rattle.plan_meaning.specs.Asked.{asked_names, is_asked, set_of, with_more, kept, asks_columns, kept_exprs, selected_exprs, all_leaves, needed_names, asks_selected, asks_added, asks_stacked, asks, own_site, sites, reads, allowed, Fair, IsFair, SiteFair, AllSites}
+use Rattle.plan_meaning.specs.Asked.{asked_names, is_asked, set_of, with_more, kept, asks_columns, kept_exprs, selected_exprs, all_leaves, needed_names, asks_selected, asks_added, asks_stacked, asks_alike, asks, own_site, sites, reads, allowed, Fair, IsFair, SiteFair, AllSites}
 use Rattle.plan_meaning.proofs.NameSets.{has_cons, has_first, has_later, some-type_of, keeps_names, from_names, distinct_names, distinct_none}
 use Rattle.plan_meaning.proofs.CheckParts.{hold_front, each_pass, name_passes, known_leaf, scan_good, made_good, keys_good}
+use Rattle.plan_meaning.proofs.UnionLemmas.{union_inputs}
 use Rattle.plan_meaning.proofs.MadeColumns.{types_kept}
 use Rattle.plan_meaning.proofs.StandIns.{IsStandIn, AreStandIns, first_stands, are_stand_ins}
 use Rattle.plan_meaning.proofs.KeptExprs.{all_append, all_kept_exprs, all_selected, known_leaves, where_has, distinct_where}
@@ -140,6 +141,11 @@ FairAll [] [] = Unit {0}
 FairAll (a ∷ asked) (s ∷ ss) = IsFair a s × FairAll asked ss
 FairAll _ _ = ⊥
 
+-- what can be asked of one of several inputs with the same columns can be asked of each
+fair_alike : (a : Asked) (s : Columns) (ss : List Columns) → AllByRecursion (λ (t : Columns). t ≡ s) ss → IsFair a s → FairAll (asks_alike a ss) ss
+fair_alike a s [] h f = tt
+fair_alike a s (t ∷ ss) h f = (subst (IsFair a) (sym h.0) f, fair_alike a s ss h.1 f)
+
 -- per node: what it asks can be asked of its inputs
 pub fair_asks : (op : Op) (a : Asked) (ss : List Columns) (os : List (Option Name)) → AllHold (checks op ss) → AreStandIns os ss → IsFair a (schema_by op ss) → FairAll (asks op a ss os) ss
 fair_asks (filter predicate) a (s ∷ []) os good k f = (fair_more (leaves predicate.expr) a s (λ b i. known_leaf (leaves predicate.expr) s b good.1.0 i) f, tt)
@@ -154,6 +160,8 @@ fair_asks (hstack es stored options) a (s ∷ []) os good k f = (fair_stacked es
 fair_asks (sort keys part options) a (s ∷ []) os good k f = (fair_more (all_leaves keys) a s (λ b i. known_leaves keys s (keys_good keys s good.1).known b i) f, tt)
 fair_asks (distinct options) a (s ∷ []) os good k f = (fair_more (names_or options.subset (names_of s)) a s (λ b i. told_known options.subset s good.1 b i) f, tt)
 fair_asks (sink payload) a (s ∷ []) os good k f = (f, tt)
+fair_asks (union options) a ss os good k f = fair_alike a (first_schema ss) ss (union_inputs options ss good) f
+fair_asks (cache id hits) a (s ∷ []) os good k f = (tt, tt)
 fair_asks op a ss os good k f = absurd (cc)
 
 -- scans
@@ -228,6 +236,8 @@ site_fair (simple_projection cols) a ss good f = tt
 site_fair (sort keys part options) a ss good f = tt
 site_fair (distinct options) a ss good f = tt
 site_fair (sink payload) a ss good f = tt
+site_fair (union options) a ss good f = tt
+site_fair (cache id hits) a ss good f = tt
 site_fair invalid a ss good f = tt
 site_fair (scan sources info predicate output kind options) a (s ∷ ss) good f = cc
 

@@ -17,12 +17,14 @@ pub mod Sound
 pub mod CheckParts
 pub mod OrderLemmas
 pub mod KeptRows
+pub mod UnionLemmas
 pub mod MadeColumns
 pub mod KeptExprs
 pub mod Runs
 pub mod Refining
 pub mod Related
 pub mod Validity
+mod UnionFaults
 mod Counts
 pub mod StandIns
 pub mod Fairness

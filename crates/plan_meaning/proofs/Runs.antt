@@ -1,21 +1,22 @@
 -- What a node gives has its columns, and it gives something; so for plans.
 use Rattle.std.proofs.Common.{◌≡◌, ℕ, ◌&&◌, Bool, true, false, cond, List, [], ◌∷◌, map, Option, Some, None, is_some, unwrap_or, refl, sym, ap, subst}
-use Rattle.std.specs.List.{AllByRecursion}
+use Rattle.std.specs.List.{AllByRecursion, range_with_len}
+use Rattle.std.proofs.lemmas.List.Sorted.{IsPermutation-refl}
 use Rattle.std.proofs.lemmas.Bool.{and_parts}
 use Rattle.plan_core.specs.declared.data_type.DataType.{DataType}
 use Rattle.plan_core.specs.declared.error.PolarsError.TheVariants.{SchemaFieldNotFound, SchemaMismatch}
 use Rattle.plan_core.specs.Columns.{Columns, names_of, type_of}
 use Rattle.plan_tree.specs.Rose.{Roses, rose, no_roses, more}
 use Rattle.plan_expr.specs.Exprs.{Named}
-use Rattle.plan_ir.specs.Plans.{Op, slice, filter, scan, frame_scan, simple_projection, select, hstack, sort, distinct, sink, Plan}
+use Rattle.plan_ir.specs.Plans.{Op, slice, filter, scan, frame_scan, simple_projection, select, hstack, sort, distinct, sink, union, cache, Plan}
 use Rattle.plan_core.specs.declared.data_type.DataType.TheVariants as types
 use Rattle.plan_expr.specs.Leaves.{Name}
 use Rattle.plan_expr.specs.Naming.{name_of}
 use Rattle.plan_expr.specs.Scalars.{is_scalar}
 use Rattle.plan_expr.specs.Types.{is_plain}
 use Rattle.plan_meaning.specs.Exprs.{expr_type}
-use Rattle.plan_meaning.specs.Typing.{each, is_known, is_column, columns_or, file_columns, has_columns, put_out_checks, is_plain_type, made_schema, schema_by, schema, schemas, checks, AllHold, AllValid}
-use Rattle.plan_meaning.specs.Frames.{Frame, Column, HaveTypes, HasSchema, Holds, HoldsAll, with_columns, cut}
+use Rattle.plan_meaning.specs.Typing.{each, is_known, is_column, columns_or, file_columns, has_columns, put_out_checks, is_plain_type, first_schema, made_schema, schema_by, schema, schemas, checks, AllHold, AllValid}
+use Rattle.plan_meaning.specs.Frames.{Frame, Column, HaveTypes, HasSchema, Holds, HoldsAll, with_columns, cut, in_turn}
 use Rattle.plan_meaning.specs.Meaning.{are_alike, val, filled}
 use Rattle.plan_meaning.specs.Orders.{key_cells, rows_cmp, told_columns}
 use Rattle.plan_meaning.specs.Contents.{Contents, Source, frame_or, no_frame, handed_in, HasFrame, HasHandedIn, sources_of, frames_of, stack, FitsAt, FitsAll, Fits}
@@ -26,13 +27,9 @@ use Rattle.plan_meaning.proofs.FrameLemmas.{rows_schema, schema_holds, all_hold,
 use Rattle.plan_meaning.proofs.Sound.{val_sound, val_single, Fills, cell_fills, one_fills}
 use Rattle.plan_meaning.proofs.CheckParts.{hold_back, each_pass, scan_good, FrameGood, frame_good, made_good, keys_good}
 use Rattle.plan_meaning.proofs.KeptRows.{alike_equivalence, kept_exists}
+pub use Rattle.plan_meaning.proofs.UnionLemmas.{HaveSchemas}
+use Rattle.plan_meaning.proofs.UnionLemmas.{union_has}
 use Rattle.plan_meaning.proofs.OrderLemmas.{IsKey, rows_total, sorted_exists}
-
--- frames have these columns, one for one
-abbrev pub HaveSchemas : List Frame → List Columns → Type 0
-HaveSchemas [] [] = Unit {0}
-HaveSchemas (f ∷ fs) (s ∷ ss) = HasSchema f s × HaveSchemas fs ss
-HaveSchemas _ _ = ⊥
 
 -- a frame that has columns holds those that are among them
 among_hold : (holds : Name → DataType → Type 0) (s cs : Columns) → ((a : Name) (t : DataType) → type_of s a ≡ Some t → holds a t) → AllByRecursion (λ (c : Name × DataType). is_column s c ≡ true) cs → AllByRecursion (λ (c : Name × DataType). holds c.0 c.1) cs
@@ -142,6 +139,9 @@ step_has c (sort keys part options) (s ∷ []) (g ∷ []) f good fit has st =
 step_has c (distinct options) (s ∷ []) (g ∷ []) f good fit has st =
     subst (λ (x : Frame). HasSchema x s) (sym st.2) (rows_schema st.0 g s has.0)
 step_has c (sink payload) (s ∷ []) (g ∷ []) f good fit has st = subst (λ (x : Frame). HasSchema x s) (sym st) has.0
+step_has c (union options) ss fs f good fit has st =
+    subst (λ (x : Frame). HasSchema x (first_schema ss)) (sym st.2) (rows_schema st.0 (in_turn fs) (first_schema ss) (union_has options ss fs good has))
+step_has c (cache id hits) (s ∷ []) (g ∷ []) f good fit has st = subst (λ (x : Frame). HasSchema x s) (sym st) has.0
 step_has c op ss fs f good fit has st = absurd (first_of (search st, cc))
 
 -- per node: it gives something
@@ -163,6 +163,10 @@ step_runs c (distinct options) (s ∷ []) (g ∷ []) good fit has =
     let rows = kept_exists same (alike_equivalence (told_columns options.subset g)) g.height options.maintain_order options.keep_strategy in
     (rows_at rows.0 g, (rows.0, rows.1, refl))
 step_runs c (sink payload) (s ∷ []) (g ∷ []) good fit has = (g, refl)
+step_runs c (union options) ss fs good fit has =
+    let rows = range_with_len 0 (in_turn fs).height in
+    (rows_at rows (in_turn fs), (rows, record { permutes = IsPermutation-refl rows; in_order = λ e. refl }, refl))
+step_runs c (cache id hits) (s ∷ []) (g ∷ []) good fit has = (g, refl)
 step_runs c op ss fs good fit has = absurd (first_of (search has, cc))
 
 -- what valid plans give has their columns

@@ -21,7 +21,7 @@ fault_at : (n : Node) (c : Check) (cs : List Check) (b : Bool) → c.holds ≡ b
 fault_at n c cs true h r e = (h, r e)
 fault_at n c cs false h r e = cc
 
-all_hold_unless : (n : Node) (cs : List Check) → first_fault n cs ≡ None → AllHold cs
+pub all_hold_unless : (n : Node) (cs : List Check) → first_fault n cs ≡ None → AllHold cs
 all_hold_unless n [] e = tt
 all_hold_unless n (c ∷ cs) e = fault_at n c cs c.holds refl (all_hold_unless n cs) e
 

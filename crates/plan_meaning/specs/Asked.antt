@@ -6,7 +6,7 @@ use Rattle.plan_core.specs.Columns.{Columns, names_of, type_of}
 use Rattle.plan_core.specs.Names.{has, with_names, AreDistinct}
 use Rattle.plan_tree.specs.Rose.{Roses, rose, no_roses, more}
 use Rattle.plan_expr.specs.Exprs.{Named}
-use Rattle.plan_ir.specs.Plans.{Op, slice, filter, scan, frame_scan, simple_projection, select, hstack, sort, distinct, sink, invalid, Plan}
+use Rattle.plan_ir.specs.Plans.{Op, slice, filter, scan, frame_scan, simple_projection, select, hstack, sort, distinct, sink, union, cache, invalid, Plan}
 use Rattle.plan_expr.specs.Leaves.{Name, leaves}
 use Rattle.plan_expr.specs.Naming.{name_of}
 use Rattle.plan_meaning.specs.Typing.{is_empty, names_or, columns_or, file_columns, first_schema, schema_by, schemas}
@@ -81,6 +81,11 @@ asks_stacked es all s = all
 asks_stacked es (names wanted) s = asks_added (kept_exprs (names wanted) es) wanted s
 asks_stacked es cached s = cached
 
+-- the same asked of each input
+abbrev pub asks_alike : Asked → List Columns → List Asked
+asks_alike a [] = []
+asks_alike a (s ∷ ss) = a ∷ asks_alike a ss
+
 -- what a node asks of its inputs, by the columns of these and those that stand in for their rows
 abbrev pub asks : Op → Asked → List Columns → List (Option Name) → List Asked
 asks (slice offset len) a ss os = a ∷ []
@@ -93,6 +98,8 @@ asks (hstack exprs schema options) a ss os = asks_stacked exprs a (first_schema 
 asks (sort keys part options) a ss os = with_more (all_leaves keys) a ∷ []
 asks (distinct options) a ss os = with_more (names_or options.subset (names_of (first_schema ss))) a ∷ []
 asks (sink payload) a ss os = a ∷ []
+asks (union options) a ss os = asks_alike a ss
+asks (cache id hits) a ss os = cached ∷ []
 asks invalid a ss os = []
 
 -- the first of what is asked, everything where there is none
@@ -122,6 +129,8 @@ own_site (hstack exprs schema options) a = []
 own_site (sort keys part options) a = []
 own_site (distinct options) a = []
 own_site (sink payload) a = []
+own_site (union options) a = []
+own_site (cache id hits) a = []
 own_site invalid a = []
 
 -- the scans of plans from left to right, where each plan is asked what the list says
@@ -146,6 +155,8 @@ reads (hstack exprs schema options) = []
 reads (sort keys part options) = []
 reads (distinct options) = []
 reads (sink payload) = []
+reads (union options) = []
+reads (cache id hits) = []
 reads invalid = []
 
 -- what a scan may read for what it is asked

@@ -1,12 +1,12 @@
 -- Where a plan counts rows, and the column that stands in for the rows that are counted.
-use Rattle.std.specs.Prelude.{Bool, true, false, ◌||◌, List, [], ◌∷◌, Option, Some, None, if◌then◌else◌}
+use Rattle.std.specs.Prelude.{Bool, true, false, not, ◌&&◌, ◌||◌, List, [], ◌∷◌, Option, Some, None, if◌then◌else◌}
 use Rattle.plan_core.specs.Columns.{Columns}
 use Rattle.plan_tree.specs.Rose.{Roses, rose, no_roses, more}
 use Rattle.plan_expr.specs.Exprs.{len as row_count, Expr, Named}
 use Rattle.plan_expr.specs.Leaves.{Name}
 use Rattle.plan_expr.specs.Naming.{name_of}
 use Rattle.plan_expr.specs.Scalars.{is_scalar}
-use Rattle.plan_ir.specs.Plans.{Op, select, hstack, Plan}
+use Rattle.plan_ir.specs.Plans.{Op, select, hstack, cache, Plan}
 use Rattle.plan_meaning.specs.Typing.{first_schema}
 
 -- whether an expression is the number of rows
@@ -24,12 +24,17 @@ abbrev pub is_count : Op → Bool
 is_count (select exprs schema options) = counts_rows exprs
 is_count op = false
 
--- whether a node of some plans counts rows
+-- whether nothing below a node is looked at: below a cache nothing is
+abbrev pub is_closed : Op → Bool
+is_closed (cache id hits) = true
+is_closed op = false
+
+-- whether a node of some plans counts rows, and doesn't stand below a cache
 abbrev pub meet_count : {N : Type 0} → Roses N Op → Bool
 meet_count no_roses = false
-meet_count (more (rose n op ts) rest) = is_count op || (meet_count ts || meet_count rest)
+meet_count (more (rose n op ts) rest) = is_count op || ((not (is_closed op) && meet_count ts) || meet_count rest)
 
--- whether a node of a plan counts rows
+-- whether a node of a plan counts rows, and doesn't stand below a cache
 abbrev pub meets_count : Plan → Bool
 meets_count p = meet_count (more p no_roses)
 

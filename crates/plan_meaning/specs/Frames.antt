@@ -1,5 +1,5 @@
 -- Frames: a height and named columns of that length; rows and columns taken from them.
-use Rattle.std.specs.Prelude.{◌≡◌, ℕ, zero, suc, true, List, [], ◌∷◌, map, fold, length, Option, Some, None, replicate, unwrap_or, if◌then◌else◌}
+use Rattle.std.specs.Prelude.{◌≡◌, ℕ, zero, suc, ◌+◌, true, List, [], ◌∷◌, ◌++◌, map, fold, length, Option, Some, None, replicate, unwrap_or, if◌then◌else◌}
 use Rattle.std.specs.List.{AllByRecursion}
 use Rattle.std.specs.Str.{bytes_eq}
 use Rattle.plan_core.specs.declared.data_type.DataType.{DataType}
@@ -95,6 +95,22 @@ with_columns cs others = fold with_column cs others
 -- the frame cut to these names, in this order
 abbrev pub cut : List Name → Frame → Frame
 cut names f = table f.height names (column_or f)
+
+-- the values of columns, each followed by those of the column at its place
+abbrev pub appended_columns : List Column → List Column → List Column
+appended_columns [] ds = []
+appended_columns (c ∷ cs) [] = []
+appended_columns (c ∷ cs) (d ∷ ds) = record { name = c.name; values = c.values ++ d.values } ∷ appended_columns cs ds
+
+-- the rows of a frame, and then those of another with as many columns
+abbrev pub appended : Frame → Frame → Frame
+appended f g = record { height = f.height + g.height; columns = appended_columns f.columns g.columns }
+
+-- the rows of frames in turn
+abbrev pub in_turn : List Frame → Frame
+in_turn [] = record { height = 0; columns = [] }
+in_turn (f ∷ []) = f
+in_turn (f ∷ g ∷ fs) = appended f (in_turn (g ∷ fs))
 
 -- two frames of one height: each of these columns of the second is in the first, as it is called there
 pub record AgreeBy (now : Name → Name) (names : List Name) (f g : Frame) : Type 0 where

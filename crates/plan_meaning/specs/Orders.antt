@@ -49,6 +49,11 @@ pub record AreSorted (stable : Bool) (cmp : ℕ → ℕ → Ordering) (h : ℕ) 
   pub sorted : IsSorted cmp rows
   pub ties : stable ≡ true → IsSorted (λ i j. ordering_then (cmp i j) (nat_cmp i j)) rows
 
+-- all rows below a height, where that is asked in their order
+pub record AreAll (ordered : Bool) (h : ℕ) (rows : List ℕ) : Type 0 where
+  pub permutes : IsPermutation (range_with_len 0 h) rows
+  pub in_order : ordered ≡ true → rows ≡ range_with_len 0 h
+
 -- what the keys of a sort are over a frame
 abbrev pub key_cells : List Named → Frame → List Cell
 key_cells keys f = map (λ (e : Named). val e.expr f) keys

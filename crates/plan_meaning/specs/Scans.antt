@@ -2,7 +2,7 @@
 use Rattle.std.specs.Prelude.{◌≡◌, ℕ, true, List, [], ◌∷◌, ◌++◌}
 use Rattle.plan_core.specs.Names.{has}
 use Rattle.plan_tree.specs.Rose.{Roses, rose, no_roses, more, size}
-use Rattle.plan_ir.specs.Plans.{Op, slice, filter, scan, frame_scan, simple_projection, select, hstack, sort, distinct, sink, invalid, Plan}
+use Rattle.plan_ir.specs.Plans.{Op, slice, filter, scan, frame_scan, simple_projection, select, hstack, sort, distinct, sink, union, cache, invalid, Plan}
 use Rattle.plan_expr.specs.Leaves.{Name}
 use Rattle.plan_meaning.specs.Asked.{reads}
 
@@ -18,6 +18,8 @@ own_scan (hstack exprs schema options) = []
 own_scan (sort keys part options) = []
 own_scan (distinct options) = []
 own_scan (sink payload) = []
+own_scan (union options) = []
+own_scan (cache id hits) = []
 own_scan invalid = []
 
 -- the scans of a plan from left to right

@@ -8,6 +8,7 @@ use Rattle.plan_core.specs.declared.data_type.DataType.{DataType}
 use Rattle.plan_core.specs.declared.options.FileScanOptions.{FileScanOptions}
 use Rattle.plan_options.specs.declared.distinct.DistinctOptionsIR.{DistinctOptionsIR}
 use Rattle.plan_options.specs.declared.sort.SortMultipleOptions.{SortMultipleOptions}
+use Rattle.plan_options.specs.declared.union.UnionOptions.{UnionOptions}
 use Rattle.plan_core.specs.Columns.{Columns, type_of, with_types, same_columns}
 use Rattle.plan_core.specs.Names.{has}
 use Rattle.plan_tree.specs.Rose.{Rose, Roses, rose, no_roses, more}
@@ -15,7 +16,7 @@ use Rattle.plan_ir.specs.declared.scan.FileInfo.{FileInfo}
 use Rattle.plan_expr.specs.Exprs.{Named}
 use Rattle.plan_expr.specs.Forms.{has_form}
 use Rattle.plan_expr.specs.Types.{is_plain}
-use Rattle.plan_ir.specs.Plans.{Op, slice, filter, scan, frame_scan, simple_projection, select, hstack, sort, distinct, sink, invalid}
+use Rattle.plan_ir.specs.Plans.{Op, slice, filter, scan, frame_scan, simple_projection, select, hstack, sort, distinct, sink, union, cache, invalid}
 use Rattle.plan_expr.specs.Leaves.{Name, leaves}
 use Rattle.plan_expr.specs.Naming.{naming, may_be_named, name_of}
 use Rattle.plan_meaning.specs.Exprs.{all_known, expr_type, is_type}
@@ -57,6 +58,8 @@ schema_by (hstack exprs schema options) ss = made_schema (first_schema ss) exprs
 schema_by (sort keys part options) ss = first_schema ss
 schema_by (distinct options) ss = first_schema ss
 schema_by (sink payload) ss = first_schema ss
+schema_by (union options) ss = first_schema ss
+schema_by (cache id hits) ss = first_schema ss
 schema_by invalid ss = []
 
 -- the columns of plans, from left to right
@@ -256,6 +259,14 @@ is_built_distinct options = is_none options.slice && is_some_subset options.subs
 unfoldable pub subset_checks : Option (List Name) → Columns → List Check
 subset_checks subset s = each SchemaFieldNotFound 1 (is_known s) (names_or subset [])
 
+-- whether a union has a form that is built: some inputs, and no slice
+unfoldable pub is_built_union : UnionOptions → List Columns → Bool
+is_built_union options ss = not (is_empty ss) && is_none options.slice
+
+-- each input has the columns of the first
+unfoldable pub same_checks : List Columns → List Check
+same_checks ss = each SchemaMismatch 1 (same_columns (first_schema ss)) ss
+
 -- the checks where a node has no inputs; else one that fails
 abbrev pub with_none : List Columns → List Check → List Check
 with_none [] cs = cs
@@ -278,6 +289,8 @@ checks (hstack exprs schema options) ss = with_one ss (λ s. made_checks s exprs
 checks (sort keys part options) ss = with_one ss (λ s. check InvalidOperation 0 (is_built_sort (length keys) part options) ∷ key_checks keys s)
 checks (distinct options) ss = with_one ss (λ s. check InvalidOperation 0 (is_built_distinct options) ∷ subset_checks options.subset s)
 checks (sink payload) ss = with_one ss (λ s. [])
+checks (union options) ss = check InvalidOperation 0 (is_built_union options ss) ∷ same_checks ss
+checks (cache id hits) ss = with_one ss (λ s. [])
 checks invalid ss = check ComputeError 0 false ∷ []
 
 -- all checks hold

@@ -8,6 +8,7 @@ mod place;
 mod projection;
 mod scan;
 mod sort;
+mod union;
 
 pub use distinct::distinct_schema;
 pub use filter::{check_filter, filter_schema};
@@ -17,3 +18,4 @@ pub use place::at;
 pub use projection::{check_projection, projection_schema};
 pub use scan::{check_scan, scan_schema};
 pub use sort::{check_keys, sort_schema};
+pub use union::union_schema;

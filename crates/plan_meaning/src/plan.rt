@@ -1,8 +1,9 @@
 //! The schema of a plan, or its first fault.
-ghost use Rattle.std.specs.Prelude.{◌≡◌, [], ◌∷◌, All, IfOk, None, length};
+ghost use Rattle.std.specs.Prelude.{◌≡◌, true, [], ◌∷◌, All, IfOk, None, length};
 ghost use Rattle.plan_expr.specs.Operands.{IsExpr};
 ghost use Rattle.plan_ir.specs.Parts.{exprs_of, inputs_of, IsPlan};
 ghost use Rattle.plan_ir.specs.Plans.{op_at, plans_at};
+ghost use Rattle.plan_ir.specs.Reads.{is_scan};
 ghost use Rattle.plan_meaning.specs.PlanAt.{plan_at};
 ghost use Rattle.plan_meaning.specs.Steps.{IsValid};
 ghost use Rattle.plan_meaning.specs.TreeFaults.{tree_fault};
@@ -10,7 +11,7 @@ ghost use Rattle.plan_meaning.specs.Typed.{typed, IsNodeTyped, IsPlanTyped, IsTy
 
 use crate::check::{
     at, distinct_schema, filter_schema, frame_scan_schema, hstack_schema, projection_schema,
-    scan_schema, select_schema, sort_schema,
+    scan_schema, select_schema, sort_schema, union_schema,
 };
 use crate::tree::check_tree;
 use plan_core::{Arena, Items, Node, PolarsError, PolarsResult, Schema};
@@ -30,8 +31,9 @@ fn only(mut schemas: Items<Schema>) -> Schema
     }
 }
 
-/// The columns of a scan, of files or of a frame, or its first fault. Any other node is refused for its missing input.
+/// The columns of a scan, of files or of a frame, or its first fault.
 fn source_schema(alloc: Global, node: Node, entry: &IR, ex: &Arena<AExpr>) -> PolarsResult<Schema>
+    requires { is_scan entry.now ≡ true }
     ensures { IsNodeTyped result node (op_at ex.now entry.now) [] }
 {
     match entry {
@@ -55,7 +57,7 @@ fn source_schema(alloc: Global, node: Node, entry: &IR, ex: &Arena<AExpr>) -> Po
             schema,
             output_schema,
         } => frame_scan_schema(alloc, node, *df, schema, output_schema),
-        _ => Err(PolarsError::ComputeError(at(node, 0))),
+        _ => unreachable!(),
     }
 }
 
@@ -72,7 +74,7 @@ fn node_schema(
     ensures { IsNodeTyped result node (op_at ex.now entry.now) schemas }
 {
     match entry {
-        IR::Slice { .. } | IR::Sink { .. } => Ok(only(schemas)),
+        IR::Slice { .. } | IR::Sink { .. } | IR::Cache { .. } => Ok(only(schemas)),
         IR::Filter { predicate, .. } => filter_schema(node, predicate, ex, only(schemas)),
         IR::Scan { .. } | IR::DataFrameScan { .. } => source_schema(alloc, node, entry, ex),
         IR::SimpleProjection { columns, .. } => {
@@ -98,6 +100,7 @@ fn node_schema(
             only(schemas),
         ),
         IR::Distinct { options, .. } => distinct_schema(node, options, only(schemas)),
+        IR::Union { options, .. } => union_schema(node, options, schemas),
         IR::Invalid => Err(PolarsError::ComputeError(at(node, 0))),
     }
 }
