@@ -84,15 +84,15 @@ needs-at P (b ∷ paths) info (suc i) a e h = needs-at P paths info i a e h.1
 
 -- Nodes and plans
 
-all-both : {X : Type 0} (P : X → Type 0) (xs ys : List X) → AllByRecursion P xs → AllByRecursion P ys → AllByRecursion P (xs ++ ys)
+pub all-both : {X : Type 0} (P : X → Type 0) (xs ys : List X) → AllByRecursion P xs → AllByRecursion P ys → AllByRecursion P (xs ++ ys)
 all-both P [] ys h k = k
 all-both P (x ∷ xs) ys h k = (h.0, all-both P xs ys h.1 k)
 
-all-first : {X : Type 0} (P : X → Type 0) (xs ys : List X) → AllByRecursion P (xs ++ ys) → AllByRecursion P xs
+pub all-first : {X : Type 0} (P : X → Type 0) (xs ys : List X) → AllByRecursion P (xs ++ ys) → AllByRecursion P xs
 all-first P [] ys h = tt
 all-first P (x ∷ xs) ys h = (h.0, all-first P xs ys h.1)
 
-all-second : {X : Type 0} (P : X → Type 0) (xs ys : List X) → AllByRecursion P (xs ++ ys) → AllByRecursion P ys
+pub all-second : {X : Type 0} (P : X → Type 0) (xs ys : List X) → AllByRecursion P (xs ++ ys) → AllByRecursion P ys
 all-second P [] ys h = h
 all-second P (x ∷ xs) ys h = all-second P xs ys h.1
 

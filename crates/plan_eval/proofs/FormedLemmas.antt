@@ -9,7 +9,7 @@ use Rattle.plan_core.specs.declared.data_type.PlainType.{PlainType}
 use Rattle.plan_core.specs.declared.data_type.PlainType.TheVariants as plains
 use Rattle.plan_ir.specs.declared.scan.FileInfo.{FileInfo}
 use Rattle.plan_ir.specs.declared.scan.ScanSources.TheVariants.{Paths}
-use Rattle.plan_ir.specs.Plans.{Op, slice, filter, scan, frame_scan, simple_projection, select, hstack, sort, distinct, sink, invalid}
+use Rattle.plan_ir.specs.Plans.{Op, slice, filter, scan, frame_scan, simple_projection, select, hstack, sort, distinct, sink, union, cache, invalid}
 use Rattle.plan_expr.specs.Leaves.{Name}
 use Rattle.plan_meaning.specs.Typing.{file_columns}
 use Rattle.plan_meaning.specs.Values.{Value, AllOf}
@@ -170,4 +170,6 @@ node-frames ts (hstack exprs schema options) m f = tt
 node-frames ts (sort keys part options) m f = tt
 node-frames ts (distinct options) m f = tt
 node-frames ts (sink payload) m f = tt
+node-frames ts (union options) m f = tt
+node-frames ts (cache id hits) m f = tt
 node-frames ts invalid m f = tt

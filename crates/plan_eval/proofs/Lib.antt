@@ -4,6 +4,8 @@ mod FitLemmas
 mod FormedLemmas
 mod ColumnLemmas
 mod MadeLemmas
+mod SideLemmas
+mod TurnLemmas
 mod PlanLemmas
 mod PartLemmas
 mod DistinctLemmas

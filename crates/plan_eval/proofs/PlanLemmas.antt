@@ -1,6 +1,6 @@
 -- From the table that a node gives over those of its inputs, to the table that the plan gives.
 use Rattle.std.proofs.Common.{◌≡◌, ◌∙◌, List, [], ◌∷◌, map, Some, ap, sym, subst}
-use Rattle.std.specs.List.{slice_get}
+use Rattle.std.specs.List.{AllByRecursion, slice_get}
 use Rattle.plan_core.specs.declared.arena.Node.{Node}
 use Rattle.plan_core.specs.Columns.{Columns}
 use Rattle.plan_tree.specs.Rose.{Roses, rose, no_roses, more}
@@ -14,7 +14,8 @@ use Rattle.plan_meaning.specs.Frames.{HasSchema}
 use Rattle.plan_meaning.specs.PlanAt.{one_plan, plan_at}
 use Rattle.plan_meaning.specs.Steps.{IsValid, May, MayAll}
 use Rattle.plan_meaning.specs.Typing.{AllHold, AllValid, checks, schema, schema_by, schemas}
-use Rattle.plan_meaning.proofs.Runs.{HaveSchemas, may_has, may_have_all}
+use Rattle.plan_meaning.proofs.Runs.{may_has, may_have_all}
+use Rattle.plan_meaning.proofs.UnionLemmas.{HaveSchemas}
 use Rattle.plan_meaning.proofs.Validity.{bare-valid, one_stands, schemas-bare, valid-bare}
 use Rattle.plan_table.specs.declared.source_key.SourceKey.{SourceKey}
 use Rattle.plan_table.specs.declared.table.Table.{Table}
@@ -23,6 +24,7 @@ use Rattle.plan_eval.specs.Given.{GiveAll, Gives}
 use Rattle.plan_value.specs.Shown.{frame_of, schema_of}
 use Rattle.plan_eval.specs.Sources.{contents_of}
 use Rattle.plan_eval.proofs.FormedLemmas.{have-columns}
+use Rattle.plan_eval.proofs.TurnLemmas.{have-rows}
 
 module _ (lp : List IR) (ex : List AExpr) (n : Node) (p : IR) (h : IsPlan lp ex n) (entry : slice_get lp n.0 ≡ Some p) where
   -- a plan gives what its node gives over what its inputs give
@@ -47,12 +49,11 @@ module _ (lp : List IR) (ex : List AExpr) (n : Node) (p : IR) (h : IsPlan lp ex 
   pub inputs-frames : (c : Contents) → FitsAll c (bare (plans_at lp ex (n ∷ []))) → FitsAll c (bare (plans_at lp ex (inputs_of p)))
   inputs-frames c f = (subst (λ (r : Roses Node Op). FitsAll c (bare r)) (plan_open lp ex n p h entry) f).1
 
--- the table that a valid plan gives over contents that fit it has a value of each column's type in each row
-pub given-rows : (ts : List (SourceKey × Table)) (plans : Roses Node Op) (t : Table) → AllValid plans → FitsAll (contents_of ts) (bare plans) → GiveAll ts plans (t ∷ []) → HasRows t
-given-rows ts plans t v f g =
-    let has : HaveSchemas (frame_of t ∷ []) (schemas (bare plans)) = may_have_all (contents_of ts) (bare plans) (frame_of t ∷ []) (valid-bare plans v) f g.may in
-    let typed : HaveSchemas (frame_of t ∷ []) (schema_of t ∷ []) = subst (HaveSchemas (frame_of t ∷ [])) (schemas-bare plans ∙ sym g.types) has in
-    have-columns t.height t.columns typed.0
+-- the tables that valid plans give over contents that fit them have a value of each column's type in each row
+pub given-rows : (ts : List (SourceKey × Table)) (plans : Roses Node Op) (tables : List Table) → AllValid plans → FitsAll (contents_of ts) (bare plans) → GiveAll ts plans tables → AllByRecursion HasRows tables
+given-rows ts plans tables v f g =
+    let has : HaveSchemas (map frame_of tables) (schemas (bare plans)) = may_have_all (contents_of ts) (bare plans) (map frame_of tables) (valid-bare plans v) f g.may in
+    have-rows tables (subst (HaveSchemas (map frame_of tables)) (schemas-bare plans ∙ sym g.types) has)
 
 module _ (lp : List IR) (ex : List AExpr) (root : Node) (h : IsPlan lp ex root) where
   -- contents fit the plan at a number where they fit what stands there

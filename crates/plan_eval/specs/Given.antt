@@ -1,11 +1,13 @@
 -- The tables that nodes and plans give.
-use Rattle.std.specs.Prelude.{◌≡◌, ℕ, List, map, unwrap_or}
+use Rattle.std.specs.Prelude.{◌≡◌, ℕ, Bool, true, false, List, map, unwrap_or}
 use Rattle.plan_core.specs.Columns.{Columns, type_of}
 use Rattle.plan_core.specs.declared.data_type.DataType.{DataType}
 use Rattle.plan_core.specs.declared.data_type.DataType.TheVariants.{Int64}
 use Rattle.plan_expr.specs.declared.expr_ir.ExprIR.{ExprIR}
 use Rattle.plan_expr.specs.Naming.{name_of}
 use Rattle.plan_tree.specs.Rose.{Roses}
+use Rattle.plan_ir.specs.declared.ir.IR.{IR}
+use Rattle.plan_ir.specs.declared.ir.IR.TheVariants.{Union}
 use Rattle.plan_ir.specs.Plans.{Op, bare}
 use Rattle.plan_meaning.specs.Typing.{schema_by, schemas}
 use Rattle.plan_meaning.specs.Steps.{Step, MayAll}
@@ -17,6 +19,11 @@ use Rattle.plan_eval.specs.Sources.{contents_of}
 -- the column of an expression, with the type that its name has among stored columns
 abbrev pub stored_column : Columns → ExprIR → List ℕ × DataType
 stored_column s e = (name_of e.output_name, unwrap_or (type_of s (name_of e.output_name)) Int64)
+
+-- a union, which has as many inputs as it names
+abbrev pub is_union : IR → Bool
+is_union (Union inputs options) = true
+is_union other = false
 
 -- a node may give this table over tables of its inputs, and its columns have the node's types
 pub record Gives (ts : List (SourceKey × Table)) (op : Op) (inputs : List Table) (t : Table) : Type 0 where

@@ -15,7 +15,7 @@ ghost use Rattle.plan_table.specs.declared.source_key.SourceKey.TheVariants.{Fra
 ghost use Rattle.plan_eval.specs.Fitting.{AreFormed, HasColumns, IsMet, TablesFit, needs_by, scan_needs};
 ghost use Rattle.plan_eval.specs.Sources.{contents_of};
 
-use crate::inputs::input_of;
+use crate::inputs::inputs;
 use plan_core::{Arena, DataType, Node, PlSmallStr, Schema};
 use plan_ir::{FileInfo, IR, ScanSources};
 use plan_table::{SourceKey, Table, Tables};
@@ -127,10 +127,12 @@ fn are_met(node: Node, lp: &Arena<IR>, tables: &Tables) -> bool
     if !is_met(entry, tables) {
         return false;
     }
-    match input_of(entry) {
-        Some(input) => are_met(input, lp, tables),
-        None => true,
+    for input in inputs(entry) {
+        if !are_met(*input, lp, tables) {
+            return false;
+        }
     }
+    true
 }
 
 /// Whether tables fit the plan at `root`: each source of a scan has a table with the columns that its reader finds, and

@@ -1,13 +1,14 @@
-//! The input of a node.
+//! The inputs of a node.
 ghost use Rattle.std.specs.Prelude.{◌≡◌};
-ghost use Rattle.plan_ir.specs.Parts.{inputs_of, list_of};
+ghost use Rattle.plan_ir.specs.Parts.{inputs_of};
 
 use plan_core::Node;
 use plan_ir::IR;
+use std::slice::from_ref;
 
-/// The number of the only input of a node; a scan has none.
-pub fn input_of(node: &IR) -> Option<Node>
-    ensures { inputs_of node.now ≡ list_of result }
+/// The numbers of the inputs of a node, from first to last; a scan has none.
+pub fn inputs(node: &IR) -> &[Node]
+    ensures { result.now ≡ inputs_of node.now }
 {
     match node {
         IR::Slice { input, .. }
@@ -17,7 +18,9 @@ pub fn input_of(node: &IR) -> Option<Node>
         | IR::HStack { input, .. }
         | IR::Sort { input, .. }
         | IR::Distinct { input, .. }
-        | IR::Sink { input, .. } => Some(*input),
-        IR::Scan { .. } | IR::DataFrameScan { .. } | IR::Invalid => None,
+        | IR::Sink { input, .. }
+        | IR::Cache { input, .. } => from_ref(input),
+        IR::Union { inputs, .. } => inputs.as_slice(),
+        IR::Scan { .. } | IR::DataFrameScan { .. } | IR::Invalid => &[],
     }
 }

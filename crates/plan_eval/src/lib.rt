@@ -12,12 +12,13 @@ mod plan;
 mod projection;
 mod scan;
 mod select;
-mod sink;
 mod slice;
 mod sort;
 mod stack;
 #[cfg(test)]
 mod tests;
+mod unchanged;
+mod union;
 
 pub use fitting::fits;
 pub use plan::evaluate;

@@ -1,9 +1,11 @@
 //! The table that a plan gives over tables of its sources.
-ghost use Rattle.std.specs.Prelude.{◌≡◌, List, [], ◌∷◌, All, IfOk, length};
+ghost use Rattle.std.specs.Prelude.{◌≡◌, List, [], ◌∷◌, All, IfOk, false, length, map, true};
+ghost use Rattle.std.specs.List.{AllByRecursion};
 ghost use Rattle.plan_expr.specs.declared.aexpr.AExpr.{AExpr as AExprType};
 ghost use Rattle.plan_expr.specs.Operands.{IsExpr};
 ghost use Rattle.plan_ir.specs.Parts.{IsPlan, exprs_of, inputs_of};
 ghost use Rattle.plan_ir.specs.Plans.{bare, op_at, plans_at};
+ghost use Rattle.plan_ir.specs.Reads.{is_scan};
 ghost use Rattle.plan_meaning.specs.Contents.{Fits, FitsAll};
 ghost use Rattle.plan_meaning.specs.PlanAt.{plan_at};
 ghost use Rattle.plan_meaning.specs.Steps.{IsValid, May};
@@ -11,7 +13,7 @@ ghost use Rattle.plan_meaning.specs.Typing.{AllHold, AllValid, checks, schema};
 ghost use Rattle.plan_table.specs.declared.source_key.SourceKey.{SourceKey};
 ghost use Rattle.plan_table.specs.declared.table.Table.{Table as TableType};
 ghost use Rattle.plan_table.specs.Tables.{HasRows};
-ghost use Rattle.plan_eval.specs.Given.{GiveAll, Gives};
+ghost use Rattle.plan_eval.specs.Given.{GiveAll, Gives, is_union};
 ghost use Rattle.plan_value.specs.Shown.{frame_of, schema_of};
 ghost use Rattle.plan_eval.specs.Sources.{contents_of};
 
@@ -19,14 +21,15 @@ use crate::distinct::distinct;
 use crate::filter::filter;
 use crate::frame_scan::frame_scan;
 use crate::hstack::hstack;
-use crate::inputs::input_of;
+use crate::inputs::inputs;
 use crate::projection::projection;
 use crate::scan::scan;
 use crate::select::select;
-use crate::sink::sink;
 use crate::slice::slice;
 use crate::sort::sort;
-use plan_core::{Arena, Node};
+use crate::unchanged::unchanged;
+use crate::union::union;
+use plan_core::{Arena, Items, Node};
 use plan_expr::AExpr;
 use plan_ir::IR;
 use plan_table::{Table, Tables};
@@ -34,8 +37,7 @@ use std::alloc::{AllocError, Global};
 
 /// The table of a node that reads its source.
 fn source_table(alloc: Global, node: &IR, tables: &Tables) -> Result<Table, AllocError>
-    requires source { inputs_of node.now ≡ [] }
-    requires valid { (ex : List AExprType) × AllHold (checks (op_at ex node.now) []) }
+    requires { is_scan node.now ≡ true }
     ensures { (ex : List AExprType) → IfOk result (Gives tables.now (op_at ex node.now) []) }
 {
     match node {
@@ -54,14 +56,15 @@ fn source_table(alloc: Global, node: &IR, tables: &Tables) -> Result<Table, Allo
     }
 }
 
-/// The table of a node over the table of its input.
-fn node_table(
+/// The table of a node over the table of its only input.
+fn one_input_table(
     alloc: Global,
     node: &IR,
     table: &Table,
     ex: &Arena<AExpr>,
 ) -> Result<Table, AllocError>
     requires one { length (inputs_of node.now) ≡ 1 }
+    requires other { is_union node.now ≡ false }
     requires stand { All (λ e. IsExpr ex.now e.node) (exprs_of node.now) }
     requires valid { AllHold (checks (op_at ex.now node.now) (schema_of table.now ∷ [])) }
     requires rows { HasRows table.now }
@@ -79,8 +82,51 @@ fn node_table(
             ..
         } => sort(alloc, table, by_column.as_slice(), sort_options, ex),
         IR::Distinct { options, .. } => distinct(alloc, table, options),
-        IR::Sink { .. } => sink(alloc, table),
-        IR::Scan { .. } | IR::DataFrameScan { .. } | IR::Invalid => unreachable!(),
+        IR::Sink { .. } | IR::Cache { .. } => unchanged(alloc, table),
+        IR::Union { .. } | IR::Scan { .. } | IR::DataFrameScan { .. } | IR::Invalid => {
+            unreachable!()
+        }
+    }
+}
+
+/// The table of the only input.
+fn only(inputs: &[Table]) -> &Table
+    requires { length inputs.now ≡ 1 }
+    ensures { inputs.now ≡ result.now ∷ [] }
+{
+    match inputs {
+        [table] => table,
+        _ => unreachable!(),
+    }
+}
+
+/// The table of a node over the tables of its inputs, in order.
+fn node_table(
+    alloc: Global,
+    node: &IR,
+    inputs: &[Table],
+    ex: &Arena<AExpr>,
+    tables: &Tables,
+) -> Result<Table, AllocError>
+    requires each { length inputs.now ≡ length (inputs_of node.now) }
+    requires stand { All (λ e. IsExpr ex.now e.node) (exprs_of node.now) }
+    requires valid { AllHold (checks (op_at ex.now node.now) (map schema_of inputs.now)) }
+    requires rows { AllByRecursion HasRows inputs.now }
+    ensures { IfOk result (Gives tables.now (op_at ex.now node.now) inputs.now) }
+{
+    match node {
+        IR::Scan { .. } | IR::DataFrameScan { .. } => source_table(alloc, node, tables),
+        IR::Union { .. } => union(alloc, inputs),
+        IR::Slice { .. }
+        | IR::Filter { .. }
+        | IR::SimpleProjection { .. }
+        | IR::Select { .. }
+        | IR::HStack { .. }
+        | IR::Sort { .. }
+        | IR::Distinct { .. }
+        | IR::Sink { .. }
+        | IR::Cache { .. } => one_input_table(alloc, node, only(inputs), ex),
+        IR::Invalid => unreachable!(),
     }
 }
 
@@ -98,13 +144,11 @@ fn plan_table(
     ensures { IfOk result (λ table. GiveAll tables.now (plans_at lp.now ex.now (node ∷ [])) (table ∷ [])) }
 {
     let entry = lp.get(node);
-    match input_of(entry) {
-        Some(input) => {
-            let table = plan_table(alloc, input, lp, ex, tables)?;
-            Ok(node_table(alloc, entry, &table, ex)?)
-        }
-        None => Ok(source_table(alloc, entry, tables)?),
+    let mut given = Items::new(alloc);
+    for input in inputs(entry) {
+        given.push(plan_table(alloc, *input, lp, ex, tables)?)?;
     }
+    Ok(node_table(alloc, entry, given.as_slice(), ex, tables)?)
 }
 
 /// The table that the plan at `root` gives over tables that fit it: a frame that it may give, its columns of the plan's

@@ -1,5 +1,6 @@
 //! Tables that small plans give.
 mod orders;
+mod unions;
 mod windows;
 
 use crate::{evaluate, fits};

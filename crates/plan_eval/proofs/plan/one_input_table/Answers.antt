@@ -9,7 +9,7 @@ use Rattle.plan_ir.specs.Plans.{op_at, slice}
 use Rattle.plan_meaning.specs.Typing.{AllHold, checks}
 use Rattle.plan_value.specs.Shown.{schema_of}
 use Rattle.plan_eval.specs.Given.{Gives}
-use Rattle.plan_eval.proofs.plan.node_table.Goals as goal
+use Rattle.plan_eval.proofs.plan.one_input_table.Goals as goal
 
 pub select-requires-clause-stand : goal.select-requires-clause-stand
 select-requires-clause-stand c = rw c.as_slice.ensures (subst (λ (p : IR). All (λ (e : ExprIR). IsExpr c.args.ex.now e.node) (exprs_of p)) c.in-Select.is c.requires.stand)

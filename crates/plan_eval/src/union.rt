@@ -1,0 +1,56 @@
+//! A union gives the rows of its inputs in turn, whether or not it is to keep them in order.
+ghost use Rattle.std.specs.Prelude.{◌≡◌, List, IfOk, map};
+ghost use Rattle.std.specs.List.{AllByRecursion};
+ghost use Rattle.plan_core.specs.Columns.{HasDistinctNames};
+ghost use Rattle.plan_ir.specs.Plans.{union as union_op};
+ghost use Rattle.plan_meaning.specs.Typing.{AllHold, checks};
+ghost use Rattle.plan_options.specs.declared.union.UnionOptions.{UnionOptions};
+ghost use Rattle.plan_table.specs.declared.source_key.SourceKey.{SourceKey};
+ghost use Rattle.plan_table.specs.declared.table.Table.{Table as TableType};
+ghost use Rattle.plan_table.specs.Tables.{HasRows, types_of};
+ghost use Rattle.plan_value.specs.Shown.{frame_of, schema_of};
+ghost use Rattle.plan_eval.specs.Given.{Gives};
+ghost use Rattle.plan_eval.specs.Stacks.{shown_tables};
+
+use crate::stack::stack;
+use plan_core::{Items, Schema, TryClone};
+use plan_table::{Columns, Table};
+use std::alloc::{AllocError, Global};
+
+/// The names of columns, with their types.
+fn typed(alloc: Global, columns: &Columns) -> Result<Schema, AllocError>
+    ensures types { IfOk result (λ schema. schema ≡ types_of columns.now) }
+    ensures distinct { IfOk result (λ _. HasDistinctNames (types_of columns.now)) }
+{
+    let mut schema = Schema::new(alloc);
+    for column in columns.iter() {
+        let _ = schema.with_column(column.name.try_clone(alloc)?, column.dtype)?;
+    }
+    Ok(schema)
+}
+
+/// The tables, borrowed one by one.
+fn borrowed(alloc: Global, tables: &[Table]) -> Result<Items<&Table>, AllocError>
+    ensures { IfOk result (λ borrowed. shown_tables borrowed ≡ map frame_of tables.now) }
+{
+    let mut borrowed = Items::new(alloc);
+    for table in tables {
+        borrowed.push(table)?;
+    }
+    Ok(borrowed)
+}
+
+/// The table of the union.
+pub fn union(alloc: Global, tables: &[Table]) -> Result<Table, AllocError>
+    requires valid { (options : UnionOptions) × AllHold (checks (union_op options) (map schema_of tables.now)) }
+    requires rows { AllByRecursion HasRows tables.now }
+    ensures { (ts : List (SourceKey × TableType)) (options : UnionOptions) → IfOk result (Gives ts (union_op options) tables.now) }
+{
+    match tables {
+        [first, ..] => {
+            let schema = typed(alloc, &first.columns)?;
+            Ok(stack(alloc, borrowed(alloc, tables)?.as_slice(), &schema)?)
+        }
+        [] => unreachable!(),
+    }
+}
