@@ -19,7 +19,9 @@ use Rattle.plan_options.specs.declared.distinct.UniqueKeepStrategy.{UniqueKeepSt
 use Rattle.plan_options.specs.declared.distinct.UniqueKeepStrategy.TheVariants as keeps
 use Rattle.plan_options.specs.declared.sink.SinkType.TheVariants as sinks
 use Rattle.plan_options.specs.declared.sort.SortMultipleOptions.{SortMultipleOptions}
-use Rattle.plan_doc.specs.Parts.{◌>>=◌, object_of, nullable, name_of, number_of, link_of, integer_of, truth_of, truths_of, names_of, columns_of, output_of, outputs_of, slice_of, options_of}
+use Rattle.plan_options.specs.declared.union.UnionOptions.{UnionOptions}
+use Rattle.plan_options.specs.Union.{default_union}
+use Rattle.plan_doc.specs.Parts.{◌>>=◌, object_of, nullable, name_of, number_of, link_of, links_of, integer_of, truth_of, truths_of, names_of, columns_of, output_of, outputs_of, slice_of, options_of}
 use Rattle.plan_doc.specs.Built.{one_path, null_fields}
 
 -- some rows of the input, one after another
@@ -163,6 +165,46 @@ sink_of d = do
   i ← link_of input
   Some (nodes.Sink i sinks.Memory)
 
+-- the keys of a union
+unfoldable pub union_keys : List (List ℕ)
+union_keys = codes "flattened" ∷ codes "inputs" ∷ codes "maintain_order" ∷ codes "op" ∷ codes "parallel" ∷ codes "rechunk" ∷ codes "slice" ∷ []
+
+-- how inputs are put together; the rest is as by default
+unfoldable pub union_options_of : Data → Option UnionOptions
+union_options_of o = do
+  slice ← get (codes "slice") o
+  s ← nullable slice_of slice
+  parallel ← get (codes "parallel") o
+  p ← truth_of parallel
+  flattened ← get (codes "flattened") o
+  f ← truth_of flattened
+  rechunk ← get (codes "rechunk") o
+  r ← truth_of rechunk
+  maintain_order ← get (codes "maintain_order") o
+  m ← truth_of maintain_order
+  Some (record default_union { slice = s; parallel = p; flattened_by_opt = f; rechunk = r; maintain_order = m })
+
+-- the rows of the inputs, however many, those of one after those of another
+unfoldable pub union_of : Data → Option IR
+union_of d = do
+  o ← object_of union_keys d
+  inputs ← get (codes "inputs") o
+  is ← links_of inputs
+  options ← union_options_of o
+  Some (nodes.Union is options)
+
+-- the input, whose rows are kept for all caches of one number
+unfoldable pub cache_of : Data → Option IR
+cache_of d = do
+  o ← object_of (codes "hits" ∷ codes "id" ∷ codes "input" ∷ codes "op" ∷ []) d
+  input ← get (codes "input") o
+  i ← link_of input
+  id ← get (codes "id") o
+  n ← number_of id
+  hits ← get (codes "hits") o
+  h ← number_of hits
+  Some (nodes.Cache i n h)
+
 -- the columns of a frame that is handed in
 unfoldable pub frame_scan_of : Data → Option IR
 frame_scan_of d = do
@@ -258,4 +300,6 @@ node_of d = do
       if bytes_eq s (codes "Sort") then sort_of d else (
       if bytes_eq s (codes "Distinct") then distinct_of d else (
       if bytes_eq s (codes "Sink") then sink_of d else (
-      if bytes_eq s (codes "Invalid") then invalid_of d else None))))))))))
+      if bytes_eq s (codes "Union") then union_of d else (
+      if bytes_eq s (codes "Cache") then cache_of d else (
+      if bytes_eq s (codes "Invalid") then invalid_of d else None))))))))))))

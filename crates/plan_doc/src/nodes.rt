@@ -3,7 +3,7 @@ ghost use Rattle.std.specs.Prelude.{◌≡◌};
 ghost use Rattle.serde_json.specs.View.{view};
 ghost use Rattle.plan_doc.specs.Gives.{Gives, Shows};
 ghost use Rattle.plan_doc.specs.Parts.{object_of};
-ghost use Rattle.plan_doc.specs.Nodes.{slice_node_of, filter_of, simple_projection_of, made_keys, made_of, select_of, hstack_of, sort_keys, sort_options_of, sort_of, keep_of, distinct_keys, distinct_options_of, distinct_of, sink_of, frame_scan_of, invalid_of, kind_of, sources_of, files_of, file_info_of, file_options_of, scan_keys, scan_of, node_of};
+ghost use Rattle.plan_doc.specs.Nodes.{slice_node_of, filter_of, simple_projection_of, made_keys, made_of, select_of, hstack_of, sort_keys, sort_options_of, sort_of, keep_of, distinct_keys, distinct_options_of, distinct_of, sink_of, union_keys, union_options_of, union_of, cache_of, frame_scan_of, invalid_of, kind_of, sources_of, files_of, file_info_of, file_options_of, scan_keys, scan_of, node_of};
 
 use crate::built::{null_fields, one_path};
 use crate::fault::Fault;
@@ -11,13 +11,15 @@ use crate::optional::{
     optional_columns, optional_names, optional_number, optional_output, optional_slice,
 };
 use crate::parts::{
-    columns, field, integer, link, names, number, object, options, output, outputs, text, truth,
-    truths,
+    columns, field, integer, link, links, names, number, object, options, output, outputs, text,
+    truth, truths,
 };
 use plan_core::{FileScanOptions, Items, ProjectionOptions, Schema};
 use plan_expr::ExprIR;
 use plan_ir::{FileInfo, FileScan, IR, ScanSources};
-use plan_options::{DistinctOptionsIR, SinkType, SortMultipleOptions, UniqueKeepStrategy};
+use plan_options::{
+    DistinctOptionsIR, SinkType, SortMultipleOptions, UnionOptions, UniqueKeepStrategy,
+};
 use serde_json::Value;
 use std::alloc::Global;
 
@@ -226,6 +228,72 @@ fn sink(value: &Value) -> Result<IR, Fault>
     })
 }
 
+/// An object with the keys of a union and no other.
+#[tactic(auto, unfolding(crate::specs::Nodes::union_keys))]
+fn union_object(value: &Value) -> Result<&Value, Fault>
+    ensures { Shows (λ v. view v.now) result (object_of union_keys (view value.now)) }
+{
+    object(
+        value,
+        &[
+            "flattened",
+            "inputs",
+            "maintain_order",
+            "op",
+            "parallel",
+            "rechunk",
+            "slice",
+        ],
+    )
+}
+
+/// How inputs are put together, from the object of a union; what a document can't say is as by default.
+#[tactic(auto, unfolding(crate::specs::Nodes::union_options_of))]
+fn union_options(object: &Value) -> Result<UnionOptions, Fault>
+    ensures { Gives result (union_options_of (view object.now)) }
+{
+    let slice = optional_slice(field(object, "slice")?)?;
+    let parallel = truth(field(object, "parallel")?)?;
+    let flattened_by_opt = truth(field(object, "flattened")?)?;
+    let rechunk = truth(field(object, "rechunk")?)?;
+    let maintain_order = truth(field(object, "maintain_order")?)?;
+    Ok(UnionOptions {
+        slice,
+        parallel,
+        flattened_by_opt,
+        rechunk,
+        maintain_order,
+        ..UnionOptions::default()
+    })
+}
+
+/// The union of an entry, however many its inputs are.
+#[tactic(auto, unfolding(crate::specs::Nodes::union_of))]
+fn union(alloc: Global, value: &Value) -> Result<IR, Fault>
+    ensures { Gives result (union_of (view value.now)) }
+{
+    let object = union_object(value)?;
+    let inputs = links(alloc, field(object, "inputs")?)?;
+    let options = union_options(object)?;
+    Ok(IR::Union { inputs, options })
+}
+
+/// The cache of an entry.
+#[tactic(auto, unfolding(crate::specs::Nodes::cache_of))]
+fn cache(value: &Value) -> Result<IR, Fault>
+    ensures { Gives result (cache_of (view value.now)) }
+{
+    let object = object(value, &["hits", "id", "input", "op"])?;
+    let input = link(field(object, "input")?)?;
+    let id = number(field(object, "id")?)?;
+    let cache_hits = number(field(object, "hits")?)?;
+    Ok(IR::Cache {
+        input,
+        id,
+        cache_hits,
+    })
+}
+
 /// The scan of a frame of an entry.
 #[tactic(auto, unfolding(crate::specs::Nodes::frame_scan_of))]
 fn frame_scan(alloc: Global, value: &Value) -> Result<IR, Fault>
@@ -375,6 +443,8 @@ pub fn node(alloc: Global, value: &Value) -> Result<IR, Fault>
         "Sort" => sort(alloc, value),
         "Distinct" => distinct(alloc, value),
         "Sink" => sink(value),
+        "Union" => union(alloc, value),
+        "Cache" => cache(value),
         "Invalid" => invalid(value),
         _ => Err(Fault::Form),
     }

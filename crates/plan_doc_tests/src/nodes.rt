@@ -1,10 +1,12 @@
-//! What sorts, distinct rows and sinks read as, and entries that are no nodes.
+//! What sorts, distinct rows, sinks, unions and caches read as, and entries that are no nodes.
 
 use plan_core::{Items, Node, PlSmallStr};
 use plan_doc::{ReadError, read_document};
 use plan_expr::{ExprIR, OutputName};
 use plan_ir::IR;
-use plan_options::{DistinctOptionsIR, SinkType, SortMultipleOptions, UniqueKeepStrategy};
+use plan_options::{
+    DistinctOptionsIR, SinkType, SortMultipleOptions, UnionOptions, UniqueKeepStrategy,
+};
 use std::alloc::{AllocError, Global};
 use std::process::Abort;
 use std::test::Fail;
@@ -21,6 +23,16 @@ const DISTINCT: &str =
     r#"{"op":"Distinct","input":2,"subset":["b","a","b"],"maintain_order":true,"keep":"Any","slice":[0,1]}"#;
 
 const SINK: &str = r#"{"op":"Sink","input":5}"#;
+
+const UNION: &str =
+    r#"{"op":"Union","inputs":[3,1,3],"slice":[-3,4294967295],"parallel":true,"flattened":true,"rechunk":false,"maintain_order":false}"#;
+
+const NO_UNION: &str =
+    r#"{"op":"Union","inputs":[],"slice":null,"parallel":false,"flattened":true,"rechunk":false,"maintain_order":true}"#;
+
+const CACHE: &str = r#"{"op":"Cache","input":2,"id":7,"hits":4294967295}"#;
+
+const NEVER_HIT: &str = r#"{"op":"Cache","input":4294967295,"id":4294967295,"hits":0}"#;
 
 fn reads_as(rt: &impl Abort, alloc: Global, entry: &str, wanted: IR) -> Result<(), Fail> {
     let text = ONE.replacen(alloc, "ENTRY", entry, 1)?;
@@ -128,6 +140,53 @@ fn each_kept_row_has_its_name(rt: HostRuntime) -> Result<(), Fail> {
     )
 }
 
+fn union(inputs: Items<Node>, slice: Option<(i64, usize)>, parallel: bool) -> IR {
+    IR::Union {
+        inputs,
+        options: UnionOptions {
+            slice,
+            rows: (None, 0),
+            parallel,
+            from_partitioned_ds: false,
+            flattened_by_opt: true,
+            rechunk: false,
+            maintain_order: !parallel,
+        },
+    }
+}
+
+// An input that comes twice, and no input.
+#[test]
+fn unions_read(rt: HostRuntime) -> Result<(), Fail> {
+    let alloc = rt.alloc();
+    let mut inputs = Items::new(alloc);
+    for input in [3, 1, 3] {
+        inputs.push(Node(input))?;
+    }
+    reads_as(
+        &rt,
+        alloc,
+        UNION,
+        union(inputs, Some((-3, 4294967295)), true),
+    )?;
+    reads_as(&rt, alloc, NO_UNION, union(Items::new(alloc), None, false))
+}
+
+fn cache(input: usize, id: u32, cache_hits: u32) -> IR {
+    IR::Cache {
+        input: Node(input),
+        id,
+        cache_hits,
+    }
+}
+
+#[test]
+fn caches_read(rt: HostRuntime) -> Result<(), Fail> {
+    let alloc = rt.alloc();
+    reads_as(&rt, alloc, CACHE, cache(2, 7, 4294967295))?;
+    reads_as(&rt, alloc, NEVER_HIT, cache(4294967295, 4294967295, 0))
+}
+
 fn refuses(
     rt: &impl Abort,
     alloc: Global,
@@ -170,6 +229,55 @@ fn other_entries_are_no_nodes(rt: HostRuntime) -> Result<(), Fail> {
         (SINK, "5", "null"),
         (SINK, "5", r#"5,"payload":"Memory""#),
         (SINK, "Sink", "Unique"),
+    ] {
+        refuses(&rt, rt.alloc(), entry, old, new)?;
+    }
+    Ok(())
+}
+
+#[test]
+fn other_entries_are_no_unions(rt: HostRuntime) -> Result<(), Fail> {
+    for (entry, old, new) in [
+        (UNION, r#","rechunk":false"#, ""),
+        (UNION, r#""inputs":[3,1,3],"#, ""),
+        (UNION, r#""slice""#, r#""rows":[null,0],"slice""#),
+        (UNION, r#""flattened""#, r#""from_partitioned_ds""#),
+        (UNION, "[3,1,3]", "3"),
+        (UNION, "[3,1,3]", "null"),
+        (UNION, "[3,1,3]", r#"[3,"1",3]"#),
+        (UNION, "[3,1,3]", "[3,1,-3]"),
+        (UNION, "[3,1,3]", "[4294967296]"),
+        (UNION, "[-3,4294967295]", "[-3,4294967296]"),
+        (UNION, "[-3,4294967295]", "[-3]"),
+        (UNION, "[-3,4294967295]", "true"),
+        (UNION, r#""parallel":true"#, r#""parallel":1"#),
+        (UNION, r#""flattened":true"#, r#""flattened":null"#),
+        (UNION, r#""rechunk":false"#, r#""rechunk":"false""#),
+        (
+            UNION,
+            r#""maintain_order":false"#,
+            r#""maintain_order":[false]"#,
+        ),
+        (NO_UNION, r#""inputs":[]"#, r#""input":0"#),
+    ] {
+        refuses(&rt, rt.alloc(), entry, old, new)?;
+    }
+    Ok(())
+}
+
+#[test]
+fn other_entries_are_no_caches(rt: HostRuntime) -> Result<(), Fail> {
+    for (entry, old, new) in [
+        (CACHE, r#","hits":4294967295"#, ""),
+        (CACHE, r#","id":7"#, ""),
+        (CACHE, r#""id""#, r#""schema":[],"id""#),
+        (CACHE, r#""hits""#, r#""cache_hits""#),
+        (CACHE, r#""input":2"#, r#""input":[2]"#),
+        (CACHE, r#""id":7"#, r#""id":"7""#),
+        (CACHE, r#""id":7"#, r#""id":-1"#),
+        (CACHE, r#""id":7"#, r#""id":4294967296"#),
+        (CACHE, "4294967295", "4294967296"),
+        (CACHE, "4294967295", "null"),
     ] {
         refuses(&rt, rt.alloc(), entry, old, new)?;
     }
