@@ -20,7 +20,8 @@ use Rattle.plan_ir.specs.declared.scan.ScanSources.{ScanSources}
 use Rattle.plan_ir.specs.declared.scan.ScanSources.TheVariants as sources
 use Rattle.plan_options.specs.declared.distinct.DistinctOptionsIR.{DistinctOptionsIR}
 use Rattle.plan_options.specs.declared.sort.SortMultipleOptions.{SortMultipleOptions}
-use Rattle.plan_text.specs.Written.{link_data, list_data, nullable_data, number_data, field_data, columns_data, names_data, truths_data, output_data, outputs_data, options_data, slice_data, row_index_data, sources_data, literal_data, expr_data, slice_node_data, scan_data, frame_scan_data, made_data, sort_data, distinct_data, node_data, plan_data}
+use Rattle.plan_options.specs.declared.union.UnionOptions.{UnionOptions}
+use Rattle.plan_text.specs.Written.{link_data, list_data, nullable_data, number_data, field_data, columns_data, names_data, truths_data, output_data, outputs_data, options_data, slice_data, row_index_data, sources_data, literal_data, expr_data, slice_node_data, scan_data, frame_scan_data, made_data, sort_data, distinct_data, union_data, cache_data, node_data, plan_data}
 
 both : (a b k : ℕ) → a ≤ k → b ≤ k → max a b ≤ k
 both a b k p q = omega arith
@@ -122,6 +123,17 @@ literal_deep (literals.Boolean b) = omega arith
 links_deep : (ns : List Node) → depth (list_data link_data ns) ≤ 1
 links_deep ns = list_deep link_data 0 ns (λ n. flat (link_data n) 0 refl)
 
+union_deep : (inputs : List Node) (options : UnionOptions) → depth (union_data inputs options) ≤ 4
+unfolding union_data
+union_deep inputs options =
+    let numbers = links_deep inputs in
+    let some = nullable_deep slice_data 1 options.slice (λ r. omega arith) in
+    omega arith
+
+cache_deep : (input : Node) (id hits : ℕ) → depth (cache_data input id hits) ≤ 4
+unfolding cache_data
+cache_deep input id hits = omega arith
+
 expr_deep : (e : AExpr) → depth (expr_data e) ≤ 4
 unfolding expr_data
 expr_deep (exprs.Column s) = omega arith
@@ -146,6 +158,8 @@ node_deep (nodes.HStack input exprs schema options) = made_deep _ input exprs sc
 node_deep (nodes.Sort input keys slice options) = sort_deep input keys slice options
 node_deep (nodes.Distinct input options) = distinct_deep input options
 node_deep (nodes.Sink input payload) = omega arith
+node_deep (nodes.Union inputs options) = union_deep inputs options
+node_deep (nodes.Cache input id hits) = cache_deep input id hits
 node_deep nodes.Invalid = omega arith
 
 pub plan_deep : (lp : List IR) (ex : List AExpr) (root : Node) → depth (plan_data lp ex root) ≤ max_depth

@@ -22,8 +22,9 @@ use Rattle.plan_ir.specs.declared.scan.ScanSources.{ScanSources}
 use Rattle.plan_ir.specs.declared.scan.ScanSources.TheVariants as sources
 use Rattle.plan_options.specs.declared.distinct.DistinctOptionsIR.{DistinctOptionsIR}
 use Rattle.plan_options.specs.declared.sort.SortMultipleOptions.{SortMultipleOptions}
+use Rattle.plan_options.specs.declared.union.UnionOptions.{UnionOptions}
 use Rattle.plan_text.specs.Kinds.{place_of, format_text}
-use Rattle.plan_text.specs.Written.{link_data, integer_data, number_data, list_data, nullable_data, field_data, columns_data, names_data, truths_data, output_data, outputs_data, options_data, slice_data, row_index_data, sources_data, literal_data, expr_data, slice_node_data, scan_data, frame_scan_data, made_data, sort_data, distinct_data, node_data, plan_data, fault_data}
+use Rattle.plan_text.specs.Written.{link_data, integer_data, number_data, list_data, nullable_data, field_data, columns_data, names_data, truths_data, output_data, outputs_data, options_data, slice_data, row_index_data, sources_data, literal_data, expr_data, slice_node_data, scan_data, frame_scan_data, made_data, sort_data, distinct_data, union_data, cache_data, node_data, plan_data, fault_data}
 
 -- the value has no float
 abbrev IsPlain : Data → Type 0
@@ -125,6 +126,14 @@ distinct_plain : (input : Node) (options : DistinctOptionsIR) → IsPlain (disti
 unfolding distinct_data
 distinct_plain input options = rw (nullable_plain slice_data options.slice slice_plain, nullable_plain names_data options.subset names_plain) refl
 
+union_plain : (inputs : List Node) (options : UnionOptions) → IsPlain (union_data inputs options)
+unfolding union_data
+union_plain inputs options = rw (links_plain inputs, nullable_plain slice_data options.slice slice_plain) refl
+
+cache_plain : (input : Node) (id hits : ℕ) → IsPlain (cache_data input id hits)
+unfolding cache_data
+cache_plain input id hits = refl
+
 -- the same of the members of a scan, whatever their values are called
 pub scan_members_plain : (from : ScanSources) (info : FileInfo) (predicate : Option ExprIR) (output : Option Columns) (format : FileScan) (options : FileScanOptions)
     (columns hive kind op out path named reader rechunk row all slice places : Data)
@@ -149,6 +158,8 @@ node_plain (nodes.HStack input exprs schema options) = made_plain _ input exprs 
 node_plain (nodes.Sort input keys slice options) = sort_plain input keys slice options
 node_plain (nodes.Distinct input options) = distinct_plain input options
 node_plain (nodes.Sink input payload) = refl
+node_plain (nodes.Union inputs options) = union_plain inputs options
+node_plain (nodes.Cache input id hits) = cache_plain input id hits
 node_plain nodes.Invalid = refl
 
 pub exprs_plain : (ex : List AExpr) → has_float (list_data expr_data ex) ≡ false

@@ -28,6 +28,7 @@ use Rattle.plan_ir.specs.declared.scan.ScanSources.{ScanSources}
 use Rattle.plan_ir.specs.declared.scan.ScanSources.TheVariants as sources
 use Rattle.plan_options.specs.declared.distinct.DistinctOptionsIR.{DistinctOptionsIR}
 use Rattle.plan_options.specs.declared.sort.SortMultipleOptions.{SortMultipleOptions}
+use Rattle.plan_options.specs.declared.union.UnionOptions.{UnionOptions}
 use Rattle.plan_table.specs.declared.column.Column.{Column}
 use Rattle.plan_table.specs.declared.table.Table.{Table}
 use Rattle.plan_table.specs.declared.value.AnyValue.{AnyValue}
@@ -197,6 +198,25 @@ distinct_data input options = object (
     member (codes "slice") (nullable_data slice_data options.slice) (
     member (codes "subset") (nullable_data names_data options.subset) no_members))))))
 
+-- the rows of the inputs, those of one after those of another
+unfoldable pub union_data : List Node → UnionOptions → Data
+union_data inputs options = object (
+    member (codes "flattened") (boolean options.flattened_by_opt) (
+    member (codes "inputs") (list_data link_data inputs) (
+    member (codes "maintain_order") (boolean options.maintain_order) (
+    member (codes "op") (string (codes "Union")) (
+    member (codes "parallel") (boolean options.parallel) (
+    member (codes "rechunk") (boolean options.rechunk) (
+    member (codes "slice") (nullable_data slice_data options.slice) no_members)))))))
+
+-- the input, whose rows are kept for all caches of one number
+unfoldable pub cache_data : Node → ℕ → ℕ → Data
+cache_data input id hits = object (
+    member (codes "hits") (number_data hits) (
+    member (codes "id") (number_data id) (
+    member (codes "input") (link_data input) (
+    member (codes "op") (string (codes "Cache")) no_members))))
+
 -- a node
 unfoldable pub node_data : IR → Data
 node_data (nodes.Slice input offset len) = slice_node_data input offset len
@@ -209,6 +229,8 @@ node_data (nodes.HStack input exprs schema options) = made_data (codes "HStack")
 node_data (nodes.Sort input keys slice options) = sort_data input keys slice options
 node_data (nodes.Distinct input options) = distinct_data input options
 node_data (nodes.Sink input payload) = object (member (codes "input") (link_data input) (member (codes "op") (string (codes "Sink")) no_members))
+node_data (nodes.Union inputs options) = union_data inputs options
+node_data (nodes.Cache input id hits) = cache_data input id hits
 node_data nodes.Invalid = object (member (codes "op") (string (codes "Invalid")) no_members)
 
 -- a plan: its expressions, its nodes and its root

@@ -2,24 +2,16 @@
 ghost use Rattle.std.specs.Prelude.{◌≡◌, IfOk};
 ghost use Rattle.serde_json.specs.View.{view};
 ghost use Rattle.plan_expr.specs.declared.aexpr.AExpr.TheVariants.{BinaryExpr, Ternary, Agg, Function, Window};
-ghost use Rattle.plan_text.specs.Written.{expr_data, link_data, list_data};
+ghost use Rattle.plan_text.specs.Written.{expr_data, list_data};
 
 use crate::kinds::{agg_name, function_name, literal_type, operator_name};
-use crate::lists::{each, each_entry};
-use crate::parts::literal;
+use crate::lists::each_entry;
+use crate::parts::{links, literal};
 use plan_core::{Arena, Items, Node};
 use plan_expr::{AExpr, FunctionExpr, IRAggExpr, Operator};
 use plan_options::FunctionOptions;
 use serde_json::{Value, json};
 use std::alloc::{AllocError, Global};
-
-/// The array of the numbers of expressions, in order.
-fn links(alloc: Global, nodes: &Items<Node>) -> Result<Value, AllocError>
-    ensures { IfOk result (λ v. view v ≡ list_data link_data nodes.now) }
-{
-    let written = each(alloc, nodes.as_slice(), |node| Ok(Value::from(node.0)))?;
-    Ok(Value::Array(written))
-}
 
 /// The object of a binary expression.
 #[tactic(auto, unfolding(crate::specs::Written::expr_data))]

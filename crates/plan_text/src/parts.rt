@@ -48,6 +48,14 @@ pub fn truths(alloc: Global, given: &Items<bool>) -> Result<Value, AllocError>
     Ok(Value::Array(written))
 }
 
+/// The array of the numbers of nodes or of expressions, in order.
+pub fn links(alloc: Global, nodes: &Items<Node>) -> Result<Value, AllocError>
+    ensures { IfOk result (λ v. view v ≡ list_data link_data nodes.now) }
+{
+    let written = each(alloc, nodes.as_slice(), |node| Ok(Value::from(node.0)))?;
+    Ok(Value::Array(written))
+}
+
 /// Where an output name comes from: `none`, `lit`, `col` or `alias`.
 fn origin(name: &OutputName) -> &'static str
     ensures { result.now ≡ origin_text name.now }

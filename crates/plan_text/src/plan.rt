@@ -2,20 +2,20 @@
 ghost use Rattle.std.specs.Prelude.{◌≡◌, IfOk};
 ghost use Rattle.serde_json.specs.View.{view};
 ghost use Rattle.plan_ir.specs.declared.ir.IR.TheVariants.{Filter, SimpleProjection};
-ghost use Rattle.plan_text.specs.Written.{node_data, slice_node_data, scan_data, frame_scan_data, made_data, sort_data, distinct_data, list_data, plan_data};
+ghost use Rattle.plan_text.specs.Written.{node_data, slice_node_data, scan_data, frame_scan_data, made_data, sort_data, distinct_data, union_data, cache_data, list_data, plan_data};
 
 use crate::exprs::exprs;
 use crate::kinds::{format_name, keep_name};
 use crate::lists::each_entry;
 use crate::objects::object;
 use crate::parts::{
-    columns, optional_columns, optional_name, optional_names, optional_number, optional_output,
-    optional_row_index, optional_slice, options, output, outputs, sources, truths,
+    columns, links, optional_columns, optional_name, optional_names, optional_number,
+    optional_output, optional_row_index, optional_slice, options, output, outputs, sources, truths,
 };
 use plan_core::{Arena, FileScanOptions, Items, Node, ProjectionOptions, Schema};
 use plan_expr::ExprIR;
 use plan_ir::{FileInfo, FileScan, IR, PlanCopy, ScanSources};
-use plan_options::{DistinctOptionsIR, SortMultipleOptions};
+use plan_options::{DistinctOptionsIR, SortMultipleOptions, UnionOptions};
 use serde_json::{Value, json};
 use std::alloc::{AllocError, Global};
 
@@ -158,6 +158,34 @@ fn distinct(alloc: Global, input: Node, options: &DistinctOptionsIR) -> Result<V
     object(alloc, entries)
 }
 
+/// The object of a union.
+#[tactic(auto, unfolding(crate::specs::Written::union_data))]
+fn union(alloc: Global, nodes: &Items<Node>, options: UnionOptions) -> Result<Value, AllocError>
+    ensures { IfOk result (λ v. view v ≡ union_data nodes.now options) }
+{
+    let inputs = links(alloc, nodes)?;
+    let op = Value::try_from_str(alloc, "Union")?;
+    let slice = optional_slice(alloc, options.slice)?;
+    let entries = vec![in alloc;
+        ("flattened", Value::Bool(options.flattened_by_opt)),
+        ("inputs", inputs),
+        ("maintain_order", Value::Bool(options.maintain_order)),
+        ("op", op),
+        ("parallel", Value::Bool(options.parallel)),
+        ("rechunk", Value::Bool(options.rechunk)),
+        ("slice", slice),
+    ]?;
+    object(alloc, entries)
+}
+
+/// The object of a cache.
+#[tactic(auto, unfolding(crate::specs::Written::cache_data))]
+fn cache(alloc: Global, input: Node, id: u32, hits: u32) -> Result<Value, AllocError>
+    ensures { IfOk result (λ v. view v ≡ cache_data input id hits) }
+{
+    json!(in alloc; {"hits": hits, "id": id, "input": input.0, "op": "Cache"})
+}
+
 /// The object of a filter.
 #[tactic(auto, unfolding(crate::specs::Written::node_data))]
 fn filter(alloc: Global, input: Node, predicate: &ExprIR) -> Result<Value, AllocError>
@@ -198,6 +226,8 @@ pub fn node(alloc: Global, node: &IR) -> Result<Value, AllocError>
             sort(alloc, *input, by_column, *slice, sort_options),
         IR::Distinct { input, options } => distinct(alloc, *input, options),
         IR::Sink { input, .. } => json!(in alloc; {"input": input.0, "op": "Sink"}),
+        IR::Union { inputs, options } => union(alloc, inputs, *options),
+        IR::Cache { input, id, cache_hits } => cache(alloc, *input, *id, *cache_hits),
         IR::Invalid => json!(in alloc; {"op": "Invalid"}),
     }
 }

@@ -6,7 +6,9 @@ use plan_core::{
 };
 use plan_expr::{AExpr, ExprIR, FunctionExpr, IRAggExpr, LiteralValue, Operator, OutputName};
 use plan_ir::{FileInfo, FileScan, IR, PlanCopy, ScanSources};
-use plan_options::{DistinctOptionsIR, SinkType, SortMultipleOptions, UniqueKeepStrategy};
+use plan_options::{
+    DistinctOptionsIR, SinkType, SortMultipleOptions, UnionOptions, UniqueKeepStrategy,
+};
 use std::alloc::{AllocError, Global};
 
 fn name(alloc: Global, text: &str) -> Result<PlSmallStr, AllocError> {
@@ -359,6 +361,49 @@ pub fn ordered_plan(alloc: Global) -> Result<PlanCopy, AllocError> {
     let _ = plan.lp.add(IR::Sink {
         input: Node(5),
         payload: SinkType::Memory,
+    })?;
+    Ok(plan)
+}
+
+fn union_of_three(alloc: Global) -> Result<IR, AllocError> {
+    Ok(IR::Union {
+        inputs: links(alloc, &[3, 1, 3])?,
+        options: UnionOptions {
+            slice: Some((-3, 4294967295)),
+            rows: (Some(9), 9),
+            parallel: true,
+            from_partitioned_ds: true,
+            flattened_by_opt: true,
+            rechunk: false,
+            maintain_order: false,
+        },
+    })
+}
+
+fn union_of_none(alloc: Global) -> IR {
+    IR::Union {
+        inputs: Items::new(alloc),
+        options: UnionOptions {
+            slice: None,
+            rows: (None, 0),
+            parallel: false,
+            from_partitioned_ds: false,
+            flattened_by_opt: true,
+            rechunk: false,
+            maintain_order: true,
+        },
+    }
+}
+
+// Two unions and a cache.
+pub fn union_plan(alloc: Global) -> Result<PlanCopy, AllocError> {
+    let mut plan = no_plan(alloc);
+    let _ = plan.lp.add(union_of_three(alloc)?)?;
+    let _ = plan.lp.add(union_of_none(alloc))?;
+    let _ = plan.lp.add(IR::Cache {
+        input: Node(2),
+        id: 7,
+        cache_hits: 4294967295,
     })?;
     Ok(plan)
 }

@@ -2,6 +2,7 @@
 
 use crate::plans::{
     all_kinds, all_operators, full_plan, more_plan, names, ordered_plan, schema, simple_plan,
+    union_plan,
 };
 use plan_core::{At, DataType, Node, PolarsError};
 use plan_ir::PlanCopy;
@@ -26,6 +27,9 @@ const KINDS: &str =
 
 const ORDERED: &str =
     r#"{"exprs":[],"nodes":[{"by":[[0,"col","a"],[1,"alias","x"]],"descending":[true,false],"input":2,"maintain_order":true,"nulls_last":[false],"op":"Sort","slice":[-3,4294967295]},{"by":[],"descending":[],"input":3,"maintain_order":false,"nulls_last":[],"op":"Sort","slice":null},{"input":4,"keep":"First","maintain_order":true,"op":"Distinct","slice":[0,1],"subset":["b","a"]},{"input":4,"keep":"Last","maintain_order":true,"op":"Distinct","slice":[0,1],"subset":["b","a"]},{"input":4,"keep":"None","maintain_order":true,"op":"Distinct","slice":[0,1],"subset":["b","a"]},{"input":4,"keep":"Any","maintain_order":true,"op":"Distinct","slice":[0,1],"subset":["b","a"]},{"input":4,"keep":"Any","maintain_order":true,"op":"Distinct","slice":[0,1],"subset":null},{"input":5,"op":"Sink"}],"root":0}"#;
+
+const UNIONS: &str =
+    r#"{"exprs":[],"nodes":[{"flattened":true,"inputs":[3,1,3],"maintain_order":false,"op":"Union","parallel":true,"rechunk":false,"slice":[-3,4294967295]},{"flattened":true,"inputs":[],"maintain_order":true,"op":"Union","parallel":false,"rechunk":false,"slice":null},{"hits":4294967295,"id":7,"input":2,"op":"Cache"}],"root":0}"#;
 
 fn is_written(
     rt: &impl Abort,
@@ -72,6 +76,12 @@ fn writes_each_kind_of_expression(rt: HostRuntime) -> Result<(), AllocError> {
 fn writes_sorts_distinct_rows_and_sinks(rt: HostRuntime) -> Result<(), AllocError> {
     let plan = ordered_plan(rt.alloc())?;
     is_written(&rt, rt.alloc(), &plan, ORDERED)
+}
+
+#[test]
+fn writes_unions_and_caches(rt: HostRuntime) -> Result<(), AllocError> {
+    let plan = union_plan(rt.alloc())?;
+    is_written(&rt, rt.alloc(), &plan, UNIONS)
 }
 
 #[test]
