@@ -9,6 +9,7 @@ use crate::{
 };
 use plan_core::{Arena, DataType, FileScanOptions, Items, Node, PlSmallStr, Schema, TryClone};
 use plan_expr::{AExpr, ExprIR, LiteralValue, Operator, OutputName};
+use plan_options::UnionOptions;
 use plan_tree::{Step, walk};
 use std::alloc::{AllocError, Global};
 use std::test::Fail;
@@ -66,6 +67,18 @@ fn projection(alloc: Global, input: usize) -> Result<IR, AllocError> {
     Ok(IR::SimpleProjection {
         input: Node(input),
         columns: columns(alloc, &["a"])?,
+    })
+}
+
+/// A union of nodes, in order.
+fn union(alloc: Global, inputs: &[usize]) -> Result<IR, AllocError> {
+    let mut list = Items::new(alloc);
+    for input in inputs {
+        list.push(Node(*input))?;
+    }
+    Ok(IR::Union {
+        inputs: list,
+        options: UnionOptions::default(),
     })
 }
 
@@ -189,6 +202,21 @@ fn walks_over_nodes(rt: HostRuntime) -> Result<(), Fail> {
 }
 
 #[test]
+fn walks_over_the_last_input_first(rt: HostRuntime) -> Result<(), Fail> {
+    let alloc = rt.alloc();
+    let mut lp = Arena::new(alloc);
+    lp.add(scan(alloc, None)?)?;
+    lp.add(projection(alloc, 0)?)?;
+    lp.add(scan(alloc, None)?)?;
+    lp.add(projection(alloc, 2)?)?;
+    let root = lp.add(union(alloc, &[1, 3])?)?;
+    let numbers = walked(alloc, root, &lp)?.ok_or("a plan")?;
+    let wanted = [root, Node(3), Node(2), Node(1), Node(0)];
+    assert_eq!(rt; numbers.as_slice(), wanted.as_slice());
+    Ok(())
+}
+
+#[test]
 fn renumbers_in_walk_order(rt: HostRuntime) -> Result<(), Fail> {
     let alloc = rt.alloc();
     let lp = nodes_at_five(alloc)?;
@@ -211,6 +239,16 @@ fn takes_nodes_apart_and_puts_them_back(rt: HostRuntime) -> Result<(), Fail> {
     inputs.push(Node(2))?;
     assert_eq!(rt; node.get_inputs_vec(alloc)?.as_slice(), inputs.as_slice());
     assert_eq!(rt; node.get_inputs(alloc)?.as_slice(), inputs.as_slice());
+    let several = union(alloc, &[7, 5])?;
+    assert_eq!(rt;
+        several.get_inputs_vec(alloc)?.as_slice(),
+        [Node(7), Node(5)].as_slice()
+    );
+    assert_eq!(rt;
+        several.get_inputs(alloc)?.as_slice(),
+        [Node(7), Node(5)].as_slice()
+    );
+    assert_eq!(rt; several.get_exprs(alloc)?.len(), 0);
     let mut copies = Items::new(alloc);
     node.copy_exprs(alloc, &mut copies)?;
     assert_eq!(rt; copies.len(), 1);
