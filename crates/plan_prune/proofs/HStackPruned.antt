@@ -24,7 +24,7 @@ use Rattle.plan_prune.proofs.PruneLemmas.{finish, moves_up, is_entry, stands_tak
 use Rattle.plan_prune.proofs.KeptLemmas.{numbers_of, stacked_place, hstack_built, hstack_gone}
 
 -- the entry at a number of an arena
-found : (xs : List IR) (k : ℕ) → k < length xs → slice_get xs k ≡ Some (unwrap_or (slice_get xs k) Invalid)
+pub found : (xs : List IR) (k : ℕ) → k < length xs → slice_get xs k ≡ Some (unwrap_or (slice_get xs k) Invalid)
 found [] k h = absurd (omega arith)
 found (x ∷ xs) zero h = refl
 found (x ∷ xs) (suc k) h = found xs k (omega arith)
@@ -43,7 +43,7 @@ module _ (top low : Bool) (asked names : List Name) (a b c : List IR) (ex : List
 
   back : (ks : List ExprIR) (cs : Columns) → ks ≡ stacked_at asked es → (is_some_name asked ≡ true → length ks ≡ 0 → ⊥) → cs ≡ stored_after (is_some_name asked) columns (names_at ks) schema → Prunes top asked a (slice_set c n.0 (HStack i ks cs options)) ex n t
   back ks cs kept some stored =
-      finish top low asked names a b c ex n i (HStack i es schema options) (HStack i ks cs options) d t h e taken refl refl refl (place ks kept) low_is asks_is
+      finish top low asked names a b c ex n i (HStack i es schema options) (HStack i ks cs options) d t h e taken refl refl refl (place ks kept) refl low_is asks_is
       (hstack_built ex asked es ks schema columns cs options (bare (plans_at c ex (i ∷ []))) kept some refl stored) below
 
   placed : (is_asked : Bool) (ks : List ExprIR) → is_asked ≡ is_some_name asked → ks ≡ stacked_at asked es → Prunes top asked a (with_stacked is_asked c n i ks schema options columns) ex n t
@@ -53,7 +53,7 @@ module _ (top low : Bool) (asked names : List Name) (a b c : List IR) (ex : List
       no x = cc
   placed true [] some kept =
       let s = stands_after low names b c ex i (stands_taken a b n i (HStack i es schema options) d t h e taken refl) below in
-      moves_up top low asked names a b c ex n i (HStack i es schema options) (unwrap_or (slice_get c i.0) Invalid) d Invalid t h e taken refl (found c i.0 (is_entry c i s)) low_is asks_is
+      moves_up top low asked names a b c ex n i (HStack i es schema options) (unwrap_or (slice_get c i.0) Invalid) d Invalid t h e taken refl (found c i.0 (is_entry c i s)) refl low_is asks_is
       (λ f. hstack_gone ex asked es [] schema options f kept (sym some) refl) below
   placed true (x ∷ ks) some kept =
       back (x ∷ ks) (with_typed columns (names_at (x ∷ ks)) schema) kept (λ y z. absurd (omega (arith, z))) (ap (λ (s : Bool). stored_after s columns (names_at (x ∷ ks)) schema) some)

@@ -9,6 +9,8 @@ mod StandInLemmas
 mod ExprWalks
 mod StoredNodes
 mod HStackPruned
+mod JoinPruned
+mod EachLemmas
 mod StepLemmas
 pub mod StoredLemmas
 pub mod AskedNames
@@ -19,6 +21,9 @@ pub mod OrderNarrows
 pub mod SelectNarrows
 pub mod StackNarrows
 mod FrameNarrows
+pub mod CoverNarrows
+pub mod UnionNarrows
+pub mod CachedLemmas
 pub mod PrunedNarrows
 pub mod PrunedReads
 pub mod PrunedWork

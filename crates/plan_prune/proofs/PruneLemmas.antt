@@ -8,8 +8,9 @@ use Rattle.plan_core.specs.Columns.{Columns}
 use Rattle.plan_tree.specs.Rose.{Roses, rose, no_roses, more}
 use Rattle.plan_tree.specs.Stands.{Trees, Reaches, Stands, StandsOnce, Keeps, Rewrites}
 use Rattle.plan_tree.proofs.TreeLemmas.{opened, nth, height_at, Stands-nth, Stands-unique}
+use Rattle.plan_tree.proofs.Numbers.{Reaches-within}
 use Rattle.plan_tree.proofs.ReadLemmas.{trees_at-is}
-use Rattle.plan_tree.proofs.Frames.{Rewrites-refl, Rewrites-back, Rewrites-above, StandsOnce-set, StandsOnce-first, descend, Keeps-trans, Keeps-set, Keeps-append, slice_get-append_last}
+use Rattle.plan_tree.proofs.Frames.{Rewrites-refl, Rewrites-back, Rewrites-above, StandsOnce-set, StandsOnce-first, StandsOnce-next, StandsOnce-taken, Stands-kept, descend, Keeps-trans, Keeps-set, Keeps-append, slice_get-append, slice_get-append_last}
 use Rattle.plan_expr.specs.declared.aexpr.AExpr.{AExpr}
 use Rattle.plan_expr.specs.declared.expr_ir.ExprIR.{ExprIR}
 use Rattle.plan_ir.specs.declared.ir.IR.{IR}
@@ -27,10 +28,11 @@ use Rattle.plan_ir.specs.Plans.{Op, op_at, plans_of, plans_at, bare}
 use Rattle.plan_ir.proofs.PlanLemmas.{plan_down}
 use Rattle.plan_core.specs.Names.{with_names, with_name}
 use Rattle.plan_expr.specs.Leaves.{Name, leaves}
-use Rattle.plan_prune.specs.Pruned.{asks_plans, rebuilt, top_below, pruned_all, typed_names}
+use Rattle.plan_meaning.specs.Counting.{is_closed}
+use Rattle.plan_prune.specs.Pruned.{asks_plans, left_below, rebuilt, top_below, pruned_all, typed_names}
 use Rattle.plan_meaning.specs.PlanAt.{one_plan}
 use Rattle.plan_prune.specs.Prunes.{StandExprs, TakePlace, Prunes, PrunesAt}
-use Rattle.plan_prune.specs.Scans.{narrowed, kept_scan, with_node}
+use Rattle.plan_prune.specs.Scans.{narrowed, kept_scan, with_node, with_top}
 use Rattle.plan_prune.specs.Kept.{is_some_name}
 use Rattle.plan_prune.proofs.ListSteps.{with_names-append}
 use Rattle.plan_prune.proofs.PlaceLemmas.{place_equal, place_both, place_before, place_trans, place_without}
@@ -75,9 +77,13 @@ entry_stays a b c n p d e taken grows =
     let long : length b ≡ length a = rw taken (length-set a n.0 d) in
     omega arith
 
+-- what is left below a node that isn't closed is what is pruned
+pub left_open : (op : Op) (kids others : Roses (Unit {0}) Op) → is_closed op ≡ false → others ≡ left_below (is_closed op) kids others
+left_open op kids others opens = ap (λ (b : Bool). left_below b kids others) (sym opens)
+
 -- from the input of a node to the node, which goes back over the same input
-pub finish : (top low : Bool) (asked names : List Name) (a b c : List IR) (ex : List AExpr) (n i : Node) (p q d : IR) (t : Trees IR) → StandsOnce plan_shape a (n ∷ []) t → slice_get a n.0 ≡ Some p → b ≡ slice_set a n.0 d → inputs_of p ≡ i ∷ [] → inputs_of q ≡ inputs_of p → is_invalid q ≡ false → TakePlace ex (roots_of q) (roots_of p) → low ≡ top_below top (op_at ex p) → names ≡ asks_plans asked (op_at ex p) (bare (plans_at b ex (i ∷ []))) → rose tt (op_at ex q) (bare (plans_at c ex (i ∷ []))) ≡ rebuilt top asked (op_at ex p) (bare (plans_at c ex (i ∷ []))) → PrunesAt low names b c ex i → Prunes top asked a (slice_set c n.0 q) ex n t
-finish top low asked names a b c ex n i p q d t h e taken one same valid roots low_is asks_is built below =
+pub finish : (top low : Bool) (asked names : List Name) (a b c : List IR) (ex : List AExpr) (n i : Node) (p q d : IR) (t : Trees IR) → StandsOnce plan_shape a (n ∷ []) t → slice_get a n.0 ≡ Some p → b ≡ slice_set a n.0 d → inputs_of p ≡ i ∷ [] → inputs_of q ≡ inputs_of p → is_invalid q ≡ false → TakePlace ex (roots_of q) (roots_of p) → is_closed (op_at ex p) ≡ false → low ≡ top_below top (op_at ex p) → names ≡ asks_plans asked (op_at ex p) (bare (plans_at b ex (i ∷ []))) → rose tt (op_at ex q) (bare (plans_at c ex (i ∷ []))) ≡ rebuilt top asked (op_at ex p) (bare (plans_at c ex (i ∷ []))) → PrunesAt low names b c ex i → Prunes top asked a (slice_set c n.0 q) ex n t
+finish top low asked names a b c ex n i p q d t h e taken one same valid roots opens low_is asks_is built below =
     let o = opened plan_shape a n p t h e in
     let under : StandsOnce plan_shape b (inputs_of p) o.kids = rw taken (StandsOnce-set plan_shape a (inputs_of p) o.kids n.0 d o.inputs o.above) in
     let at_input : StandsOnce plan_shape b (i ∷ []) o.kids = subst (λ (ns : List Node). StandsOnce plan_shape b ns o.kids) one under in
@@ -94,12 +100,13 @@ finish top low asked names a b c ex n i p q d t h e taken one same valid roots l
           ap (λ r. more r no_roses) (subst (λ (f : Roses (Unit {0}) Op). rose tt (op_at ex q) f ≡ rebuilt top asked (op_at ex p) f) after built)
           ∙ ap (λ (f : Roses (Unit {0}) Op). more (rebuilt top asked (op_at ex p) f) no_roses) x.pruned
           ∙ ap₂ (λ (w : Bool) (l : List Name). more (rebuilt top asked (op_at ex p) (pruned_all w l kids)) no_roses) low_is asks_is
-          ∙ ap (λ (f : Roses (Unit {0}) Op). more (rebuilt top asked (op_at ex p) (pruned_all (top_below top (op_at ex p)) (asks_plans asked (op_at ex p) f) kids)) no_roses) before;
+          ∙ ap (λ (f : Roses (Unit {0}) Op). more (rebuilt top asked (op_at ex p) (pruned_all (top_below top (op_at ex p)) (asks_plans asked (op_at ex p) f) kids)) no_roses) before
+          ∙ ap (λ (f : Roses (Unit {0}) Op). more (rebuilt top asked (op_at ex p) f) no_roses) (left_open (op_at ex p) kids (pruned_all (top_below top (op_at ex p)) (asks_plans asked (op_at ex p) kids) kids) opens);
     })
 
 -- from the input of a node to the node, where what stands at the input's number takes its place
-pub moves_up : (top low : Bool) (asked names : List Name) (a b c : List IR) (ex : List AExpr) (n i : Node) (p q d m : IR) (t : Trees IR) → StandsOnce plan_shape a (n ∷ []) t → slice_get a n.0 ≡ Some p → b ≡ slice_set a n.0 d → inputs_of p ≡ i ∷ [] → slice_get c i.0 ≡ Some q → low ≡ top_below top (op_at ex p) → names ≡ asks_plans asked (op_at ex p) (bare (plans_at b ex (i ∷ []))) → ((f : Roses (Unit {0}) Op) → one_plan f ≡ rebuilt top asked (op_at ex p) f) → PrunesAt low names b c ex i → Prunes top asked a (slice_set (slice_set c i.0 m) n.0 q) ex n t
-moves_up top low asked names a b c ex n i p q d m t h e taken one entry low_is asks_is built below =
+pub moves_up : (top low : Bool) (asked names : List Name) (a b c : List IR) (ex : List AExpr) (n i : Node) (p q d m : IR) (t : Trees IR) → StandsOnce plan_shape a (n ∷ []) t → slice_get a n.0 ≡ Some p → b ≡ slice_set a n.0 d → inputs_of p ≡ i ∷ [] → slice_get c i.0 ≡ Some q → is_closed (op_at ex p) ≡ false → low ≡ top_below top (op_at ex p) → names ≡ asks_plans asked (op_at ex p) (bare (plans_at b ex (i ∷ []))) → ((f : Roses (Unit {0}) Op) → one_plan f ≡ rebuilt top asked (op_at ex p) f) → PrunesAt low names b c ex i → Prunes top asked a (slice_set (slice_set c i.0 m) n.0 q) ex n t
+moves_up top low asked names a b c ex n i p q d m t h e taken one entry opens low_is asks_is built below =
     let o = opened plan_shape a n p t h e in
     let under : StandsOnce plan_shape b (inputs_of p) o.kids = rw taken (StandsOnce-set plan_shape a (inputs_of p) o.kids n.0 d o.inputs o.above) in
     let at_input : StandsOnce plan_shape b (i ∷ []) o.kids = subst (λ (ns : List Node). StandsOnce plan_shape b ns o.kids) one under in
@@ -124,7 +131,8 @@ moves_up top low asked names a b c ex n i p q d m t h e taken one entry low_is a
           ∙ ap (λ r. more r no_roses) (built (bare (plans_of ex x.trees)))
           ∙ ap (λ (f : Roses (Unit {0}) Op). more (rebuilt top asked (op_at ex p) f) no_roses) x.pruned
           ∙ ap₂ (λ (w : Bool) (l : List Name). more (rebuilt top asked (op_at ex p) (pruned_all w l kids)) no_roses) low_is asks_is
-          ∙ ap (λ (f : Roses (Unit {0}) Op). more (rebuilt top asked (op_at ex p) (pruned_all (top_below top (op_at ex p)) (asks_plans asked (op_at ex p) f) kids)) no_roses) before;
+          ∙ ap (λ (f : Roses (Unit {0}) Op). more (rebuilt top asked (op_at ex p) (pruned_all (top_below top (op_at ex p)) (asks_plans asked (op_at ex p) f) kids)) no_roses) before
+          ∙ ap (λ (f : Roses (Unit {0}) Op). more (rebuilt top asked (op_at ex p) f) no_roses) (left_open (op_at ex p) kids (pruned_all (top_below top (op_at ex p)) (asks_plans asked (op_at ex p) kids) kids) opens);
     })
 
 -- what stands at the inputs of a node, once the node is taken, and at its input once that is pruned
@@ -154,6 +162,33 @@ no_trees : (lp : List IR) (f : Trees IR) → Stands plan_shape lp [] f → f ≡
 no_trees lp no_roses h = refl
 no_trees lp (more (rose n p kids) rest) h = absurd h
 
+-- a node under a projection that takes its number
+abbrev pub under : Node → Node → Columns → IR → Trees IR → Trees IR
+under n m cs q kids = more (rose n (nodes.SimpleProjection m cs) (more (rose m q kids) no_roses)) no_roses
+
+-- a node that was taken goes to a new number, over what was below it, and a projection on top takes its number
+pub goes_under : (a b : List IR) (n : Node) (p q d : IR) (kids : Trees IR) (cs : Columns) → StandsOnce plan_shape a (n ∷ []) (more (rose n p kids) no_roses) → b ≡ slice_set a n.0 d → inputs_of q ≡ inputs_of p → is_invalid q ≡ false → Rewrites plan_shape a (with_top cs b n q) (n ∷ []) (more (rose n p kids) no_roses) (under n (record { 0 = length b }) cs q kids)
+goes_under a b n p q d kids cs h taken same valid =
+    let m : Node = record { 0 = length b } in
+    let c : List IR = b ++ q ∷ [] in
+    let above : IR = nodes.SimpleProjection m cs in
+    let whole : Trees IR = more (rose n p kids) no_roses in
+    let below : Trees IR = more (rose m q kids) no_roses in
+    let long : length b ≡ length a = rw taken (length-set a n.0 d) in
+    let s : StandsOnce plan_shape b (inputs_of p) kids = rw taken (StandsOnce-taken plan_shape a n p d kids h) in
+    let low : (k : ℕ) → Reaches kids k → k < length b = λ k r. Reaches-within plan_shape b (inputs_of p) kids k s.stands r in
+    let inside : Stands plan_shape c (inputs_of q) kids = rw same (Stands-kept plan_shape b c (inputs_of p) kids s.stands (λ k r. slice_get-append plan_shape b (q ∷ []) k (low k r))) in
+    let stands : StandsOnce plan_shape c (m ∷ []) below = record {
+      stands = (refl, slice_get-append_last plan_shape b q, valid, inside, tt);
+      once = ((λ r. absurd (let w = low (length b) r in omega arith)), (λ r. r), (λ k u v. v), s.once, tt);
+    } in
+    let keeps : Keeps a c whole = Keeps-trans plan_shape a b c whole whole (rw taken (Keeps-set plan_shape a n.0 d whole (inl refl))) (Keeps-append plan_shape b q whole) (λ k r. inl r) in
+    let new : (k : ℕ) → Reaches below k → Reaches kids k ⊎ (length a ≤ k) = λ k r. elim r as (λ _. Reaches kids k ⊎ (length a ≤ k)) [
+      | inl u ↦ inr (omega arith)
+      | inr v ↦ elim v as (λ _. Reaches kids k ⊎ (length a ≤ k)) [ inl w ↦ inl w | inr w ↦ absurd w ]
+    ] in
+    Rewrites-above plan_shape a c n p above kids below h keeps stands new refl
+
 -- a node without inputs at a number
 module _ (a b : List IR) (ex : List AExpr) (n : Node) (p d : IR) (t : Trees IR) (h : StandsOnce plan_shape a (n ∷ []) t) (leaf : inputs_of p ≡ []) (e : slice_get a n.0 ≡ Some p) (taken : b ≡ slice_set a n.0 d) where
   -- its tree has nothing below
@@ -163,40 +198,24 @@ module _ (a b : List IR) (ex : List AExpr) (n : Node) (p d : IR) (t : Trees IR) 
       o.is ∙ ap (λ (kids : Trees IR). more (rose n p kids) no_roses) (no_trees a o.kids (subst (λ (ns : List Node). Stands plan_shape a ns o.kids) leaf o.inputs.stands))
 
   -- another node without inputs goes back to the number
-  pub stays : (top : Bool) (asked : List Name) (q : IR) → inputs_of q ≡ [] → is_invalid q ≡ false → roots_of q ≡ roots_of p → rose tt (op_at ex q) no_roses ≡ rebuilt top asked (op_at ex p) no_roses → Prunes top asked a (slice_set b n.0 q) ex n t
-  stays top asked q none valid roots is =
+  pub stays : (top : Bool) (asked : List Name) (q : IR) → is_closed (op_at ex p) ≡ false → inputs_of q ≡ [] → is_invalid q ≡ false → roots_of q ≡ roots_of p → rose tt (op_at ex q) no_roses ≡ rebuilt top asked (op_at ex p) no_roses → Prunes top asked a (slice_set b n.0 q) ex n t
+  stays top asked q opens none valid roots is =
       let under : StandsOnce plan_shape b [] no_roses = record { stands = tt; once = tt } in
       rw alone (record {
         trees = more (rose n q no_roses) no_roses;
         rewrites = Rewrites-back plan_shape a b b n p q d no_roses no_roses (rw alone at h) taken (subst (λ (ns : List Node). Rewrites plan_shape b b ns no_roses no_roses) (sym leaf) (Rewrites-refl plan_shape b [] no_roses under)) (none ∙ sym leaf) valid;
         exprs = place_equal ex (roots_of q ++ []) (roots_of p ++ []) (ap (λ (l : List Node). l ++ []) roots);
-        pruned = ap (λ r. more r no_roses) is;
+        pruned = ap (λ r. more r no_roses) (is ∙ ap (rebuilt top asked (op_at ex p)) (left_open (op_at ex p) no_roses no_roses opens));
       })
 
   -- it goes to a new number, and a projection on top takes its number
-  goes_below : (asked : List Name) (q : IR) (cs : Columns) → inputs_of q ≡ [] → is_invalid q ≡ false → roots_of q ≡ roots_of p → rose tt (op_at ex (nodes.SimpleProjection n cs)) (more (rose tt (op_at ex q) no_roses) no_roses) ≡ rebuilt true asked (op_at ex p) no_roses → Prunes true asked a (slice_set (b ++ q ∷ []) n.0 (nodes.SimpleProjection (record { 0 = length b }) cs)) ex n t
-  goes_below asked q cs none valid roots is =
-      let m : Node = record { 0 = length b } in
-      let c : List IR = b ++ q ∷ [] in
-      let above : IR = nodes.SimpleProjection m cs in
-      let whole : Trees IR = more (rose n p no_roses) no_roses in
-      let below : Trees IR = more (rose m q no_roses) no_roses in
-      let long : length b ≡ length a = rw taken (length-set a n.0 d) in
-      let nothing : Stands plan_shape c (inputs_of q) no_roses = rw none tt in
-      let stands : StandsOnce plan_shape c (m ∷ []) below = record {
-        stands = (refl, slice_get-append_last plan_shape b q, valid, nothing, tt);
-        once = ((λ r. r), (λ r. r), (λ k u v. u), tt, tt);
-      } in
-      let keeps : Keeps a c whole = Keeps-trans plan_shape a b c whole whole (rw taken (Keeps-set plan_shape a n.0 d whole (inl refl))) (Keeps-append plan_shape b q whole) (λ k r. inl r) in
-      let new : (k : ℕ) → Reaches below k → ⊥ ⊎ (length a ≤ k) = λ k r. elim r as (λ _. ⊥ ⊎ (length a ≤ k)) [
-        | inl u ↦ inr (omega arith)
-        | inr v ↦ elim v as (λ _. ⊥ ⊎ (length a ≤ k)) [ inl w ↦ inl w | inr w ↦ inl w ]
-      ] in
+  goes_below : (asked : List Name) (q : IR) (cs : Columns) → is_closed (op_at ex p) ≡ false → inputs_of q ≡ [] → is_invalid q ≡ false → roots_of q ≡ roots_of p → rose tt (op_at ex (nodes.SimpleProjection n cs)) (more (rose tt (op_at ex q) no_roses) no_roses) ≡ rebuilt true asked (op_at ex p) no_roses → Prunes true asked a (with_top cs b n q) ex n t
+  goes_below asked q cs opens none valid roots is =
       rw alone (record {
-        trees = more (rose n above below) no_roses;
-        rewrites = Rewrites-above plan_shape a c n p above no_roses below (rw alone at h) keeps stands new refl;
+        trees = under n (record { 0 = length b }) cs q no_roses;
+        rewrites = goes_under a b n p q d no_roses cs (rw alone at h) taken (none ∙ sym leaf) valid;
         exprs = place_equal ex ((roots_of q ++ []) ++ []) (roots_of p ++ []) (append-nil (roots_of q ++ []) ∙ ap (λ (l : List Node). l ++ []) roots);
-        pruned = ap (λ r. more r no_roses) is;
+        pruned = ap (λ r. more r no_roses) (is ∙ ap (rebuilt true asked (op_at ex p)) (left_open (op_at ex p) no_roses no_roses opens));
       })
 
 -- a scan at a number is pruned
@@ -205,9 +224,9 @@ module _ (a b : List IR) (ex : List AExpr) (n : Node) (d : IR) (t : Trees IR) (h
   p = nodes.Scan sources info predicate output kind options
 
   placed : (top : Bool) (asked : List Name) → Prunes top asked a (with_node (is_some_name asked && top) b n (kept_scan asked p)) ex n t
-  placed top [] = stays a b ex n p d t h refl e taken top [] p refl refl refl refl
-  placed true (x ∷ asked) = goes_below a b ex n p d t h refl e taken (x ∷ asked) (narrowed (x ∷ asked) p) (typed_names info.schema (x ∷ asked)) refl refl refl refl
-  placed false (x ∷ asked) = stays a b ex n p d t h refl e taken false (x ∷ asked) (narrowed (x ∷ asked) p) refl refl refl refl
+  placed top [] = stays a b ex n p d t h refl e taken top [] p refl refl refl refl refl
+  placed true (x ∷ asked) = goes_below a b ex n p d t h refl e taken (x ∷ asked) (narrowed (x ∷ asked) p) (typed_names info.schema (x ∷ asked)) refl refl refl refl refl
+  placed false (x ∷ asked) = stays a b ex n p d t h refl e taken false (x ∷ asked) (narrowed (x ∷ asked) p) refl refl refl refl refl
 
   pub scan_pruned : (top : Bool) (asked : List Name) (c : List IR) → c ≡ with_node (is_some_name asked && top) b n (kept_scan asked p) → Prunes top asked a c ex n t
   scan_pruned top asked c is = rw is (placed top asked)

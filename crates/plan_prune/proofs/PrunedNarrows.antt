@@ -12,24 +12,26 @@ use Rattle.plan_ir.specs.declared.scan.FileInfo.{FileInfo}
 use Rattle.plan_ir.specs.declared.scan.FileScan.{FileScan}
 use Rattle.plan_ir.specs.declared.scan.ScanSources.{ScanSources}
 use Rattle.plan_expr.specs.Exprs.{Named}
-use Rattle.plan_ir.specs.Plans.{Op, slice, filter, scan, frame_scan, simple_projection, select, hstack, sort, distinct, sink, invalid, Plan}
+use Rattle.plan_ir.specs.Plans.{Op, slice, filter, scan, frame_scan, simple_projection, select, hstack, sort, distinct, sink, union, cache, invalid, Plan}
 use Rattle.plan_meaning.specs.Typing.{columns_or, file_columns, first_schema, names_or, out_names, made_schema, schema_by, schema, schemas, checks, AllHold, AllValid}
 use Rattle.plan_meaning.specs.Steps.{made, IsValid}
 use Rattle.plan_meaning.specs.Relating.{Refines, Asked, all, names, NarrowColumns, AgreeOn, Narrows}
 use Rattle.plan_meaning.specs.Asked.{set_of, kept_exprs, selected_exprs, needed_names, all_leaves, asks_added, Fair, IsFair}
 use Rattle.plan_meaning.specs.Asked as asked
-use Rattle.plan_meaning.specs.Counting.{stand_ins, first_stand_in}
+use Rattle.plan_meaning.specs.Counting.{is_closed, stand_ins, first_stand_in}
 use Rattle.plan_meaning.specs.Frames.{Agree}
 use Rattle.plan_meaning.proofs.Refining.{relates_refines}
 use Rattle.plan_meaning.proofs.Related.{SchemasRelated, AllRelate, relates_node, relates_top, relates_drop}
 use Rattle.plan_meaning.proofs.Fairness.{FairAll}
 use Rattle.plan_meaning.proofs.KeptExprs.{selected-all}
 use Rattle.plan_expr.specs.Leaves.{Name}
-use Rattle.plan_prune.specs.Pruned.{asked_with, kept, pruned_output, typed_names, reading, projected, stacked_names, pruned_select, stacked, pruned_hstack, asks, asks_plans, rebuilt, top_below, top_after, pruned, pruned_all}
+use Rattle.plan_prune.specs.Pruned.{asked_with, kept, pruned_output, typed_names, reading, projected, stacked_names, pruned_select, stacked, pruned_hstack, asks, asks_plans, left_below, rebuilt, top_below, top_after, pruned, pruned_all}
 use Rattle.plan_prune.specs.Stored.{stored_all}
 use Rattle.plan_prune.proofs.AskedNames.{set_some, kept-is, more-is, filter_asks, stacked_asks, each_asked, fair_each}
 use Rattle.plan_prune.proofs.NarrowLemmas.{Local, same_one, same_none, local_filter, local_slice}
 use Rattle.plan_prune.proofs.MadeNarrows.{SameLeaves, none_selected, needed_types, needed_frames}
+use Rattle.plan_prune.proofs.CoverNarrows.{narrows_self, covered_narrows}
+use Rattle.plan_prune.proofs.UnionNarrows.{union_narrows}
 use Rattle.plan_prune.proofs.OrderNarrows.{local_sort, local_distinct, local_sink}
 use Rattle.plan_prune.proofs.SelectNarrows.{local_selected, whole_selected}
 use Rattle.plan_prune.proofs.StackNarrows.{dropped_holds, dropped_agrees, local_added}
@@ -216,44 +218,60 @@ frame_narrows (a ∷ l) df columns output rs v fair h =
     relates_node Asked NarrowColumns AgreeOn left given [] (names (a ∷ l)) rs no_roses v h (λ k. none_here left given (names (a ∷ l)) (schemas rs) k (local_frame df columns output (a ∷ l) v.0 fair))
 
 -- a node that is rebuilt over inputs that narrow at what it asks narrows at what it is asked
-rebuilt_narrows : (top : Bool) (l : List Name) (op : Op) (rs ts : Roses (Unit {0}) Op) → IsValid (rose tt op ts) → IsFair (set_of l) (schema_by op (schemas ts)) → AllNarrow (each_asked (set_of (asks_plans l op ts)) ts) rs ts → Narrows (rebuilt top l op rs) (rose tt op ts) (set_of l)
-rebuilt_narrows top l (filter p) rs (more (rose n o us) no_roses) v fair h = filter_narrows p l rs (rose n o us) (schema_by o (schemas us)) refl v h
-rebuilt_narrows top l (filter p) rs (more (rose n o us) (more (rose m o' us') rest)) v fair h = cc
-rebuilt_narrows top l (filter p) rs no_roses v fair h = cc
-rebuilt_narrows top l (simple_projection cs) rs (more (rose n o us) no_roses) v fair h = projection_narrows cs l rs (rose n o us) (schema_by o (schemas us)) refl v fair h
-rebuilt_narrows top l (simple_projection cs) rs (more (rose n o us) (more (rose m o' us') rest)) v fair h = cc
-rebuilt_narrows top l (simple_projection cs) rs no_roses v fair h = cc
-rebuilt_narrows top l (scan sources info predicate output kind options) rs no_roses v fair h = scan_narrows top l sources info predicate output kind options rs v fair h
-rebuilt_narrows top l (scan sources info predicate output kind options) rs (more (rose n o us) rest) v fair h = cc
-rebuilt_narrows top l (slice offset len) rs (more (rose n o us) no_roses) v fair h = slice_narrows offset len l rs (rose n o us) (schema_by o (schemas us)) refl v h
-rebuilt_narrows top l (slice offset len) rs (more (rose n o us) (more (rose m o' us') rest)) v fair h = cc
-rebuilt_narrows top l (slice offset len) rs no_roses v fair h = cc
-rebuilt_narrows top l (frame_scan df columns output) rs no_roses v fair h = frame_narrows l df columns output rs v fair h
-rebuilt_narrows top l (frame_scan df columns output) rs (more (rose n o us) rest) v fair h = cc
-rebuilt_narrows top l (select es stored options) rs (more (rose n o us) no_roses) v fair h = select_narrows es stored options (first_stand_in (stand_ins (more (rose n o us) no_roses) (stored_all (more (rose n o us) no_roses)))) l rs (rose n o us) (schema_by o (schemas us)) refl v fair h
-rebuilt_narrows top l (select es stored options) rs (more (rose n o us) (more (rose m o' us') rest)) v fair h = cc
-rebuilt_narrows top l (select es stored options) rs no_roses v fair h = cc
-rebuilt_narrows top l (hstack es stored options) rs (more (rose n o us) no_roses) v fair h = stack_narrows es stored options n o us v l rs fair h
-rebuilt_narrows top l (hstack es stored options) rs (more (rose n o us) (more (rose m o' us') rest)) v fair h = cc
-rebuilt_narrows top l (hstack es stored options) rs no_roses v fair h = cc
-rebuilt_narrows top l (sort keys part options) rs (more (rose n o us) no_roses) v fair h = sort_narrows keys part options l rs (rose n o us) (schema_by o (schemas us)) refl v h
-rebuilt_narrows top l (sort keys part options) rs (more (rose n o us) (more (rose m o' us') rest)) v fair h = cc
-rebuilt_narrows top l (sort keys part options) rs no_roses v fair h = cc
-rebuilt_narrows top l (distinct options) rs (more (rose n o us) no_roses) v fair h =
+rebuilt_narrows : (top : Bool) (l : List Name) (op : Op) (rs ts : Roses (Unit {0}) Op) → is_closed op ≡ false → IsValid (rose tt op ts) → IsFair (set_of l) (schema_by op (schemas ts)) → AllNarrow (each_asked (set_of (asks_plans l op ts)) ts) rs ts → Narrows (rebuilt top l op rs) (rose tt op ts) (set_of l)
+rebuilt_narrows top l (filter p) rs (more (rose n o us) no_roses) opens v fair h = filter_narrows p l rs (rose n o us) (schema_by o (schemas us)) refl v h
+rebuilt_narrows top l (filter p) rs (more (rose n o us) (more (rose m o' us') rest)) opens v fair h = cc
+rebuilt_narrows top l (filter p) rs no_roses opens v fair h = cc
+rebuilt_narrows top l (simple_projection cs) rs (more (rose n o us) no_roses) opens v fair h = projection_narrows cs l rs (rose n o us) (schema_by o (schemas us)) refl v fair h
+rebuilt_narrows top l (simple_projection cs) rs (more (rose n o us) (more (rose m o' us') rest)) opens v fair h = cc
+rebuilt_narrows top l (simple_projection cs) rs no_roses opens v fair h = cc
+rebuilt_narrows top l (scan sources info predicate output kind options) rs no_roses opens v fair h = scan_narrows top l sources info predicate output kind options rs v fair h
+rebuilt_narrows top l (scan sources info predicate output kind options) rs (more (rose n o us) rest) opens v fair h = cc
+rebuilt_narrows top l (slice offset len) rs (more (rose n o us) no_roses) opens v fair h = slice_narrows offset len l rs (rose n o us) (schema_by o (schemas us)) refl v h
+rebuilt_narrows top l (slice offset len) rs (more (rose n o us) (more (rose m o' us') rest)) opens v fair h = cc
+rebuilt_narrows top l (slice offset len) rs no_roses opens v fair h = cc
+rebuilt_narrows top l (frame_scan df columns output) rs no_roses opens v fair h = frame_narrows l df columns output rs v fair h
+rebuilt_narrows top l (frame_scan df columns output) rs (more (rose n o us) rest) opens v fair h = cc
+rebuilt_narrows top l (select es stored options) rs (more (rose n o us) no_roses) opens v fair h = select_narrows es stored options (first_stand_in (stand_ins (more (rose n o us) no_roses) (stored_all (more (rose n o us) no_roses)))) l rs (rose n o us) (schema_by o (schemas us)) refl v fair h
+rebuilt_narrows top l (select es stored options) rs (more (rose n o us) (more (rose m o' us') rest)) opens v fair h = cc
+rebuilt_narrows top l (select es stored options) rs no_roses opens v fair h = cc
+rebuilt_narrows top l (hstack es stored options) rs (more (rose n o us) no_roses) opens v fair h = stack_narrows es stored options n o us v l rs fair h
+rebuilt_narrows top l (hstack es stored options) rs (more (rose n o us) (more (rose m o' us') rest)) opens v fair h = cc
+rebuilt_narrows top l (hstack es stored options) rs no_roses opens v fair h = cc
+rebuilt_narrows top l (sort keys part options) rs (more (rose n o us) no_roses) opens v fair h = sort_narrows keys part options l rs (rose n o us) (schema_by o (schemas us)) refl v h
+rebuilt_narrows top l (sort keys part options) rs (more (rose n o us) (more (rose m o' us') rest)) opens v fair h = cc
+rebuilt_narrows top l (sort keys part options) rs no_roses opens v fair h = cc
+rebuilt_narrows top l (distinct options) rs (more (rose n o us) no_roses) opens v fair h =
     distinct_narrows options l rs (rose n o us) (schema_by o (schemas us)) refl v
     (subst (λ (ss : List Columns). AllNarrow (set_of (asked_with l (names_or options.subset (names_of (first_schema ss)))) ∷ []) rs (more (rose n o us) no_roses)) (stored-schemas (more (rose n o us) no_roses) v.1) h)
-rebuilt_narrows top l (distinct options) rs (more (rose n o us) (more (rose m o' us') rest)) v fair h = cc
-rebuilt_narrows top l (distinct options) rs no_roses v fair h = cc
-rebuilt_narrows top l (sink payload) rs (more (rose n o us) no_roses) v fair h = sink_narrows payload l rs (rose n o us) (schema_by o (schemas us)) refl v h
-rebuilt_narrows top l (sink payload) rs (more (rose n o us) (more (rose m o' us') rest)) v fair h = cc
-rebuilt_narrows top l (sink payload) rs no_roses v fair h = cc
-rebuilt_narrows top l invalid rs ts v fair h = cc
+rebuilt_narrows top l (distinct options) rs (more (rose n o us) (more (rose m o' us') rest)) opens v fair h = cc
+rebuilt_narrows top l (distinct options) rs no_roses opens v fair h = cc
+rebuilt_narrows top l (sink payload) rs (more (rose n o us) no_roses) opens v fair h = sink_narrows payload l rs (rose n o us) (schema_by o (schemas us)) refl v h
+rebuilt_narrows top l (sink payload) rs (more (rose n o us) (more (rose m o' us') rest)) opens v fair h = cc
+rebuilt_narrows top l (sink payload) rs no_roses opens v fair h = cc
+rebuilt_narrows top l (union options) rs ts opens v fair h = union_narrows options l rs ts v fair h
+rebuilt_narrows top l (cache id hits) rs ts opens v fair h = cc
+rebuilt_narrows top l invalid rs ts opens v fair h = cc
+
+-- a closed node over inputs as they are narrows at what it is asked
+closed_narrows : (top : Bool) (l : List Name) (op : Op) (ts : Roses (Unit {0}) Op) → is_closed op ≡ true → IsValid (rose tt op ts) → IsFair (set_of l) (schema_by op (schemas ts)) → Narrows (rebuilt top l op ts) (rose tt op ts) (set_of l)
+closed_narrows top [] (cache id hits) ts closed v fair = narrows_self (rose tt (cache id hits) ts) v
+closed_narrows top (a ∷ l) (cache id hits) ts closed v fair = covered_narrows a l (rose tt (cache id hits) ts) v fair
+closed_narrows top l op ts closed v fair = absurd (cc)
+
+-- a node over inputs that are left as they are below it
+left_narrows : (top : Bool) (l : List Name) (op : Op) (rs ts : Roses (Unit {0}) Op) → IsValid (rose tt op ts) → IsFair (set_of l) (schema_by op (schemas ts)) → (is_closed op ≡ false → AllNarrow (each_asked (set_of (asks_plans l op ts)) ts) rs ts) → Narrows (rebuilt top l op (left_below (is_closed op) ts rs)) (rose tt op ts) (set_of l)
+left_narrows top l op rs ts v fair h = at (is_closed op) refl
+  where
+    at : (b : Bool) → is_closed op ≡ b → Narrows (rebuilt top l op (left_below b ts rs)) (rose tt op ts) (set_of l)
+    at true e = closed_narrows top l op ts e v fair
+    at false e = rebuilt_narrows top l op rs ts e v fair (h e)
 
 -- pruned plans narrow at what they are asked
 pub all_narrow : (top : Bool) (l : List Name) (ts : Roses (Unit {0}) Op) → AllValid ts → FairAll (each_asked (set_of l) ts) (schemas ts) → AllNarrow (each_asked (set_of l) ts) (pruned_all top l ts) ts
 all_narrow top l no_roses v f = tt
 all_narrow top l (more (rose n op ts) rest) v f = (
-  rebuilt_narrows top l op (pruned_all (top_below top op) (asks_plans l op ts) ts) ts (v.0, v.1) f.0 (all_narrow (top_below top op) (asks_plans l op ts) ts v.1 (fair_each l op ts v.0 v.1 f.0)),
+  left_narrows top l op (pruned_all (top_below top op) (asks_plans l op ts) ts) ts (v.0, v.1) f.0 (λ opens. all_narrow (top_below top op) (asks_plans l op ts) ts v.1 (fair_each l op ts opens v.0 v.1 f.0)),
   all_narrow (top_after top (rose n op ts)) l rest v.2 f.1,
 )
 

@@ -16,7 +16,7 @@ use Rattle.plan_expr.specs.Leaves.{Name}
 use Rattle.plan_expr.specs.Naming.{name_of}
 use Rattle.plan_expr.specs.Operands.{IsExpr}
 use Rattle.plan_ir.specs.declared.ir.IR.{IR}
-use Rattle.plan_ir.specs.declared.ir.IR.TheVariants.{Slice, Filter, Scan, DataFrameScan, SimpleProjection, Select, HStack, Sort, Distinct, Sink, Invalid}
+use Rattle.plan_ir.specs.declared.ir.IR.TheVariants.{Slice, Filter, Scan, DataFrameScan, SimpleProjection, Select, HStack, Sort, Distinct, Sink, Union, Cache, Invalid}
 use Rattle.plan_ir.specs.Parts.{plan_shape, IsPlan}
 use Rattle.plan_ir.specs.Plans.{op_at, plans_of, plans_at, bare}
 use Rattle.plan_meaning.specs.Typing.{first_schema}
@@ -53,6 +53,8 @@ stand_in_by ex (HStack i es schema options) s = refl
 stand_in_by ex (Sort i keys part options) s = refl
 stand_in_by ex (Distinct i options) s = refl
 stand_in_by ex (Sink i payload) s = refl
+stand_in_by ex (Union inputs options) s = refl
+stand_in_by ex (Cache i id cache_hits) s = refl
 stand_in_by ex Invalid s = refl
 
 none_stand : (P : ExprIR → Type 0) → All P []
@@ -71,6 +73,8 @@ module _ (lp : List IR) (ex : List AExpr) (n : Node) (h : IsPlan lp ex n) where
   made_stand (Sort i keys part options) e = none_stand (λ (x : ExprIR). IsExpr ex x.node)
   made_stand (Distinct i options) e = none_stand (λ (x : ExprIR). IsExpr ex x.node)
   made_stand (Sink i payload) e = none_stand (λ (x : ExprIR). IsExpr ex x.node)
+  made_stand (Union inputs options) e = none_stand (λ (x : ExprIR). IsExpr ex x.node)
+  made_stand (Cache i id cache_hits) e = none_stand (λ (x : ExprIR). IsExpr ex x.node)
   made_stand Invalid e = none_stand (λ (x : ExprIR). IsExpr ex x.node)
 
   abbrev said : Columns

@@ -1,31 +1,34 @@
 -- A node that was taken is pruned by its step.
-use Rattle.std.proofs.Common.{◌≡◌, Bool, true, false, not, List, [], ◌∷◌, ◌&&◌, ◌||◌, Some, refl, sym, ap, ◌∙◌, subst}
+use Rattle.std.proofs.Common.{◌≡◌, ℕ, ◌<◌, ◌≤◌, Bool, true, false, not, List, [], ◌∷◌, ◌&&◌, ◌||◌, length, length-set, take, Option, Some, unwrap_or, refl, sym, ap, ◌∙◌, subst}
 use Rattle.std.specs.List.{slice_get, slice_set}
+use Rattle.std.proofs.Math.Dec.{ltb}
+use Rattle.plan_options.specs.declared.union.UnionOptions.{UnionOptions}
 use Rattle.plan_core.specs.declared.arena.Node.{Node}
 use Rattle.plan_tree.specs.Rose.{no_roses}
-use Rattle.plan_tree.specs.Stands.{Trees, StandsOnce}
-use Rattle.plan_tree.proofs.Frames.{StandsOnce-set}
+use Rattle.plan_tree.specs.Stands.{Trees, StandsOnce, Rewrites}
+use Rattle.plan_tree.proofs.Frames.{front, StandsOnce-set}
 use Rattle.plan_tree.proofs.TreeLemmas.{opened}
 use Rattle.plan_expr.specs.declared.aexpr.AExpr.{AExpr}
 use Rattle.plan_ir.specs.declared.ir.IR.{IR}
-use Rattle.plan_ir.specs.declared.ir.IR.TheVariants.{Slice, Filter, Scan, DataFrameScan, SimpleProjection, Select, HStack, Sort, Distinct, Sink, Invalid}
-use Rattle.plan_ir.specs.Parts.{plan_shape, inputs_of}
+use Rattle.plan_ir.specs.declared.ir.IR.TheVariants.{Slice, Filter, Scan, DataFrameScan, SimpleProjection, Select, HStack, Sort, Distinct, Sink, Union, Cache, Invalid}
+use Rattle.plan_ir.specs.Parts.{plan_shape, inputs_of, IsPlan}
 use Rattle.plan_expr.specs.Exprs.{Named, all_named_at}
 use Rattle.plan_ir.specs.Plans.{bare, op_at, plans_at, plans_of}
 use Rattle.plan_expr.specs.Leaves.{Name}
-use Rattle.plan_core.specs.Columns.{names_of}
+use Rattle.plan_core.specs.Columns.{Columns, names_of}
 use Rattle.plan_meaning.specs.Typing.{names_or}
-use Rattle.plan_meaning.specs.Counting.{is_count, meet_count}
+use Rattle.plan_meaning.specs.Counting.{is_closed, is_count, meet_count}
 use Rattle.plan_meaning.specs.Asked.{needed_names, selected_exprs, set_of}
-use Rattle.plan_prune.specs.declared.push_down.step.Step.TheVariants.{Leaf, Over}
+use Rattle.plan_prune.specs.declared.push_down.step.Step.TheVariants.{Leaf, Over, Closed, Each}
 use Rattle.plan_prune.specs.Kept.{is_some_name, names_at, selected_at, stacked_at, stored_after}
-use Rattle.plan_prune.specs.Pruned.{asked_with, kept, pruned_output, top_below}
+use Rattle.plan_prune.specs.Pruned.{asked_columns, asked_with, kept, pruned_output, top_below}
 use Rattle.plan_prune.specs.Prunes.{MarksAt, Prunes, PrunesAt}
-use Rattle.plan_prune.specs.Scans.{kept_scan, with_node}
+use Rattle.plan_prune.specs.Scans.{covered_at, kept_scan, with_columns_on, with_node}
 use Rattle.plan_prune.specs.Steps.{columns_at, stand_in_at, step_of, put_back}
-use Rattle.plan_prune.proofs.PruneLemmas.{alone, finish, stays, scan_pruned, stands_taken, stands_after}
+use Rattle.plan_prune.proofs.PruneLemmas.{Asks, alone, finish, stays, scan_pruned, inputs_taken, stands_taken, stands_after}
 use Rattle.plan_prune.proofs.KeptLemmas.{selected_named, selected_place, select_built, hstack_asks}
-use Rattle.plan_prune.proofs.HStackPruned.{hstack_pruned}
+use Rattle.plan_prune.proofs.HStackPruned.{hstack_pruned, found as there}
+use Rattle.plan_prune.proofs.EachLemmas.{PrunesEach, SoFar, set_twice, closed_marks, closed_pruned, each_asks, each_finish, each_marks, one_covered, one_plain, so_far_all}
 
 -- equal steps have equal parts
 over_parts : (i j : Node) (names others : List Name) (p q : IR) → Over i names p ≡ Over j others q → (i ≡ j) × (names ≡ others) × (p ≡ q)
@@ -39,24 +42,27 @@ pub record IsOver (p q : IR) (i : Node) : Type 0 where
   pub one : inputs_of p ≡ i ∷ []
   pub same : inputs_of q ≡ i ∷ []
   pub first : slice_get (inputs_of p) 0 ≡ Some i
+  pub opens : (ex : List AExpr) → is_closed (op_at ex p) ≡ false
 
-made_over : (i j : Node) (names others : List Name) (p q r : IR) → inputs_of p ≡ j ∷ [] → inputs_of r ≡ j ∷ [] → Over i names q ≡ Over j others r → IsOver p q i
-made_over i j names others p q r one same e =
+made_over : (i j : Node) (names others : List Name) (p q r : IR) → ((ex : List AExpr) → is_closed (op_at ex p) ≡ false) → inputs_of p ≡ j ∷ [] → inputs_of r ≡ j ∷ [] → Over i names q ≡ Over j others r → IsOver p q i
+made_over i j names others p q r opens one same e =
     let x = over_parts i j names others q r e in
     let there : j ∷ [] ≡ i ∷ [] = ap (λ (k : Node). k ∷ []) (sym x.0) in
-    record { one = one ∙ there; same = ap inputs_of x.2 ∙ same ∙ there; first = ap (λ (l : List Node). slice_get l 0) (one ∙ there) }
+    record { one = one ∙ there; same = ap inputs_of x.2 ∙ same ∙ there; first = ap (λ (l : List Node). slice_get l 0) (one ∙ there); opens = opens }
 
 pub is_over : (lp : List IR) (ex : List AExpr) (asked names : List Name) (p q : IR) (i : Node) → Over i names q ≡ step_of lp ex asked p → IsOver p q i
-is_over lp ex asked names (Slice j offset len) q i e = made_over i j names _ (Slice j offset len) q _ refl refl e
-is_over lp ex asked names (Filter j predicate) q i e = made_over i j names _ (Filter j predicate) q _ refl refl e
+is_over lp ex asked names (Slice j offset len) q i e = made_over i j names _ (Slice j offset len) q _ (λ ex. refl) refl refl e
+is_over lp ex asked names (Filter j predicate) q i e = made_over i j names _ (Filter j predicate) q _ (λ ex. refl) refl refl e
 is_over lp ex asked names (Scan sources info predicate output kind options) q i e = cc
 is_over lp ex asked names (DataFrameScan df schema output) q i e = cc
-is_over lp ex asked names (SimpleProjection j columns) q i e = made_over i j names _ (SimpleProjection j columns) q _ refl refl e
-is_over lp ex asked names (Select j es schema options) q i e = made_over i j names _ (Select j es schema options) q _ refl refl e
-is_over lp ex asked names (HStack j es schema options) q i e = made_over i j names _ (HStack j es schema options) q _ refl refl e
-is_over lp ex asked names (Sort j keys part options) q i e = made_over i j names _ (Sort j keys part options) q _ refl refl e
-is_over lp ex asked names (Distinct j options) q i e = made_over i j names _ (Distinct j options) q _ refl refl e
-is_over lp ex asked names (Sink j payload) q i e = made_over i j names _ (Sink j payload) q _ refl refl e
+is_over lp ex asked names (SimpleProjection j columns) q i e = made_over i j names _ (SimpleProjection j columns) q _ (λ ex. refl) refl refl e
+is_over lp ex asked names (Select j es schema options) q i e = made_over i j names _ (Select j es schema options) q _ (λ ex. refl) refl refl e
+is_over lp ex asked names (HStack j es schema options) q i e = made_over i j names _ (HStack j es schema options) q _ (λ ex. refl) refl refl e
+is_over lp ex asked names (Sort j keys part options) q i e = made_over i j names _ (Sort j keys part options) q _ (λ ex. refl) refl refl e
+is_over lp ex asked names (Distinct j options) q i e = made_over i j names _ (Distinct j options) q _ (λ ex. refl) refl refl e
+is_over lp ex asked names (Sink j payload) q i e = made_over i j names _ (Sink j payload) q _ (λ ex. refl) refl refl e
+is_over lp ex asked names (Union inputs options) q i e = cc
+is_over lp ex asked names (Cache j id cache_hits) q i e = cc
 is_over lp ex asked names Invalid q i e = cc
 
 -- a step without an input puts back a node without inputs
@@ -72,6 +78,8 @@ kept_alone (a ∷ asked) (HStack j es schema options) e = e
 kept_alone (a ∷ asked) (Sort j keys part options) e = e
 kept_alone (a ∷ asked) (Distinct j options) e = e
 kept_alone (a ∷ asked) (Sink j payload) e = e
+kept_alone (a ∷ asked) (Union inputs options) e = e
+kept_alone (a ∷ asked) (Cache j id cache_hits) e = e
 kept_alone (a ∷ asked) Invalid e = refl
 
 is_leaf : (lp : List IR) (ex : List AExpr) (asked : List Name) (p q : IR) → Leaf q ≡ step_of lp ex asked p → inputs_of q ≡ []
@@ -85,6 +93,8 @@ is_leaf lp ex asked (HStack j es schema options) q e = cc
 is_leaf lp ex asked (Sort j keys part options) q e = cc
 is_leaf lp ex asked (Distinct j options) q e = cc
 is_leaf lp ex asked (Sink j payload) q e = cc
+is_leaf lp ex asked (Union inputs options) q e = cc
+is_leaf lp ex asked (Cache j id cache_hits) q e = cc
 is_leaf lp ex asked Invalid q e = ap inputs_of (leaf_part q _ e)
 
 -- and it is that of a node without inputs
@@ -99,6 +109,8 @@ leaf_alone lp ex asked (HStack j es schema options) q e = cc
 leaf_alone lp ex asked (Sort j keys part options) q e = cc
 leaf_alone lp ex asked (Distinct j options) q e = cc
 leaf_alone lp ex asked (Sink j payload) q e = cc
+leaf_alone lp ex asked (Union inputs options) q e = cc
+leaf_alone lp ex asked (Cache j id cache_hits) q e = cc
 leaf_alone lp ex asked Invalid q e = refl
 
 pub leaf_stands : (lp : List IR) (ex : List AExpr) (asked : List Name) (p q : IR) → Leaf q ≡ step_of lp ex asked p → (t : Trees IR) × StandsOnce plan_shape lp (inputs_of q) t
@@ -124,7 +136,7 @@ module _ (top : Bool) (asked : List Name) (a b z : List IR) (ex : List AExpr) (n
       scan_put [] = refl
       scan_put (x ∷ l) = refl
   leaf_pruned (DataFrameScan df schema output) e is =
-      rw (put_leaf _ is) (stays a b ex n (DataFrameScan df schema output) d t h refl e taken top asked (DataFrameScan df schema (pruned_output asked schema output)) refl refl refl refl)
+      rw (put_leaf _ is) (stays a b ex n (DataFrameScan df schema output) d t h refl e taken top asked (DataFrameScan df schema (pruned_output asked schema output)) refl refl refl refl refl)
   leaf_pruned (Slice j offset len) e is = cc
   leaf_pruned (Filter j predicate) e is = cc
   leaf_pruned (SimpleProjection j columns) e is = cc
@@ -133,6 +145,8 @@ module _ (top : Bool) (asked : List Name) (a b z : List IR) (ex : List AExpr) (n
   leaf_pruned (Sort j keys part options) e is = cc
   leaf_pruned (Distinct j options) e is = cc
   leaf_pruned (Sink j payload) e is = cc
+  leaf_pruned (Union inputs options) e is = cc
+  leaf_pruned (Cache j id cache_hits) e is = cc
   leaf_pruned Invalid e is = let o = opened plan_shape a n Invalid t h e in let v : true ≡ false = o.valid in cc
 
 -- a node over an input is pruned by its step, once the input is pruned
@@ -148,16 +162,16 @@ module _ (top low : Bool) (asked names : List Name) (a b c z : List IR) (ex : Li
 
   pub over_pruned : (p : IR) → slice_get a n.0 ≡ Some p → low ≡ top_below top (op_at ex p) → Over i names q ≡ step_of b ex asked p → Prunes top asked a z ex n t
   over_pruned (Slice j offset len) e low_is is =
-      rw (put_over _ _ _ is) (finish top low asked names a b c ex n i (Slice j offset len) (Slice j offset len) d t h e taken (one _ _ _ is) refl refl (λ before after x. x) low_is (named _ _ _ is) refl below)
+      rw (put_over _ _ _ is) (finish top low asked names a b c ex n i (Slice j offset len) (Slice j offset len) d t h e taken (one _ _ _ is) refl refl (λ before after x. x) refl low_is (named _ _ _ is) refl below)
   over_pruned (Filter j predicate) e low_is is =
-      rw (put_over _ _ _ is) (finish top low asked names a b c ex n i (Filter j predicate) (Filter j predicate) d t h e taken (one _ _ _ is) refl refl (λ before after x. x) low_is (named _ _ _ is) refl below)
+      rw (put_over _ _ _ is) (finish top low asked names a b c ex n i (Filter j predicate) (Filter j predicate) d t h e taken (one _ _ _ is) refl refl (λ before after x. x) refl low_is (named _ _ _ is) refl below)
   over_pruned (SimpleProjection j columns) e low_is is =
-      rw (put_over _ _ _ is) (finish top low asked names a b c ex n i (SimpleProjection j columns) (SimpleProjection j (kept asked columns)) d t h e taken (one _ _ _ is) refl refl (λ before after x. x) low_is (named _ _ _ is) refl below)
+      rw (put_over _ _ _ is) (finish top low asked names a b c ex n i (SimpleProjection j columns) (SimpleProjection j (kept asked columns)) d t h e taken (one _ _ _ is) refl refl (λ before after x. x) refl low_is (named _ _ _ is) refl below)
   over_pruned (Select j es schema options) e low_is is =
       let ks = selected_at ex asked es in
       let cs = stored_after (is_some_name asked) [] (names_at ks) schema in
       rw (put_over _ _ _ is) (finish top low asked names a b c ex n i (Select j es schema options) (Select j ks cs options) d t h e taken (one _ _ _ is) refl refl
-      (selected_place ex asked es) low_is
+      (selected_place ex asked es) refl low_is
       (named _ _ _ is
       ∙ ap (λ (l : List Named). needed_names (all_named_at ex es) (stand_in_at b ex j) l) (selected_named ex asked es)
       ∙ ap (λ (k : Node). needed_names (all_named_at ex es) (stand_in_at b ex k) (selected_exprs (set_of asked) (all_named_at ex es))) (sym (over_parts i j names _ q _ is).0))
@@ -170,13 +184,15 @@ module _ (top low : Bool) (asked names : List Name) (a b c z : List IR) (ex : Li
       (subst (λ (k : Node). PrunesAt low names b c ex k) x.0 below)
       (is_some_name asked) (stacked_at asked es) z refl refl (put_over _ _ _ is)
   over_pruned (Sort j keys part options) e low_is is =
-      rw (put_over _ _ _ is) (finish top low asked names a b c ex n i (Sort j keys part options) (Sort j keys part options) d t h e taken (one _ _ _ is) refl refl (λ before after x. x) low_is (named _ _ _ is) refl below)
+      rw (put_over _ _ _ is) (finish top low asked names a b c ex n i (Sort j keys part options) (Sort j keys part options) d t h e taken (one _ _ _ is) refl refl (λ before after x. x) refl low_is (named _ _ _ is) refl below)
   over_pruned (Distinct j options) e low_is is =
-      rw (put_over _ _ _ is) (finish top low asked names a b c ex n i (Distinct j options) (Distinct j options) d t h e taken (one _ _ _ is) refl refl (λ before after x. x) low_is
+      rw (put_over _ _ _ is) (finish top low asked names a b c ex n i (Distinct j options) (Distinct j options) d t h e taken (one _ _ _ is) refl refl (λ before after x. x) refl low_is
       (named _ _ _ is ∙ ap (λ (k : Node). asked_with asked (names_or options.subset (names_of (columns_at b ex k)))) (sym (over_parts i j names _ q _ is).0)) refl below)
   over_pruned (Sink j payload) e low_is is =
-      rw (put_over _ _ _ is) (finish top low asked names a b c ex n i (Sink j payload) (Sink j payload) d t h e taken (one _ _ _ is) refl refl (λ before after x. x) low_is (named _ _ _ is) refl below)
+      rw (put_over _ _ _ is) (finish top low asked names a b c ex n i (Sink j payload) (Sink j payload) d t h e taken (one _ _ _ is) refl refl (λ before after x. x) refl low_is (named _ _ _ is) refl below)
   over_pruned (Scan sources info predicate output kind options) e low_is is = cc
+  over_pruned (Union inputs options) e low_is is = cc
+  over_pruned (Cache j id cache_hits) e low_is is = cc
   over_pruned (DataFrameScan df schema output) e low_is is = cc
   over_pruned Invalid e low_is is = cc
 
@@ -196,25 +212,134 @@ top_marked false count after is = ap not is
 
 -- the mark after a plan, once it is set where the node counts rows: of a node without inputs, and of one over an input that was marked
 
-marked_twice : (x y z : Bool) → ((x || y) || z) ≡ (x || (y || (z || false)))
-marked_twice true y z = refl
-marked_twice false true z = refl
-marked_twice false false true = refl
-marked_twice false false false = refl
+-- once it is set where the node counts rows, and then where its inputs do, which aren't left out
+marked_twice : (x y z c : Bool) → c ≡ false → ((x || y) || z) ≡ (x || (y || ((not c && z) || false)))
+marked_twice true y z c e = refl
+marked_twice false true z c e = refl
+marked_twice false false true false e = refl
+marked_twice false false false false e = refl
+marked_twice false false z true e = cc
 
-marked_once : (x y : Bool) → (x || y) ≡ (x || (y || false))
-marked_once true y = refl
-marked_once false true = refl
-marked_once false false = refl
+marked_once : (x y c : Bool) → (x || y) ≡ (x || (y || ((not c && false) || false)))
+marked_once true y c = refl
+marked_once false true c = refl
+marked_once false false true = refl
+marked_once false false false = refl
 
 pub marks_leaf : (before mid : Bool) (lp b : List IR) (ex : List AExpr) (asked : List Name) (n : Node) (p q : IR) → slice_get lp n.0 ≡ Some p → Leaf q ≡ step_of b ex asked p → mid ≡ (before || is_count (op_at ex p)) → MarksAt before mid lp ex n
 marks_leaf before mid lp b ex asked n p q e leaf is t h =
-    is ∙ marked_once before (is_count (op_at ex p)) ∙ ap (λ (u : Trees IR). before || meet_count (bare (plans_of ex u))) (sym (alone lp (slice_set lp n.0 p) ex n p p t h (leaf_alone b ex asked p q leaf) e refl))
+    is ∙ marked_once before (is_count (op_at ex p)) (is_closed (op_at ex p)) ∙ ap (λ (u : Trees IR). before || meet_count (bare (plans_of ex u))) (sym (alone lp (slice_set lp n.0 p) ex n p p t h (leaf_alone b ex asked p q leaf) e refl))
 
-pub marks_over : (before mid after : Bool) (lp b : List IR) (ex : List AExpr) (n i : Node) (p d : IR) → slice_get lp n.0 ≡ Some p → b ≡ slice_set lp n.0 d → inputs_of p ≡ i ∷ [] → mid ≡ (before || is_count (op_at ex p)) → MarksAt mid after b ex i → MarksAt before after lp ex n
-marks_over before mid after lp b ex n i p d e taken one is below t h =
+pub marks_over : (before mid after : Bool) (lp b : List IR) (ex : List AExpr) (n i : Node) (p d : IR) → slice_get lp n.0 ≡ Some p → b ≡ slice_set lp n.0 d → inputs_of p ≡ i ∷ [] → is_closed (op_at ex p) ≡ false → mid ≡ (before || is_count (op_at ex p)) → MarksAt mid after b ex i → MarksAt before after lp ex n
+marks_over before mid after lp b ex n i p d e taken one opens is below t h =
     let o = opened plan_shape lp n p t h e in
     let under : StandsOnce plan_shape b (inputs_of p) o.kids = rw taken (StandsOnce-set plan_shape lp (inputs_of p) o.kids n.0 d o.inputs o.above) in
     let at_input : StandsOnce plan_shape b (i ∷ []) o.kids = subst (λ (ns : List Node). StandsOnce plan_shape b ns o.kids) one under in
     let k : Bool = meet_count (bare (plans_of ex o.kids)) in
-    below o.kids at_input ∙ ap (λ (m : Bool). m || k) is ∙ marked_twice before (is_count (op_at ex p)) k ∙ ap (λ (u : Trees IR). before || meet_count (bare (plans_of ex u))) (sym o.is)
+    below o.kids at_input ∙ ap (λ (m : Bool). m || k) is ∙ marked_twice before (is_count (op_at ex p)) k (is_closed (op_at ex p)) opens ∙ ap (λ (u : Trees IR). before || meet_count (bare (plans_of ex u))) (sym o.is)
+
+-- a closed step is that of a cache
+pub record IsClosed (b : List IR) (ex : List AExpr) (asked : List Name) (p q : IR) (columns : Option Columns) : Type 0 where
+  pub input : Node
+  pub id : ℕ
+  pub hits : ℕ
+  pub is : p ≡ Cache input id hits
+  pub same : q ≡ Cache input id hits
+  pub are : columns ≡ asked_columns asked (columns_at b ex input)
+
+closed_parts : (o u : Option Columns) (p q : IR) → Closed o p ≡ Closed u q → (o ≡ u) × (p ≡ q)
+closed_parts o u p q e = (cc, cc)
+
+pub is_closed_step : (b : List IR) (ex : List AExpr) (asked : List Name) (p q : IR) (columns : Option Columns) → Closed columns q ≡ step_of b ex asked p → IsClosed b ex asked p q columns
+is_closed_step b ex asked (Cache i id hits) q columns e = let x = closed_parts columns _ q _ e in record { input = i; id = id; hits = hits; is = refl; same = x.1; are = x.0 }
+is_closed_step b ex asked (Slice j offset len) q columns e = cc
+is_closed_step b ex asked (Filter j predicate) q columns e = cc
+is_closed_step b ex asked (Scan sources info predicate output kind options) q columns e = cc
+is_closed_step b ex asked (DataFrameScan df schema output) q columns e = cc
+is_closed_step b ex asked (SimpleProjection j cs) q columns e = cc
+is_closed_step b ex asked (Select j es schema options) q columns e = cc
+is_closed_step b ex asked (HStack j es schema options) q columns e = cc
+is_closed_step b ex asked (Sort j keys part options) q columns e = cc
+is_closed_step b ex asked (Distinct j options) q columns e = cc
+is_closed_step b ex asked (Sink j payload) q columns e = cc
+is_closed_step b ex asked (Union inputs options) q columns e = cc
+is_closed_step b ex asked Invalid q columns e = cc
+
+-- a step over each input is that of a union
+pub record IsEach (asked names : List Name) (inputs : List Node) (p q : IR) : Type 0 where
+  pub options : UnionOptions
+  pub is : p ≡ Union inputs options
+  pub same : q ≡ Union inputs options
+  pub are : names ≡ asked
+
+each_parts : (ns ms : List Node) (l m : List Name) (p q : IR) → Each ns l p ≡ Each ms m q → (ns ≡ ms) × (l ≡ m) × (p ≡ q)
+each_parts ns ms l m p q e = (cc, cc, cc)
+
+pub is_each_step : (b : List IR) (ex : List AExpr) (asked names : List Name) (inputs : List Node) (p q : IR) → Each inputs names q ≡ step_of b ex asked p → IsEach asked names inputs p q
+is_each_step b ex asked names inputs (Union own options) q e =
+    let x = each_parts inputs _ names _ q _ e in
+    record { options = options; is = ap (λ (l : List Node). Union l options) (sym x.0); same = x.2 ∙ ap (λ (l : List Node). Union l options) (sym x.0); are = x.1 }
+is_each_step b ex asked names inputs (Slice j offset len) q e = cc
+is_each_step b ex asked names inputs (Filter j predicate) q e = cc
+is_each_step b ex asked names inputs (Scan sources info predicate output kind options) q e = cc
+is_each_step b ex asked names inputs (DataFrameScan df schema output) q e = cc
+is_each_step b ex asked names inputs (SimpleProjection j cs) q e = cc
+is_each_step b ex asked names inputs (Select j es schema options) q e = cc
+is_each_step b ex asked names inputs (HStack j es schema options) q e = cc
+is_each_step b ex asked names inputs (Sort j keys part options) q e = cc
+is_each_step b ex asked names inputs (Distinct j options) q e = cc
+is_each_step b ex asked names inputs (Sink j payload) q e = cc
+is_each_step b ex asked names inputs (Cache j id hits) q e = cc
+is_each_step b ex asked names inputs Invalid q e = cc
+
+-- a cache is pruned by its step, and counts no rows
+module _ (asked : List Name) (a b : List IR) (ex : List AExpr) (n : Node) (p q d : IR) (columns : Option Columns) (e : slice_get a n.0 ≡ Some p) (taken : b ≡ slice_set a n.0 d) (step : Closed columns q ≡ step_of b ex asked p) where
+  pub closed_step : (top : Bool) (z : List IR) → z ≡ with_columns_on columns b n q → PrunesAt top asked a z ex n
+  closed_step top z back t h =
+      let o = is_closed_step b ex asked p q columns step in
+      closed_pruned a b ex n o.input o.id o.hits d t h (e ∙ ap Some o.is) taken top asked z
+      (back ∙ ap (λ (u : Option Columns). with_columns_on u b n q) o.are ∙ ap (with_columns_on (asked_columns asked (columns_at b ex o.input)) b n) o.same)
+
+  pub closed_mark : (before mid : Bool) → mid ≡ (before || is_count (op_at ex p)) → MarksAt before mid a ex n
+  closed_mark before mid is t h =
+      let o = is_closed_step b ex asked p q columns step in
+      closed_marks a b ex n o.input o.id o.hits d t h (e ∙ ap Some o.is) taken before mid (is ∙ ap (λ (r : IR). before || is_count (op_at ex r)) o.is)
+
+-- what a call on an input of a union asks, and what comes of the union, which went back at once
+module _ (asked names : List Name) (a m b : List IR) (ex : List AExpr) (n : Node) (inputs : List Node) (p q d : IR) (e : slice_get a n.0 ≡ Some p) (taken : m ≡ slice_set a n.0 d) (put : b ≡ slice_set m n.0 q) (step : Each inputs names q ≡ step_of m ex asked p) where
+  abbrev each_is : IsEach asked names inputs p q
+  each_is = is_each_step m ex asked names inputs p q step
+
+  back : b ≡ slice_set a n.0 q
+  back = put ∙ ap (λ (l : List IR). slice_set l n.0 q) taken ∙ set_twice a n.0 d q
+
+  own_inputs : inputs ≡ inputs_of p
+  own_inputs = sym (ap inputs_of each_is.is)
+
+  pub each_names : names ≡ asked
+  each_names = each_is.are
+
+  pub each_long : length m ≡ length b
+  each_long = sym (rw put (length-set m n.0 q))
+
+  pub each_call : (before mid covers : Bool) (c : List IR) (i : Node) (j : ℕ) → IsPlan a ex n → slice_get inputs j ≡ Some i → SoFar before mid covers asked b c ex inputs j → Asks a c ex n i
+  each_call before mid covers c i j h at x =
+      each_asks a b c ex n i p q j h e back (ap (λ (l : List Node). slice_get l j) (sym own_inputs) ∙ at)
+      (λ kids s. let y = x.prunes kids (subst (λ (l : List Node). StandsOnce plan_shape b l kids) (sym own_inputs) s) in (y.trees, subst (λ (l : List Node). Rewrites plan_shape b c (take j l) (front plan_shape kids j) y.trees) own_inputs y.rewrites))
+
+  pub each_step : (top before mid covers : Bool) (c : List IR) (k j : ℕ) → not before ≡ top_below top (op_at ex p) → k ≡ length inputs → covers ≡ ltb 1 k → length inputs ≤ j → SoFar before mid covers asked b c ex inputs j → PrunesAt top asked a c ex n
+  each_step top before mid covers c k j low many covers_is past x t h =
+      let o = each_is in
+      each_finish top (not before) covers asked a b c ex n inputs o.options t k h (e ∙ ap Some o.is) (back ∙ ap (slice_set a n.0) o.same) (low ∙ ap (λ (r : IR). top_below top (op_at ex r)) o.is) many covers_is
+      (λ kids s. (so_far_all before mid covers asked b c ex inputs j past x kids s).0)
+
+  pub each_mark : (first before mid covers : Bool) (c : List IR) (j : ℕ) → before ≡ (first || is_count (op_at ex p)) → length inputs ≤ j → SoFar before mid covers asked b c ex inputs j → MarksAt first mid a ex n
+  each_mark first before mid covers c j is past x =
+      let o = each_is in
+      each_marks first before mid a b ex n inputs o.options q (e ∙ ap Some o.is) back (is ∙ ap (λ (r : IR). first || is_count (op_at ex r)) o.is)
+      (λ kids s. (so_far_all before mid covers asked b c ex inputs j past x kids s).1)
+
+-- one input, pruned and then under a projection or not
+pub one_more : (top covers : Bool) (asked : List Name) (b c z : List IR) (ex : List AExpr) (n : Node) → PrunesAt top asked b c ex n → (covers ≡ true → z ≡ covered_at (asked_columns asked (columns_at c ex n)) c n) → (covers ≡ false → z ≡ c) → n.0 < length c → (t : Trees IR) → StandsOnce plan_shape b (n ∷ []) t → PrunesEach top covers asked b z ex (n ∷ []) t
+one_more top true asked b c z ex n x on off low t h = one_covered top asked b c z ex n (unwrap_or (slice_get c n.0) Invalid) t (there c n.0 low) (on refl) (x t h)
+one_more top false asked b c z ex n x on off low t h = rw (off refl) (one_plain top asked b c ex n t (x t h))

@@ -1,18 +1,12 @@
 -- In a valid plan the stored columns are those that are computed.
 use Rattle.std.proofs.Common.{◌≡◌, true, List, [], ◌∷◌, Option, Some, None, refl, sym, ap, ap₂, ◌∙◌}
-use Rattle.plan_core.specs.Columns.{Columns, same_columns}
-use Rattle.plan_core.proofs.SameLemmas.{same_columns-Decides}
+use Rattle.plan_core.specs.Columns.{Columns}
 use Rattle.plan_tree.specs.Rose.{Roses, rose, no_roses, more}
-use Rattle.plan_ir.specs.Plans.{Op, slice, filter, scan, frame_scan, simple_projection, select, hstack, sort, distinct, sink, invalid}
+use Rattle.plan_ir.specs.Plans.{Op, slice, filter, scan, frame_scan, simple_projection, select, hstack, sort, distinct, sink, union, cache, invalid}
 use Rattle.plan_meaning.specs.Typing.{columns_or, file_columns, schema_by, schemas, checks, AllHold, AllValid}
+pub use Rattle.plan_meaning.proofs.CheckParts.{same_is, is_same}
 use Rattle.plan_meaning.proofs.CheckParts.{scan_good, made_good}
 use Rattle.plan_prune.specs.Stored.{stored_by, stored_all}
-
-pub same_is : (cs ds : Columns) → same_columns cs ds ≡ true → cs ≡ ds
-same_is cs ds e = (same_columns-Decides cs ds true (sym e)).0 refl
-
-pub is_same : (cs ds : Columns) → cs ≡ ds → same_columns cs ds ≡ true
-is_same cs ds e = (same_columns-Decides cs ds (same_columns cs ds) refl).1 e
 
 out_same : (output : Option Columns) (stored file : Columns) → stored ≡ file → columns_or output stored ≡ columns_or output file
 out_same None stored file e = e
@@ -36,6 +30,8 @@ stored-by (hstack es schema options) (s ∷ t ∷ ss) good = cc
 stored-by (sort keys part options) ss good = refl
 stored-by (distinct options) ss good = refl
 stored-by (sink payload) ss good = refl
+stored-by (union options) ss good = refl
+stored-by (cache id hits) ss good = refl
 stored-by invalid ss good = refl
 
 -- the stored columns of valid plans are those that are computed

@@ -1,5 +1,5 @@
 -- What pruning makes of a plan. Names are asked of a node, and it asks names of its inputs; no names stand for every column.
-use Rattle.std.specs.Prelude.{Bool, true, false, not, ◌&&◌, List, [], ◌∷◌, Option, Some, option_map, filter as filter_list}
+use Rattle.std.specs.Prelude.{Bool, true, false, not, ◌&&◌, List, [], ◌∷◌, Option, None, Some, option_map, filter as filter_list}
 use Rattle.std.specs.List.{filter_map}
 use Rattle.plan_core.specs.Columns.{Columns, names_of, type_of}
 use Rattle.plan_core.specs.Names.{has, with_names}
@@ -10,14 +10,14 @@ use Rattle.plan_ir.specs.declared.scan.FileInfo.{FileInfo}
 use Rattle.plan_ir.specs.declared.scan.FileScan.{FileScan}
 use Rattle.plan_ir.specs.declared.scan.ScanSources.{ScanSources}
 use Rattle.plan_expr.specs.Exprs.{Named}
-use Rattle.plan_ir.specs.Plans.{Op, slice, filter, scan, frame_scan, simple_projection, select, hstack, sort, distinct, sink, invalid, Plan}
+use Rattle.plan_ir.specs.Plans.{Op, slice, filter, scan, frame_scan, simple_projection, select, hstack, sort, distinct, sink, union, cache, invalid, Plan}
 use Rattle.plan_core.specs.declared.options.ProjectionOptions.{ProjectionOptions}
 use Rattle.plan_core.specs.Columns.{with_types}
 use Rattle.plan_expr.specs.Leaves.{Name, leaves}
 use Rattle.plan_meaning.specs.Typing.{first_schema, names_or, out_names}
 use Rattle.plan_meaning.specs.PlanAt.{one_plan}
 use Rattle.plan_meaning.specs.Relating.{names as these}
-use Rattle.plan_meaning.specs.Counting.{is_count, meets_count, stand_ins, first_stand_in}
+use Rattle.plan_meaning.specs.Counting.{is_closed, is_count, meets_count, stand_ins, first_stand_in}
 use Rattle.plan_meaning.specs.Asked.{set_of, kept_exprs, selected_exprs, all_leaves, needed_names}
 use Rattle.plan_prune.specs.Stored.{stored_all}
 
@@ -39,6 +39,11 @@ typed_name cs a = option_map (λ d. (a, d)) (type_of cs a)
 abbrev pub typed_names : Columns → List Name → Columns
 typed_names cs names = filter_map (typed_name cs) names
 
+-- the asked names with their types among the columns; none where nothing is asked
+abbrev pub asked_columns : List Name → Columns → Option Columns
+asked_columns [] cs = None
+asked_columns (a ∷ asked) cs = Some (typed_names cs (a ∷ asked))
+
 -- the options of a scan that reads these names
 abbrev pub reading : List Name → FileScanOptions → FileScanOptions
 reading names options = record options { with_columns = Some names }
@@ -47,6 +52,31 @@ reading names options = record options { with_columns = Some names }
 abbrev pub projected : Bool → Columns → Plan → Plan
 projected true columns plan = rose tt (simple_projection columns) (more plan no_roses)
 projected false columns plan = plan
+
+-- a plan with a projection to columns on top, where there are columns
+abbrev pub projected_to : Option Columns → Plan → Plan
+projected_to None plan = plan
+projected_to (Some columns) plan = rose tt (simple_projection columns) (more plan no_roses)
+
+-- a plan with a projection to the asked names on top; asked nothing, it stays
+abbrev pub covered : List Name → Plan → Plan
+covered asked plan = projected_to (asked_columns asked (first_schema (stored_all (more plan no_roses)))) plan
+
+-- each of some plans so
+abbrev pub covered_each : List Name → Roses (Unit {0}) Op → Roses (Unit {0}) Op
+covered_each asked no_roses = no_roses
+covered_each asked (more plan plans) = more (covered asked plan) (covered_each asked plans)
+
+-- each of some plans so, or none
+abbrev pub covered_if : Bool → List Name → Roses (Unit {0}) Op → Roses (Unit {0}) Op
+covered_if true asked plans = covered_each asked plans
+covered_if false asked plans = plans
+
+-- there is more than one plan
+abbrev pub are_several : {N : Type 0} → Roses N Op → Bool
+are_several no_roses = false
+are_several (more plan no_roses) = false
+are_several (more plan (more other plans)) = true
 
 -- a scan that reads and puts out the asked names alone, with a projection to them on top or without; asked nothing, it stays
 abbrev pub pruned_scan : Bool → List Name → ScanSources → FileInfo → Option Named → Option Columns → FileScan → FileScanOptions → Roses (Unit {0}) Op → Plan
@@ -100,6 +130,8 @@ asks asked (simple_projection columns) ss os = with_names [] (names_of (kept ask
 asks asked (sort keys part options) ss os = asked_with asked (all_leaves keys)
 asks asked (distinct options) ss os = asked_with asked (names_or options.subset (names_of (first_schema ss)))
 asks asked (sink payload) ss os = asked
+asks asked (union options) ss os = asked
+asks asked (cache id hits) ss os = []
 asks asked invalid ss os = []
 
 -- a node that is asked names, over its pruned inputs
@@ -114,6 +146,8 @@ rebuilt top asked (simple_projection columns) inputs = rose tt (simple_projectio
 rebuilt top asked (sort keys part options) inputs = rose tt (sort keys part options) inputs
 rebuilt top asked (distinct options) inputs = rose tt (distinct options) inputs
 rebuilt top asked (sink payload) inputs = rose tt (sink payload) inputs
+rebuilt top asked (union options) inputs = rose tt (union options) (covered_if (are_several inputs) asked inputs)
+rebuilt top asked (cache id hits) inputs = covered asked (rose tt (cache id hits) inputs)
 rebuilt top asked invalid inputs = rose tt invalid inputs
 
 -- what a node asks of plans
@@ -128,10 +162,15 @@ top_below top op = top && not (is_count op)
 abbrev pub top_after : Bool → Plan → Bool
 top_after top plan = top && not (meets_count plan)
 
+-- the inputs of a node as they are pruned; below a closed node as they are
+abbrev pub left_below : Bool → Roses (Unit {0}) Op → Roses (Unit {0}) Op → Roses (Unit {0}) Op
+left_below true inputs others = inputs
+left_below false inputs others = others
+
 -- a plan pruned to the asked names, with projections on top of its scans or without; from the first count of rows on, in the order of plans and their inputs, without
 abbrev mutual
   pub pruned : Bool → List Name → Plan → Plan
-  pruned top asked (rose n op inputs) = rebuilt top asked op (pruned_all (top_below top op) (asks_plans asked op inputs) inputs)
+  pruned top asked (rose n op inputs) = rebuilt top asked op (left_below (is_closed op) inputs (pruned_all (top_below top op) (asks_plans asked op inputs) inputs))
 
   pub pruned_all : Bool → List Name → Roses (Unit {0}) Op → Roses (Unit {0}) Op
   pruned_all top asked no_roses = no_roses

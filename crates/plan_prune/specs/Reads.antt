@@ -1,9 +1,9 @@
 -- What the scans of a pruned plan may read, and how many nodes pruning may add.
-use Rattle.std.specs.Prelude.{◌≡◌, ℕ, ◌+◌, true, List, [], ◌∷◌}
+use Rattle.std.specs.Prelude.{◌≡◌, ℕ, ◌+◌, true, List, [], ◌∷◌, length}
 use Rattle.plan_core.specs.Columns.{Columns}
 use Rattle.plan_core.specs.Names.{has}
 use Rattle.plan_tree.specs.Rose.{Roses, rose, no_roses, more}
-use Rattle.plan_ir.specs.Plans.{Op, slice, filter, scan, frame_scan, simple_projection, select, hstack, sort, distinct, sink, invalid, Plan}
+use Rattle.plan_ir.specs.Plans.{Op, slice, filter, scan, frame_scan, simple_projection, select, hstack, sort, distinct, sink, union, cache, invalid, Plan}
 use Rattle.plan_expr.specs.Leaves.{Name}
 use Rattle.plan_meaning.specs.Typing.{schemas}
 use Rattle.plan_meaning.specs.Relating.{Asked, all, names, cached}
@@ -23,7 +23,15 @@ one_if_asked all = 0
 one_if_asked (names wanted) = 1
 one_if_asked cached = 0
 
--- the projections that may be put on a node: one on a scan that is asked names
+-- the projections that may be put on the inputs of a union: where names are asked one on each of more than one
+abbrev pub tops_each : Asked → List Columns → ℕ
+tops_each a [] = 0
+tops_each a (s ∷ []) = 0
+tops_each all (s ∷ t ∷ ss) = 0
+tops_each (names wanted) (s ∷ t ∷ ss) = length (s ∷ t ∷ ss)
+tops_each cached (s ∷ t ∷ ss) = 0
+
+-- the projections that may be put on a node or its inputs: where names are asked one on a scan, one on a cache, and one on each of more than one inputs of a union
 abbrev pub own_tops : Op → Asked → List Columns → ℕ
 own_tops (scan sources info predicate output kind options) a ss = one_if_asked a
 own_tops (slice offset len) a ss = 0
@@ -35,6 +43,8 @@ own_tops (simple_projection columns) a ss = 0
 own_tops (sort keys part options) a ss = 0
 own_tops (distinct options) a ss = 0
 own_tops (sink payload) a ss = 0
+own_tops (union options) a ss = tops_each a ss
+own_tops (cache id hits) a ss = one_if_asked a
 own_tops invalid a ss = 0
 
 -- the projections that may be put on the nodes of plans that are asked what the list says

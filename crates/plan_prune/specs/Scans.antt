@@ -1,9 +1,9 @@
 -- The node of a pruned scan, and its place in an arena.
-use Rattle.std.specs.Prelude.{Bool, true, false, List, [], ◌∷◌, ◌++◌, length, Option, Some, None, slice_set}
+use Rattle.std.specs.Prelude.{Bool, true, false, List, [], ◌∷◌, ◌++◌, length, Option, Some, None, slice_get, slice_set, unwrap_or}
 use Rattle.plan_core.specs.declared.arena.Node.{Node}
 use Rattle.plan_core.specs.Columns.{Columns}
 use Rattle.plan_ir.specs.declared.ir.IR.{IR}
-use Rattle.plan_ir.specs.declared.ir.IR.TheVariants.{Slice, Filter, Scan, DataFrameScan, SimpleProjection, Select, HStack, Sort, Distinct, Sink, Invalid}
+use Rattle.plan_ir.specs.declared.ir.IR.TheVariants.{Slice, Filter, Scan, DataFrameScan, SimpleProjection, Select, HStack, Sort, Distinct, Sink, Union, Cache, Invalid}
 use Rattle.plan_expr.specs.Leaves.{Name}
 use Rattle.plan_prune.specs.Pruned.{typed_names, reading}
 
@@ -20,6 +20,8 @@ narrowed names (SimpleProjection input columns) = SimpleProjection input columns
 narrowed names (Sort input keys part options) = Sort input keys part options
 narrowed names (Distinct input options) = Distinct input options
 narrowed names (Sink input payload) = Sink input payload
+narrowed names (Union inputs options) = Union inputs options
+narrowed names (Cache input id cache_hits) = Cache input id cache_hits
 narrowed names Invalid = Invalid
 
 -- the scan that goes back where names are asked; asked nothing, it stays
@@ -44,9 +46,25 @@ output_of (SimpleProjection input columns) = []
 output_of (Sort input keys part options) = []
 output_of (Distinct input options) = []
 output_of (Sink input payload) = []
+output_of (Union inputs options) = []
+output_of (Cache input id cache_hits) = []
 output_of Invalid = []
+
+-- the node at a new number, and at the number a projection to these columns on top of it
+abbrev pub with_top : Columns → List IR → Node → IR → List IR
+with_top columns lp n p = slice_set (lp ++ p ∷ []) n.0 (SimpleProjection (record { 0 = length lp }) columns)
 
 -- the node at a number, with a projection on top that takes the number, or without
 abbrev pub with_node : Bool → List IR → Node → IR → List IR
-with_node true lp n p = slice_set (lp ++ p ∷ []) n.0 (SimpleProjection (record { 0 = length lp }) (output_of p))
+with_node true lp n p = with_top (output_of p) lp n p
 with_node false lp n p = slice_set lp n.0 p
+
+-- the node at a number, with a projection to columns on top that takes the number, where there are columns
+abbrev pub with_columns_on : Option Columns → List IR → Node → IR → List IR
+with_columns_on None lp n p = slice_set lp n.0 p
+with_columns_on (Some columns) lp n p = with_top columns lp n p
+
+-- the arena with a projection to columns on top of what stands at a number, where there are columns: that goes to a new number
+abbrev pub covered_at : Option Columns → List IR → Node → List IR
+covered_at None lp n = lp
+covered_at (Some columns) lp n = with_top columns (slice_set lp n.0 Invalid) n (unwrap_or (slice_get lp n.0) Invalid)

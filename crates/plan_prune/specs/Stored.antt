@@ -2,7 +2,7 @@
 use Rattle.std.specs.Prelude.{List, [], ◌∷◌}
 use Rattle.plan_core.specs.Columns.{Columns}
 use Rattle.plan_tree.specs.Rose.{Roses, rose, no_roses, more}
-use Rattle.plan_ir.specs.Plans.{Op, slice, filter, scan, frame_scan, simple_projection, select, hstack, sort, distinct, sink, invalid}
+use Rattle.plan_ir.specs.Plans.{Op, slice, filter, scan, frame_scan, simple_projection, select, hstack, sort, distinct, sink, union, cache, invalid}
 use Rattle.plan_meaning.specs.Typing.{columns_or, first_schema}
 
 -- the columns that a node says it has: those that it stores, else those of its input
@@ -17,6 +17,8 @@ stored_by (hstack exprs schema options) ss = schema
 stored_by (sort keys part options) ss = first_schema ss
 stored_by (distinct options) ss = first_schema ss
 stored_by (sink payload) ss = first_schema ss
+stored_by (union options) ss = first_schema ss
+stored_by (cache id hits) ss = first_schema ss
 stored_by invalid ss = []
 
 -- the columns that plans say they have, one for one

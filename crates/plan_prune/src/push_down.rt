@@ -15,6 +15,8 @@ ghost use Rattle.plan_prune.specs.Pruned.{pruned_all};
 ghost use Rattle.plan_prune.specs.Prunes.{MarksAt, PrunesAt};
 ghost use Rattle.plan_prune.specs.Reads.{ReadWithin, tops};
 
+mod cache;
+mod cover;
 mod distinct;
 mod exprs;
 mod filter;
@@ -30,7 +32,10 @@ mod sort;
 mod stand_in;
 mod step;
 mod stored;
+mod union;
 
+use crate::push_down::cover::cover;
+use crate::push_down::names::copied;
 use crate::push_down::step::Step;
 use plan_core::{Arena, Names, Node};
 use plan_expr::AExpr;
@@ -55,7 +60,8 @@ impl ProjectionPushDown {
     }
 
     /// Prunes the plan at `root`, of which every column is asked, and marks whether it counts rows. A projection goes on top of
-    /// each narrowed scan, and on none from the first count of rows on. Refuses for want of memory alone, and then nothing is
+    /// each narrowed scan, and on none from the first count of rows on; and on top of each cache that is asked names, and each of
+    /// several inputs of a union that is. What is below a cache stays as it is. Refuses for want of memory alone, and then nothing is
     /// known of what stands at `root`, and of the mark only that it isn't set back.
     pub fn optimize(
         &mut self,
@@ -113,6 +119,22 @@ impl ProjectionPushDown {
             } => {
                 self.push_down(alloc, input, asked, lp, ex)?;
                 step::put(alloc, node, entry, is_asked, on_top, lp)
+            }
+            Step::Closed { columns, entry } => cover::put(node, entry, columns, lp),
+            Step::Each {
+                inputs,
+                asked,
+                entry,
+            } => {
+                lp.put(node, entry);
+                let several = inputs.len() > 1;
+                for input in inputs.as_slice() {
+                    self.push_down(alloc, *input, copied(alloc, &asked)?, lp, ex)?;
+                    if several {
+                        cover(alloc, *input, &asked, lp)?;
+                    }
+                }
+                Ok(())
             }
         }
     }

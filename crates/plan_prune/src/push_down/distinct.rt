@@ -19,7 +19,7 @@ use crate::push_down::stored::stored;
 use plan_core::{Arena, Items, Names, Node, PlSmallStr, Schema};
 use plan_ir::IR;
 use plan_options::DistinctOptionsIR;
-use std::alloc::AllocError;
+use std::alloc::{AllocError, Global};
 
 /// What distinct rows ask their input: the asked names, and then the other names by which rows are told apart; no names
 /// stand for every column, and then they ask none.
@@ -43,6 +43,7 @@ fn asks(
 
 /// The step of distinct rows.
 pub fn prepare(
+    alloc: Global,
     input: Node,
     options: DistinctOptionsIR,
     asked: Names,
@@ -51,7 +52,8 @@ pub fn prepare(
     requires { (t : Trees IR) × StandsOnce plan_shape lp.now (input ∷ []) t }
     ensures { IfOk result (λ step. (ex : List AExpr) → step ≡ Over input (asked_with asked (names_or options.subset (names_of (columns_at lp.now ex input)))) (Distinct input options)) }
 {
-    let asked = asks(asked, &options.subset, stored(input, lp))?;
+    let none = Schema::new(alloc);
+    let asked = asks(asked, &options.subset, stored(input, lp, &none))?;
     Ok(Step::Over {
         input,
         asked,

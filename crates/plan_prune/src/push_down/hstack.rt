@@ -89,7 +89,9 @@ pub fn prepare(
     ensures { IfOk result (λ step. step ≡ stacked_step ex.now asked input exprs schema options (first_schema (stored_all (bare (plans_at lp.now ex.now (input ∷ [])))))) }
 {
     let exprs = keep(alloc, exprs, &asked)?;
-    let asked = asks(alloc, asked, exprs.as_slice(), stored(input, lp), ex)?;
+    let none = Schema::new(alloc);
+    let columns = stored(input, lp, &none);
+    let asked = asks(alloc, asked, exprs.as_slice(), columns, ex)?;
     Ok(Step::Over {
         input,
         asked,
@@ -137,7 +139,8 @@ pub fn put(
         lp.put(node, entry);
         return Ok(());
     }
-    let base = stored(input, lp).try_clone(alloc)?;
+    let none = Schema::new(alloc);
+    let base = stored(input, lp, &none).try_clone(alloc)?;
     let schema = with_typed(alloc, base, exprs.as_slice(), &schema)?;
     lp.put(
         node,

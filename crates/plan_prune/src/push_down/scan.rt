@@ -6,6 +6,7 @@ ghost use Rattle.plan_prune.specs.declared.push_down.step.Step.TheVariants.{Leaf
 ghost use Rattle.plan_prune.specs.Pruned.{typed_names};
 ghost use Rattle.plan_prune.specs.Scans.{kept_scan, narrowed as narrowed_to, output_of, with_node};
 
+use crate::push_down::cover::put_under;
 use crate::push_down::step::Step;
 use plan_core::{Arena, Items, Names, Node, PlSmallStr, Schema, TryClone};
 use plan_ir::IR;
@@ -110,7 +111,5 @@ pub fn put(
         return Ok(());
     }
     let columns = output(alloc, &scan)?;
-    let input = lp.add(scan)?;
-    lp.put(node, IR::SimpleProjection { input, columns });
-    Ok(())
+    put_under(node, scan, columns, lp)
 }

@@ -89,7 +89,8 @@ fn asks(
         add_all_names(&mut names, exprs, ex)?;
         return Ok(names);
     }
-    if let Some(name) = stand_in(input, lp, ex) {
+    let none = Schema::new(alloc);
+    if let Some(name) = stand_in(input, lp, ex, &none) {
         let _ = names.add(name)?;
     }
     Ok(names)

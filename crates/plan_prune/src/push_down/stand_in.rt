@@ -54,14 +54,20 @@ fn made_by(node: &IR) -> &[ExprIR]
     }
 }
 
-/// The name of the column that stands in for the rows of the plan at a number, if it has a column.
-pub fn stand_in<'a>(node: Node, lp: &'a Arena<IR>, ex: &Arena<AExpr>) -> Option<&'a str>
-    requires { IsPlan lp.now ex.now node }
+/// The name of the column that stands in for the rows of the plan at a number, if it has a column; `none` are no columns.
+pub fn stand_in<'a>(
+    node: Node,
+    lp: &'a Arena<IR>,
+    ex: &Arena<AExpr>,
+    none: &'a Schema,
+) -> Option<&'a str>
+    requires plan { IsPlan lp.now ex.now node }
+    requires none { none.now ≡ [] }
     ensures some { IfSome result (λ a. stand_in_at lp.now ex.now node ≡ Some a.now) }
     ensures none { IfNone result (stand_in_at lp.now ex.now node ≡ None) }
 {
     match first_many(made_by(lp.get(node)), ex) {
         Some(expr) => Some(output_name(&expr.output_name)),
-        None => last_name(stored(node, lp)),
+        None => last_name(stored(node, lp, none)),
     }
 }

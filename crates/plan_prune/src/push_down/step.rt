@@ -9,9 +9,9 @@ ghost use Rattle.plan_prune.specs.Prunes.{StandExprs};
 ghost use Rattle.plan_prune.specs.Steps.{put_back, step_of};
 
 use crate::push_down::{
-    distinct, filter, frame_scan, hstack, projection, scan, select, sink, slice, sort,
+    cache, distinct, filter, frame_scan, hstack, projection, scan, select, sink, slice, sort, union,
 };
-use plan_core::{Arena, Names, Node};
+use plan_core::{Arena, Items, Names, Node, Schema};
 use plan_expr::AExpr;
 use plan_ir::IR;
 use std::alloc::{AllocError, Global};
@@ -31,6 +31,22 @@ pub enum Step {
         /// The names that are asked of the input; no names stand for every column.
         asked: Names,
         /// The node that goes back over the input.
+        entry: IR,
+    },
+    /// What is below the node stays as it is.
+    Closed {
+        /// The columns of the projection that goes on top of the node; none where none goes there.
+        columns: Option<Schema>,
+        /// The node that goes back.
+        entry: IR,
+    },
+    /// The node goes back, and then each input is pruned.
+    Each {
+        /// The numbers of the inputs, in order.
+        inputs: Items<Node>,
+        /// The names that are asked of each input; no names stand for every column.
+        asked: Names,
+        /// The node that goes back over the inputs.
         entry: IR,
     },
 }
@@ -78,8 +94,14 @@ pub fn prepare(
             slice,
             sort_options,
         } => sort::prepare(input, by_column, slice, sort_options, asked, ex),
-        IR::Distinct { input, options } => distinct::prepare(input, options, asked, lp),
+        IR::Distinct { input, options } => distinct::prepare(alloc, input, options, asked, lp),
         IR::Sink { input, payload } => Ok(sink::prepare(input, payload, asked)),
+        IR::Union { inputs, options } => union::prepare(alloc, inputs, options, asked),
+        IR::Cache {
+            input,
+            id,
+            cache_hits,
+        } => cache::prepare(alloc, input, id, cache_hits, &asked, lp),
         IR::Invalid => Ok(Step::Leaf { entry: IR::Invalid }),
     }
 }

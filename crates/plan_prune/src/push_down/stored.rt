@@ -21,17 +21,23 @@ fn told<'a>(output: &'a Option<Schema>, columns: &'a Schema) -> &'a Schema
     }
 }
 
-/// The columns that the plan at a number says it has.
-pub fn stored(node: Node, lp: &Arena<IR>) -> &Schema
-    requires { (t : Trees IR) × StandsOnce plan_shape lp.now (node ∷ []) t }
+/// The columns that the plan at a number says it has; `none`, which are no columns, where a union without inputs says it.
+pub fn stored<'a>(node: Node, lp: &'a Arena<IR>, none: &'a Schema) -> &'a Schema
+    requires stands { (t : Trees IR) × StandsOnce plan_shape lp.now (node ∷ []) t }
+    requires none { none.now ≡ [] }
     ensures { (ex : List AExpr) → result.now ≡ first_schema (stored_all (bare (plans_at lp.now ex (node ∷ [])))) }
 {
     match lp.get(node) {
-        IR::Slice { input, .. } => stored(*input, lp),
-        IR::Filter { input, .. } => stored(*input, lp),
-        IR::Sort { input, .. } => stored(*input, lp),
-        IR::Distinct { input, .. } => stored(*input, lp),
-        IR::Sink { input, .. } => stored(*input, lp),
+        IR::Slice { input, .. } => stored(*input, lp, none),
+        IR::Filter { input, .. } => stored(*input, lp, none),
+        IR::Sort { input, .. } => stored(*input, lp, none),
+        IR::Distinct { input, .. } => stored(*input, lp, none),
+        IR::Sink { input, .. } => stored(*input, lp, none),
+        IR::Cache { input, .. } => stored(*input, lp, none),
+        IR::Union { inputs, .. } => match inputs.as_slice().first() {
+            Some(input) => stored(*input, lp, none),
+            None => none,
+        },
         IR::Scan {
             output_schema,
             file_info,
