@@ -1,10 +1,11 @@
 -- Keys of rows, and the numbers that they get in the order in which they come.
-use Rattle.std.proofs.Common.{◌≡◌, ◌++◌, ◌+◌, ◌<◌, ◌≤◌, ◌&&◌, length, get_or, ℕ, zero, suc, Bool, true, false, cond, List, [], ◌∷◌, refl, ap, ap₂, sym, ◌∙◌, arith, length-append, below_more, set, eqb-true, eq-eqb, true≢false, ◌≢◌, append-nil, get_or-set_same, get_or-set_other}
+use Rattle.std.proofs.Common.{◌≡◌, ◌⊎◌, inl, inr, subst, ◌++◌, ◌+◌, ◌<◌, ◌≤◌, ◌&&◌, ◌||◌, length, get_or, ℕ, zero, suc, Bool, true, false, cond, List, [], ◌∷◌, refl, ap, ap₂, sym, ◌∙◌, arith, length-append, below_more, set, eqb-true, eq-eqb, true≢false, ◌≢◌, append-nil, get_or-set_same, get_or-set_other}
 use Rattle.std.specs.Prelude.{nat_eq, not}
 use Rattle.std.proofs.Math.Dec.{eqb-suc-suc, eqb-suc-zero, eqb-zero-suc}
 use Rattle.std.specs.Cmp.{IsEquivalence}
 use Rattle.std.specs.List.{list_any, position_or_len}
 use Rattle.std.specs.Cmp.Lexicographic.{pointwise, lists_equiv}
+use Rattle.std.proofs.lemmas.Bool.{cases_lt}
 use Rattle.std.proofs.lemmas.List.{get_or_append_left, get_or_push}
 use Rattle.indexmap.specs.IndexSet.{insert_key}
 use Rattle.plan_table.specs.declared.value.AnyValue.{AnyValue}
@@ -32,6 +33,11 @@ module _ {T : Type 0} (eq : T → T → Bool) where
     pub rows : length numbers ≡ r
     pub is : (i : ℕ) → i < r → get_or numbers i 0 ≡ place ks (key i)
     pub within : (i : ℕ) → i < r → place ks (key i) < length ks
+    pub first : (i : ℕ) → i < r → (g : ℕ) → g < place ks (key i) → (j : ℕ) × (j < i) × (place ks (key j) ≡ g)
+    pub all : (g : ℕ) → g < length ks → (j : ℕ) × (j < r) × (place ks (key j) ≡ g)
+
+split : (g n : ℕ) → g < n + 1 → (g < n) ⊎ (g ≡ n)
+split g n lt = elim (cases_lt g n) as (λ _. (g < n) ⊎ (g ≡ n)) [ inl low ↦ inl low | inr high ↦ inr (omega (arith, lt, high)) ]
 
 one_more : (n : ℕ) → 1 + n ≡ suc n
 one_more n = omega arith
@@ -88,6 +94,37 @@ module _ {T : Type 0} (eq : T → T → Bool) (laws : IsEquivalence eq) where
       by true = omega arith
       by false = omega (arith, length-append ks (k ∷ []))
 
+  place-le : (ks : List T) (k : T) → place eq ks k ≤ length ks
+  place-le [] k = omega arith
+  place-le (h ∷ ks) k = by (eq k h) (place-le ks k)
+    where
+      by : (b : Bool) → place eq ks k ≤ length ks → cond (not b) (1 + place eq ks k) 0 ≤ suc (length ks)
+      by true le = omega arith
+      by false le = omega (arith, le)
+
+  -- a key that isn't there has the number after all
+  place-absent : (ks : List T) (k : T) → list_any (eq k) ks ≡ false → place eq ks k ≡ length ks
+  place-absent [] k e = refl
+  place-absent (h ∷ ks) k e = by (eq k h) refl e (place-absent ks k)
+    where
+      by : (b : Bool) → eq k h ≡ b → (b || list_any (eq k) ks) ≡ false → (list_any (eq k) ks ≡ false → place eq ks k ≡ length ks) → cond (not b) (1 + place eq ks k) 0 ≡ suc (length ks)
+      by true same e rest = cc
+      by false other e rest = let n = rest e in omega (arith, n)
+
+  -- each number so far is that of a row so far, with one key more too
+  all-grow : (key : ℕ → T) (ks : List T) (r : ℕ) → ((i : ℕ) → i < r → place eq ks (key i) < length ks) → ((g : ℕ) → g < length ks → (j : ℕ) × (j < r) × (place eq ks (key j) ≡ g)) → (g : ℕ) → g < length (insert_key eq ks (key r)) → (j : ℕ) × (j < r + 1) × (place eq (insert_key eq ks (key r)) (key j) ≡ g)
+  all-grow key ks r within all g lt = by (list_any (eq (key r)) ks) refl lt
+    where
+      old : g < length ks → (j : ℕ) × (j < r + 1) × (place eq (insert_key eq ks (key r)) (key j) ≡ g)
+      old small = let x = all g small in (x.0, omega (arith, x.1), stays ks (key r) (key x.0) (within x.0 x.1) ∙ x.2)
+
+      by : (b : Bool) → list_any (eq (key r)) ks ≡ b → g < length (cond b ks (ks ++ key r ∷ [])) → (j : ℕ) × (j < r + 1) × (place eq (insert_key eq ks (key r)) (key j) ≡ g)
+      by true e lt = old lt
+      by false e lt = elim (split g (length ks) (omega (arith, lt, length-append ks (key r ∷ [])))) as (λ _. (j : ℕ) × (j < r + 1) × (place eq (insert_key eq ks (key r)) (key j) ≡ g)) [
+        | inl small ↦ old small
+        | inr is ↦ (r, omega arith, new ks (key r) ∙ place-absent ks (key r) e ∙ sym is)
+      ]
+
   -- and so do they with the key of the next row
   pub places-grow : (key : ℕ → T) (ks more : List T) (numbers : List ℕ) (r n : ℕ) → HavePlaces eq key ks numbers r → more ≡ insert_key eq ks (key r) → n ≡ place eq ks (key r) → n < length more → HavePlaces eq key more (numbers ++ n ∷ []) (r + 1)
   places-grow key ks more numbers r n h e is lt = record {
@@ -99,6 +136,17 @@ module _ {T : Type 0} (eq : T → T → Bool) (laws : IsEquivalence eq) where
         let b : length more ≡ length (insert_key eq ks (key r)) = ap (length {A = T}) e in
         omega (arith, a, b, h.within i lt, grows ks (key r)))
         (let a : place eq more (key r) ≡ n = ap (λ (l : List T). place eq l (key r)) e ∙ new ks (key r) ∙ sym is in omega (arith, a, lt));
+    first = below_more _ _ (λ i lt g low.
+        let here : place eq more (key i) ≡ place eq ks (key i) = ap (λ (l : List T). place eq l (key i)) e ∙ stays ks (key r) (key i) (h.within i lt) in
+        let x = h.first i lt g (omega (arith, low, here)) in
+        (x.0, x.1, ap (λ (l : List T). place eq l (key x.0)) e ∙ stays ks (key r) (key x.0) (h.within x.0 (omega (arith, x.1, lt))) ∙ x.2))
+        (λ g low.
+        let here : place eq more (key r) ≡ place eq ks (key r) = ap (λ (l : List T). place eq l (key r)) e ∙ new ks (key r) in
+        let x = h.all g (omega (arith, low, here, place-le ks (key r))) in
+        (x.0, x.1, ap (λ (l : List T). place eq l (key x.0)) e ∙ stays ks (key r) (key x.0) (h.within x.0 x.1) ∙ x.2));
+    all = λ g low.
+        let x = all-grow key ks r h.within h.all g (subst (λ (l : List T). g < length l) e low) in
+        (x.0, x.1, ap (λ (l : List T). place eq l (key x.0)) e ∙ x.2);
   }
 
   -- two rows have the same number just where their keys are the same

@@ -19,8 +19,10 @@ key_at keys i = map (own_at i) keys
 abbrev pub rows_numbered : List ℕ → ℕ → List ℕ
 rows_numbered numbers g = places_from (λ i. nat_eq g (get_or numbers i 0)) 0 (length numbers)
 
--- rows below a height have numbers below a count, and two have the same one just where they are the same in each key
+-- rows below a height have numbers below a count, and two have the same one just where they are the same in each key; the numbers come from 0 on in the order in which their rows first come, and each below the count comes
 pub record AreNumbered (keys : List Cell) (h count : ℕ) (numbers : List ℕ) : Type 0 where
   pub height : length numbers ≡ h
   pub below : (i : ℕ) → i < h → get_or numbers i 0 < count
   pub same : (i j : ℕ) → i < h → j < h → nat_eq (get_or numbers i 0) (get_or numbers j 0) ≡ are_alike keys i j
+  pub first : (i : ℕ) → i < h → (g : ℕ) → g < get_or numbers i 0 → (j : ℕ) × (j < i) × (get_or numbers j 0 ≡ g)
+  pub all : (g : ℕ) → g < count → (j : ℕ) × (j < h) × (get_or numbers j 0 ≡ g)

@@ -12,7 +12,7 @@ use std::alloc::{AllocError, Global};
 /// The number of the group of each row, from the first row on.
 #[derive(Drop)]
 pub struct Groups {
-    /// How many groups there are.
+    /// How many groups there are; each has a row.
     pub count: usize,
     /// The number of each row, below the count.
     pub numbers: Items<usize>,
@@ -29,7 +29,8 @@ fn key_in(alloc: Global, keys: &[Values], row: usize) -> Result<Items<AnyValue>,
     Ok(key)
 }
 
-/// The groups of so many rows that are the same in each of the keys.
+/// The groups of so many rows that are the same in each of the keys, numbered from 0 on in the order in which their rows first
+/// come. Refuses for want of memory alone.
 pub fn grouped(alloc: Global, keys: &[Values], height: usize) -> Result<Groups, AllocError>
     ensures { IfOk result (λ groups. AreNumbered (cells_of keys.now) height groups.count groups.numbers) }
 {
@@ -56,7 +57,7 @@ fn no_rows(alloc: Global, count: usize) -> Result<Vec<Items<usize>>, AllocError>
     Ok(groups)
 }
 
-/// The rows of each group, in order.
+/// The rows of each group, in order, the groups by their numbers. Refuses for want of memory alone.
 pub fn rows_of_groups(alloc: Global, groups: &Groups) -> Result<Vec<Items<usize>>, AllocError>
     requires { (i : ℕ) → i < length groups.now.numbers → get_or groups.now.numbers i 0 < groups.now.count }
     ensures count { IfOk result (λ rows. length rows.items ≡ groups.now.count) }

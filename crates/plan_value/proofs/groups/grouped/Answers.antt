@@ -28,4 +28,6 @@ returns c =
       height = inv.rows;
       below = λ i lt. omega (arith, inv.is i lt, inv.within i lt, c.len.ensures.len);
       same = λ i j li lj. numbers-same eq keys_equiv key c.loop-row.seen.keys c.loop-row.numbers c.args.height i j inv li lj ∙ keys_alike c.args.keys.now i j;
+      first = λ i li g low. let x = inv.first i li g (omega (arith, low, inv.is i li)) in (x.0, x.1, inv.is x.0 (omega (arith, x.1, li)) ∙ x.2);
+      all = λ g low. let x = inv.all g (omega (arith, low, c.len.ensures.len)) in (x.0, x.1, inv.is x.0 x.1 ∙ x.2);
     }
