@@ -205,13 +205,11 @@ fn walks_over_nodes(rt: HostRuntime) -> Result<(), Fail> {
 fn walks_over_the_last_input_first(rt: HostRuntime) -> Result<(), Fail> {
     let alloc = rt.alloc();
     let mut lp = Arena::new(alloc);
+    let root = lp.add(union(alloc, &[1, 2])?)?;
     lp.add(scan(alloc, None)?)?;
-    lp.add(projection(alloc, 0)?)?;
     lp.add(scan(alloc, None)?)?;
-    lp.add(projection(alloc, 2)?)?;
-    let root = lp.add(union(alloc, &[1, 3])?)?;
     let numbers = walked(alloc, root, &lp)?.ok_or("a plan")?;
-    let wanted = [root, Node(3), Node(2), Node(1), Node(0)];
+    let wanted = [Node(0), Node(2), Node(1)];
     assert_eq!(rt; numbers.as_slice(), wanted.as_slice());
     Ok(())
 }
