@@ -1,9 +1,7 @@
 -- No plan, listing or error has a float, so its text is known.
 use Rattle.std.proofs.Common.{◌≡◌, ℕ, ℤ, pos, negsuc, Bool, List, [], ◌∷◌, false, Option, Some, None, refl}
-use Rattle.std.specs.Prelude.{codes}
-use Rattle.serde_json.specs.Data as json
-use Rattle.serde_json.specs.Data.{Data, boolean, string, member, no_members}
-use Rattle.serde_json.specs.Written.{has_float, members_have_float}
+use Rattle.serde_json.specs.Data.{Data, boolean, string}
+use Rattle.serde_json.specs.Written.{has_float}
 use Rattle.plan_core.specs.Columns.{Columns}
 use Rattle.plan_core.specs.declared.arena.Node.{Node}
 use Rattle.plan_core.specs.declared.error.PolarsError.{PolarsError}
@@ -23,7 +21,7 @@ use Rattle.plan_ir.specs.declared.scan.ScanSources.TheVariants as sources
 use Rattle.plan_options.specs.declared.distinct.DistinctOptionsIR.{DistinctOptionsIR}
 use Rattle.plan_options.specs.declared.sort.SortMultipleOptions.{SortMultipleOptions}
 use Rattle.plan_options.specs.declared.union.UnionOptions.{UnionOptions}
-use Rattle.plan_text.specs.Kinds.{place_of, format_text}
+use Rattle.plan_text.specs.Kinds.{place_of}
 use Rattle.plan_text.specs.Written.{link_data, integer_data, number_data, list_data, nullable_data, field_data, columns_data, names_data, truths_data, output_data, outputs_data, options_data, slice_data, row_index_data, sources_data, literal_data, expr_data, slice_node_data, scan_data, frame_scan_data, made_data, sort_data, distinct_data, union_data, cache_data, node_data, plan_data, fault_data}
 
 -- the value has no float
@@ -60,7 +58,7 @@ names_plain ns = list_plain string ns (λ n. refl)
 truths_plain : (bs : List Bool) → IsPlain (truths_data bs)
 truths_plain bs = list_plain boolean bs (λ b. refl)
 
-pub columns_plain : (cs : Columns) → IsPlain (columns_data cs)
+columns_plain : (cs : Columns) → IsPlain (columns_data cs)
 columns_plain cs = list_plain field_data cs (λ f. refl)
 
 sources_plain : (s : ScanSources) → IsPlain (sources_data s)
@@ -94,7 +92,7 @@ slice_node_plain : (input : Node) (offset : ℤ) (len : ℕ) → IsPlain (slice_
 unfolding slice_node_data
 slice_node_plain input offset len = rw (integer_plain offset) refl
 
-pub scan_plain : (from : ScanSources) (info : FileInfo) (predicate : Option ExprIR) (output : Option Columns) (format : FileScan) (options : FileScanOptions) → IsPlain (scan_data from info predicate output format options)
+scan_plain : (from : ScanSources) (info : FileInfo) (predicate : Option ExprIR) (output : Option Columns) (format : FileScan) (options : FileScanOptions) → IsPlain (scan_data from info predicate output format options)
 unfolding scan_data
 scan_plain from info predicate output format options =
     rw (
@@ -133,18 +131,6 @@ union_plain inputs options = rw (links_plain inputs, nullable_plain slice_data o
 cache_plain : (input : Node) (id hits : ℕ) → IsPlain (cache_data input id hits)
 unfolding cache_data
 cache_plain input id hits = refl
-
--- the same of the members of a scan, whatever their values are called
-pub scan_members_plain : (from : ScanSources) (info : FileInfo) (predicate : Option ExprIR) (output : Option Columns) (format : FileScan) (options : FileScanOptions)
-    (columns hive kind op out path named reader rechunk row all slice places : Data)
-    → columns ≡ nullable_data names_data options.with_columns → hive ≡ json.null → kind ≡ string (format_text format) → op ≡ string (codes "Scan")
-    → out ≡ nullable_data columns_data output → path ≡ nullable_data string options.include_file_paths → named ≡ nullable_data output_data predicate
-    → reader ≡ nullable_data columns_data info.reader_schema → rechunk ≡ boolean options.rechunk → row ≡ nullable_data row_index_data options.row_index
-    → all ≡ columns_data info.schema → slice ≡ nullable_data slice_data options.slice → places ≡ sources_data from
-    → members_have_float (member (codes "columns") columns (member (codes "hive") hive (member (codes "kind") kind (member (codes "op") op (member (codes "output") out (member (codes "path_column") path (member (codes "predicate") named (member (codes "reader") reader (member (codes "rechunk") rechunk (member (codes "row_index") row (member (codes "schema") all (member (codes "slice") slice (member (codes "sources") places no_members))))))))))))) ≡ false
-unfolding scan_data
-scan_members_plain from info predicate output format options columns hive kind op out path named reader rechunk row all slice places e1 e2 e3 e4 e5 e6 e7 e8 e9 e10 e11 e12 e13 =
-    rw (e1, e2, e3, e4, e5, e6, e7, e8, e9, e10, e11, e12, e13) (scan_plain from info predicate output format options)
 
 pub node_plain : (n : IR) → IsPlain (node_data n)
 unfolding node_data

@@ -3,4 +3,4 @@ pub mod ListLemmas
 pub mod ObjectLemmas
 pub mod FloatLemmas
 pub mod DepthLemmas
-pub mod PieceLemmas
+pub mod TextLemmas

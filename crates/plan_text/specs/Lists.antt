@@ -1,12 +1,10 @@
 -- What functions that write each of several values answer, by what their calls answered.
 use Rattle.std.specs.Prelude.{ℕ, Bool, true, ◌&&◌, List, [], ◌∷◌, Result, Ok, IfOk, Vec}
-use Rattle.std.specs.Borrow.{Bor}
 use Rattle.std.specs.Ordering.{nat_cmp, is_lt}
 use Rattle.std.specs.Cmp.Lexicographic.{slice_cmp}
 use Rattle.std.specs.declared.alloc.Global.{Global}
 use Rattle.std.specs.declared.alloc.AllocError.{AllocError}
 use Rattle.serde_json.specs.Data.{Data, Members, no_members, member}
-use Rattle.serde_json.specs.View.{view}
 use Rattle.serde_json.specs.declared.value.Value.{Value}
 
 -- the call at each value gave the written value at its place
@@ -25,14 +23,6 @@ abbrev pub are_ascending : List (List ℕ) → Bool
 are_ascending [] = true
 are_ascending (k ∷ []) = true
 are_ascending (k ∷ l ∷ ks) = is_lt (slice_cmp nat_cmp k l) && are_ascending (l ∷ ks)
-
--- the key of an entry
-abbrev pub key_of : Bor (List ℕ) × Value → List ℕ
-key_of e = e.0.now
-
--- the key of an entry, with what its value is
-abbrev pub entry_data : Bor (List ℕ) × Value → List ℕ × Data
-entry_data e = (key_of e, view e.1)
 
 -- each key with its value
 abbrev pub members_from : List (List ℕ × Data) → Members

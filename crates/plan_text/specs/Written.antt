@@ -112,9 +112,13 @@ slice_data s = two_data (integer_data s.0) (number_data s.1)
 abbrev pub row_index_data : RowIndex → Data
 row_index_data r = two_data (string r.name) (number_data r.offset)
 
+-- the object of paths
+abbrev pub paths_data : List (List ℕ) → Data
+paths_data ps = object (member (codes "paths") (names_data ps) no_members)
+
 -- where a scan reads from
 abbrev pub sources_data : ScanSources → Data
-sources_data (sources.Paths ps) = object (member (codes "paths") (names_data ps) no_members)
+sources_data (sources.Paths ps) = paths_data ps
 
 -- a value that is written out, null where there is none
 abbrev pub literal_data : LiteralValue → Data

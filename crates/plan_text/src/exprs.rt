@@ -1,104 +1,164 @@
-//! The JSON values of expressions.
+//! The entries of the objects of expressions, each kind's in a function of its own: keys in byte order, with what stands
+//! there.
 ghost use Rattle.std.specs.Prelude.{◌≡◌, IfOk};
-ghost use Rattle.serde_json.specs.View.{view};
-ghost use Rattle.plan_expr.specs.declared.aexpr.AExpr.TheVariants.{BinaryExpr, Ternary, Agg, Function, Window};
-ghost use Rattle.plan_text.specs.Written.{expr_data, list_data};
+ghost use Rattle.plan_expr.specs.declared.aexpr.AExpr.TheVariants.{Agg, Alias, BinaryExpr, Column, Function, Literal, Ternary, Window};
+ghost use Rattle.plan_text.specs.Pieces.{piece_data, Tells};
+ghost use Rattle.plan_text.specs.Written.{expr_data, literal_data};
 
 use crate::kinds::{agg_name, function_name, literal_type, operator_name};
-use crate::lists::each_entry;
-use crate::parts::{links, literal};
-use plan_core::{Arena, Items, Node};
-use plan_expr::{AExpr, FunctionExpr, IRAggExpr, Operator};
+use crate::nodes::Entries;
+use crate::pieces::Piece;
+use plan_core::{Items, Node, PlSmallStr};
+use plan_expr::{AExpr, FunctionExpr, IRAggExpr, LiteralValue, Operator};
 use plan_options::FunctionOptions;
-use serde_json::{Value, json};
 use std::alloc::{AllocError, Global};
 
-/// The object of a binary expression.
-#[tactic(auto, unfolding(crate::specs::Written::expr_data))]
-fn binary(alloc: Global, left: Node, op: Operator, right: Node) -> Result<Value, AllocError>
-    ensures { IfOk result (λ v. view v ≡ expr_data (BinaryExpr left op right)) }
+/// The value of a literal: null, a number, a text or a truth value.
+fn literal(value: &LiteralValue) -> Piece<'_>
+    ensures { piece_data result ≡ literal_data value.now }
 {
-    json!(in alloc; {
-        "left": left.0,
-        "op": "BinaryExpr",
-        "operator": operator_name(op),
-        "right": right.0
-    })
+    match value {
+        LiteralValue::Null(_) => Piece::Null,
+        LiteralValue::Int64(number) => Piece::Integer(*number),
+        LiteralValue::String(text) => Piece::Text(text.as_str()),
+        LiteralValue::Boolean(truth) => Piece::Boolean(*truth),
+    }
 }
 
-/// The object of a choice.
+/// The entries of a column.
 #[tactic(auto, unfolding(crate::specs::Written::expr_data))]
-fn ternary(alloc: Global, predicate: Node, truthy: Node, falsy: Node) -> Result<Value, AllocError>
-    ensures { IfOk result (λ v. view v ≡ expr_data (Ternary predicate truthy falsy)) }
+fn column<'a>(alloc: Global, name: &'a PlSmallStr) -> Result<Entries<'a>, AllocError>
+    ensures { IfOk result (λ es. Tells es.items (expr_data (Column name.now))) }
 {
-    json!(in alloc; {
-        "falsy": falsy.0,
-        "op": "Ternary",
-        "predicate": predicate.0,
-        "truthy": truthy.0
-    })
+    Ok(vec![in alloc;
+        ("name", Piece::Text(name.as_str())),
+        ("op", Piece::Text("Column")),
+    ]?)
 }
 
-/// The object of an aggregate.
+/// The entries of a literal.
 #[tactic(auto, unfolding(crate::specs::Written::expr_data))]
-fn agg(alloc: Global, given: IRAggExpr) -> Result<Value, AllocError>
-    ensures { IfOk result (λ v. view v ≡ expr_data (Agg given)) }
+fn literal_value<'a>(alloc: Global, given: &'a LiteralValue) -> Result<Entries<'a>, AllocError>
+    ensures { IfOk result (λ es. Tells es.items (expr_data (Literal given.now))) }
 {
-    json!(in alloc; {"input": given.input().0, "kind": agg_name(given), "op": "Agg"})
+    Ok(vec![in alloc;
+        ("op", Piece::Text("Literal")),
+        ("type", Piece::Text(literal_type(given))),
+        ("value", literal(given)),
+    ]?)
 }
 
-/// The object of a function over inputs. Its options are its own, and don't stand in it.
+/// The entries of an expression under another name.
 #[tactic(auto, unfolding(crate::specs::Written::expr_data))]
-fn function(
+fn alias<'a>(alloc: Global, input: Node, name: &'a PlSmallStr) -> Result<Entries<'a>, AllocError>
+    ensures { IfOk result (λ es. Tells es.items (expr_data (Alias input name.now))) }
+{
+    Ok(vec![in alloc;
+        ("input", Piece::Number(input.0)),
+        ("name", Piece::Text(name.as_str())),
+        ("op", Piece::Text("Alias")),
+    ]?)
+}
+
+/// The entries of a binary expression.
+#[tactic(auto, unfolding(crate::specs::Written::expr_data))]
+fn binary<'a>(
     alloc: Global,
-    input: &Items<Node>,
+    left: Node,
+    op: Operator,
+    right: Node,
+) -> Result<Entries<'a>, AllocError>
+    ensures { IfOk result (λ es. Tells es.items (expr_data (BinaryExpr left op right))) }
+{
+    let operator: &'a str = operator_name(op);
+    Ok(vec![in alloc;
+        ("left", Piece::Number(left.0)),
+        ("op", Piece::Text("BinaryExpr")),
+        ("operator", Piece::Text(operator)),
+        ("right", Piece::Number(right.0)),
+    ]?)
+}
+
+/// The entries of a choice.
+#[tactic(auto, unfolding(crate::specs::Written::expr_data))]
+fn ternary<'a>(
+    alloc: Global,
+    predicate: Node,
+    truthy: Node,
+    falsy: Node,
+) -> Result<Entries<'a>, AllocError>
+    ensures { IfOk result (λ es. Tells es.items (expr_data (Ternary predicate truthy falsy))) }
+{
+    Ok(vec![in alloc;
+        ("falsy", Piece::Number(falsy.0)),
+        ("op", Piece::Text("Ternary")),
+        ("predicate", Piece::Number(predicate.0)),
+        ("truthy", Piece::Number(truthy.0)),
+    ]?)
+}
+
+/// The entries of an aggregate.
+#[tactic(auto, unfolding(crate::specs::Written::expr_data))]
+fn agg<'a>(alloc: Global, given: IRAggExpr) -> Result<Entries<'a>, AllocError>
+    ensures { IfOk result (λ es. Tells es.items (expr_data (Agg given))) }
+{
+    let kind: &'a str = agg_name(given);
+    Ok(vec![in alloc;
+        ("input", Piece::Number(given.input().0)),
+        ("kind", Piece::Text(kind)),
+        ("op", Piece::Text("Agg")),
+    ]?)
+}
+
+/// The entries of a function over inputs. Its options are its own, and don't stand in it.
+#[tactic(auto, unfolding(crate::specs::Written::expr_data))]
+fn function<'a>(
+    alloc: Global,
+    input: &'a Items<Node>,
     given: FunctionExpr,
     options: FunctionOptions,
-) -> Result<Value, AllocError>
-    ensures { IfOk result (λ v. view v ≡ expr_data (Function input.now given options)) }
+) -> Result<Entries<'a>, AllocError>
+    ensures { IfOk result (λ es. Tells es.items (expr_data (Function input.now given options))) }
 {
-    let inputs = links(alloc, input)?;
-    json!(in alloc; {"inputs": inputs, "name": function_name(given), "op": "Function"})
+    Ok(vec![in alloc;
+        ("inputs", Piece::Links(input.as_slice())),
+        ("name", Piece::Text(function_name(given))),
+        ("op", Piece::Text("Function")),
+    ]?)
 }
 
-/// The object of a window.
+/// The entries of a window.
 #[tactic(auto, unfolding(crate::specs::Written::expr_data))]
-fn window(alloc: Global, function: Node, keys: &Items<Node>) -> Result<Value, AllocError>
-    ensures { IfOk result (λ v. view v ≡ expr_data (Window function keys.now)) }
+fn window<'a>(
+    alloc: Global,
+    function: Node,
+    keys: &'a Items<Node>,
+) -> Result<Entries<'a>, AllocError>
+    ensures { IfOk result (λ es. Tells es.items (expr_data (Window function keys.now))) }
 {
-    let partition_by = links(alloc, keys)?;
-    json!(in alloc; {"function": function.0, "op": "Window", "partition_by": partition_by})
+    Ok(vec![in alloc;
+        ("function", Piece::Number(function.0)),
+        ("op", Piece::Text("Window")),
+        ("partition_by", Piece::Links(keys.as_slice())),
+    ]?)
 }
 
-/// The object of an expression: of each kind a row or two.
+/// The entries of an expression: of each kind a row or two.
 #[rattlefmt::skip]
 #[tactic(auto, unfolding(crate::specs::Written::expr_data))]
-fn expr(alloc: Global, expr: &AExpr) -> Result<Value, AllocError>
-    ensures { IfOk result (λ v. view v ≡ expr_data expr.now) }
+pub fn expr_entries(alloc: Global, expr: &AExpr) -> Result<Entries<'_>, AllocError>
+    ensures { IfOk result (λ es. Tells es.items (expr_data expr.now)) }
 {
     match expr {
-        AExpr::Column(name) => json!(in alloc; {"name": name.as_str(), "op": "Column"}),
-        AExpr::Literal(given) => {
-            let value = literal(alloc, given)?;
-            json!(in alloc; {"op": "Literal", "type": literal_type(given), "value": value})
-        }
-        AExpr::Alias(input, name) => {
-            json!(in alloc; {"input": input.0, "name": name.as_str(), "op": "Alias"})
-        }
+        AExpr::Column(name) => column(alloc, name),
+        AExpr::Literal(given) => literal_value(alloc, given),
+        AExpr::Alias(input, name) => alias(alloc, *input, name),
         AExpr::BinaryExpr { left, op, right } => binary(alloc, *left, *op, *right),
         AExpr::Ternary { predicate, truthy, falsy } => ternary(alloc, *predicate, *truthy, *falsy),
         AExpr::Agg(given) => agg(alloc, *given),
         AExpr::Function { input, function: given, options } =>
             function(alloc, input, *given, *options),
         AExpr::Window { function, partition_by } => window(alloc, *function, partition_by),
-        AExpr::Len => json!(in alloc; {"op": "Len"}),
+        AExpr::Len => Ok(vec![in alloc; ("op", Piece::Text("Len"))]?),
     }
-}
-
-/// The array of the expressions of an arena, by their numbers.
-pub fn exprs(alloc: Global, arena: &Arena<AExpr>) -> Result<Value, AllocError>
-    ensures { IfOk result (λ v. view v ≡ list_data expr_data arena.now) }
-{
-    let written = each_entry(alloc, arena, |given| expr(alloc, given))?;
-    Ok(Value::Array(written))
 }

@@ -5,11 +5,13 @@ mod exprs;
 mod kinds;
 mod listing;
 mod lists;
-mod objects;
-mod parts;
+mod nodes;
+mod origins;
 mod pieces;
 mod plan;
 mod rows;
 mod texts;
+mod values;
+mod writing;
 
 pub use texts::{write_fault, write_listing, write_plan, write_schema};

@@ -1,192 +1,123 @@
-//! The text of a listing, for which no value of a whole node is made.
-ghost use Rattle.std.specs.Prelude.{◌≡◌, ◌++◌, IfOk, option_copied};
-ghost use Rattle.serde_json.specs.Data.{null as json_null};
-ghost use Rattle.serde_json.specs.View.{view};
-ghost use Rattle.serde_json.specs.Written.{compact_text};
-ghost use Rattle.plan_ir.specs.declared.ir.IR.TheVariants.{SimpleProjection};
-ghost use Rattle.plan_text.specs.Pieces.{piece_data};
-ghost use Rattle.plan_text.specs.Written.{columns_data, list_data, listing_data, names_data, node_data, nullable_data, plan_data, scan_data};
+//! The text of a listing, for which no value is made.
+ghost use Rattle.std.specs.Prelude.{◌≡◌, ◌++◌, IfOk, OnOk, option_copied};
+ghost use Rattle.json.specs.Tree.{json_tokens};
+ghost use Rattle.serde_json.specs.Written.{compact_text, outline};
+ghost use Rattle.plan_text.specs.Written.{expr_data, list_data, listing_data, names_data, node_data, plan_data};
 
-use crate::exprs::exprs;
-use crate::kinds::format_name;
-use crate::parts::{optional_name, optional_output, optional_row_index, optional_slice, sources};
-use crate::pieces::{Piece, with_comma, with_key, with_names, with_object, with_value};
-use crate::plan::node as node_value;
-use crate::rows::with_rows;
-use plan_core::{Arena, FileScanOptions, Items, Node, PlSmallStr, Schema};
-use plan_expr::ExprIR;
-use plan_ir::{FileInfo, FileScan, IR, PlanCopy, ScanSources};
+use crate::exprs::expr_entries;
+use crate::nodes::node_entries;
+use crate::rows::write_rows;
+use crate::writing::{write_names, write_object};
+use json::Writer;
+use plan_core::{Arena, Items, Node, PlSmallStr};
+use plan_expr::AExpr;
+use plan_ir::{IR, PlanCopy};
 use plan_table::Table;
-use serde_json::Value;
 use std::alloc::{AllocError, Global};
 
-/// The value null.
-fn null() -> Value
-    ensures { view result ≡ json_null }
+/// Writes the object of an expression.
+fn write_expr(alloc: Global, writer: &mut Writer, expr: &AExpr) -> Result<(), AllocError>
+    ensures tokens { OnOk result (writer.new.tokens
+        ≡ writer.old.tokens ++ json_tokens (outline (expr_data expr.now))) }
+    ensures before { OnOk result (writer.new.before ≡ writer.old.before) }
 {
-    Value::Null
+    let entries = expr_entries(alloc, expr)?;
+    write_object(writer, entries.as_slice())
 }
 
-/// The piece of columns that may be there, else null.
-fn columns_piece(given: &Option<Schema>) -> Piece<'_>
-    ensures { piece_data result ≡ nullable_data columns_data given.now }
-{
-    match given {
-        None => Piece::Made(Value::Null),
-        Some(schema) => Piece::Columns(schema),
-    }
-}
-
-/// The piece of names that may be there, else null.
-fn names_piece(given: &Option<Items<PlSmallStr>>) -> Piece<'_>
-    ensures { piece_data result ≡ nullable_data names_data given.now }
-{
-    match given {
-        None => Piece::Made(Value::Null),
-        Some(names) => Piece::Names(names.as_slice()),
-    }
-}
-
-/// Bytes with the text of a scan after them.
-#[tactic(auto, unfolding(crate::specs::Written::scan_data))]
-fn with_scan<'a>(
-    alloc: Global,
-    bytes: Vec<u8>,
-    from: &ScanSources,
-    info: &'a FileInfo,
-    predicate: &Option<ExprIR>,
-    output_schema: &'a Option<Schema>,
-    format: FileScan,
-    options: &'a FileScanOptions,
-) -> Result<Vec<u8>, AllocError>
-    ensures { IfOk result (λ text. text.items ≡ bytes.items
-        ++ compact_text (scan_data from.now info.now predicate.now output_schema.now format options.now)) }
-{
-    let hive = null();
-    let rechunk = Value::from(options.rechunk);
-    let kind = Value::try_from_str(alloc, format_name(format))?;
-    let op = Value::try_from_str(alloc, "Scan")?;
-    let path_column = optional_name(alloc, &options.include_file_paths)?;
-    let predicate = optional_output(alloc, predicate)?;
-    let row_index = optional_row_index(alloc, &options.row_index)?;
-    let slice = optional_slice(alloc, options.slice)?;
-    let sources = sources(alloc, from)?;
-    let entries = vec![in alloc;
-        ("columns", names_piece(&options.with_columns)),
-        ("hive", Piece::Made(hive)),
-        ("kind", Piece::Made(kind)),
-        ("op", Piece::Made(op)),
-        ("output", columns_piece(output_schema)),
-        ("path_column", Piece::Made(path_column)),
-        ("predicate", Piece::Made(predicate)),
-        ("reader", columns_piece(&info.reader_schema)),
-        ("rechunk", Piece::Made(rechunk)),
-        ("row_index", Piece::Made(row_index)),
-        ("schema", Piece::Columns(&info.schema)),
-        ("slice", Piece::Made(slice)),
-        ("sources", Piece::Made(sources)),
-    ]?;
-    with_object(alloc, bytes, entries)
-}
-
-/// Bytes with the text of a simple projection after them.
-#[tactic(auto, unfolding(crate::specs::Written::node_data))]
-fn with_projection(
-    alloc: Global,
-    bytes: Vec<u8>,
-    input: Node,
-    columns: &Schema,
-) -> Result<Vec<u8>, AllocError>
-    ensures { IfOk result (λ text. text.items ≡ bytes.items
-        ++ compact_text (node_data (SimpleProjection input columns.now))) }
-{
-    let op = Value::try_from_str(alloc, "SimpleProjection")?;
-    let entries = vec![in alloc;
-        ("columns", Piece::Columns(columns)),
-        ("input", Piece::Made(Value::from(input.0))),
-        ("op", Piece::Made(op)),
-    ]?;
-    with_object(alloc, bytes, entries)
-}
-
-/// Bytes with the text of a node after them.
-#[tactic(auto, using(crate::proofs::FloatLemmas::node_plain), unfolding(crate::specs::Written::node_data))]
-fn with_node(alloc: Global, bytes: Vec<u8>, node: &IR) -> Result<Vec<u8>, AllocError>
-    ensures { IfOk result (λ text. text.items ≡ bytes.items ++ compact_text (node_data node.now)) }
-{
-    match node {
-        IR::Scan {
-            sources,
-            file_info,
-            predicate,
-            output_schema,
-            scan_type,
-            file_options,
-        } => with_scan(
-            alloc,
-            bytes,
-            sources,
-            file_info,
-            predicate,
-            output_schema,
-            *scan_type,
-            file_options,
-        ),
-        IR::SimpleProjection { input, columns } => with_projection(alloc, bytes, *input, columns),
-        _ => {
-            let value = node_value(alloc, node)?;
-            with_value(alloc, bytes, &value)
-        }
-    }
-}
-
-/// Bytes with the text of the nodes of an arena after them.
+/// Writes the array of the expressions of an arena.
 #[tactic(auto, unfolding(crate::specs::Written::list_data))]
-fn with_nodes(alloc: Global, bytes: Vec<u8>, arena: &Arena<IR>) -> Result<Vec<u8>, AllocError>
-    ensures { IfOk result (λ text. text.items ≡ bytes.items ++ compact_text (list_data node_data arena.now)) }
+fn write_exprs(alloc: Global, writer: &mut Writer, arena: &Arena<AExpr>) -> Result<(), AllocError>
+    ensures tokens { OnOk result (writer.new.tokens
+        ≡ writer.old.tokens ++ json_tokens (outline (list_data expr_data arena.now))) }
+    ensures before { OnOk result (writer.new.before ≡ writer.old.before) }
 {
-    let mut text = bytes;
-    text.push(b'[')?;
+    writer.begin_array()?;
     for i in 0..arena.len() {
-        text = with_node(alloc, with_comma(text, i > 0)?, arena.get(Node(i)))?;
+        write_expr(alloc, writer, arena.get(Node(i)))?;
     }
-    text.push(b']')?;
-    Ok(text)
+    writer.end_array()
 }
 
-/// Bytes with the text of lists of names after them.
+/// Writes the object of a node.
+fn write_node(alloc: Global, writer: &mut Writer, node: &IR) -> Result<(), AllocError>
+    ensures tokens { OnOk result (writer.new.tokens
+        ≡ writer.old.tokens ++ json_tokens (outline (node_data node.now))) }
+    ensures before { OnOk result (writer.new.before ≡ writer.old.before) }
+{
+    let entries = node_entries(alloc, node)?;
+    write_object(writer, entries.as_slice())
+}
+
+/// Writes the array of the nodes of an arena.
 #[tactic(auto, unfolding(crate::specs::Written::list_data))]
-fn with_reads(bytes: Vec<u8>, reads: &[Items<PlSmallStr>]) -> Result<Vec<u8>, AllocError>
-    ensures { IfOk result (λ text. text.items ≡ bytes.items ++ compact_text (list_data names_data reads.now)) }
+fn write_nodes(alloc: Global, writer: &mut Writer, arena: &Arena<IR>) -> Result<(), AllocError>
+    ensures tokens { OnOk result (writer.new.tokens
+        ≡ writer.old.tokens ++ json_tokens (outline (list_data node_data arena.now))) }
+    ensures before { OnOk result (writer.new.before ≡ writer.old.before) }
 {
-    let mut text = bytes;
-    text.push(b'[')?;
-    for i in 0..reads.len() {
-        text = with_names(with_comma(text, i > 0)?, reads[i].as_slice())?;
+    writer.begin_array()?;
+    for i in 0..arena.len() {
+        write_node(alloc, writer, arena.get(Node(i)))?;
     }
-    text.push(b']')?;
-    Ok(text)
+    writer.end_array()
 }
 
-/// Bytes with the text of a plan after them.
-#[tactic(auto, using(crate::proofs::FloatLemmas::exprs_plain))]
-fn with_plan(alloc: Global, bytes: Vec<u8>, plan: &PlanCopy) -> Result<Vec<u8>, AllocError>
-    ensures { IfOk result (λ text. text.items ≡ bytes.items
-        ++ compact_text (plan_data plan.now.lp plan.now.ex plan.now.root)) }
+/// Writes the object of a plan.
+#[tactic(auto, unfolding(crate::specs::Written::plan_data))]
+fn write_plan(alloc: Global, writer: &mut Writer, plan: &PlanCopy) -> Result<(), AllocError>
+    ensures tokens { OnOk result (writer.new.tokens
+        ≡ writer.old.tokens ++ json_tokens (outline (plan_data plan.now.lp plan.now.ex plan.now.root))) }
+    ensures before { OnOk result (writer.new.before ≡ writer.old.before) }
 {
-    let exprs = exprs(alloc, &plan.ex)?;
-    let root = Value::from(plan.root.0);
-    let mut text = bytes;
-    text.push(b'{')?;
-    let text = with_value(alloc, with_key(text, false, "exprs")?, &exprs)?;
-    let text = with_nodes(alloc, with_key(text, true, "nodes")?, &plan.lp)?;
-    let mut text = with_value(alloc, with_key(text, true, "root")?, &root)?;
-    text.push(b'}')?;
-    Ok(text)
+    writer.begin_object()?;
+    writer.key("exprs")?;
+    write_exprs(alloc, writer, &plan.ex)?;
+    writer.key("nodes")?;
+    write_nodes(alloc, writer, &plan.lp)?;
+    writer.key("root")?;
+    writer.u64(plan.root.0 as u64)?;
+    writer.end_object()
+}
+
+/// Writes the array of lists of names.
+#[tactic(auto, unfolding(crate::specs::Written::list_data))]
+fn write_reads(writer: &mut Writer, reads: &[Items<PlSmallStr>]) -> Result<(), AllocError>
+    ensures tokens { OnOk result (writer.new.tokens
+        ≡ writer.old.tokens ++ json_tokens (outline (list_data names_data reads.now))) }
+    ensures before { OnOk result (writer.new.before ≡ writer.old.before) }
+{
+    writer.begin_array()?;
+    for names in reads {
+        write_names(writer, names.as_slice())?;
+    }
+    writer.end_array()
+}
+
+/// Writes the object of a listing.
+#[tactic(auto, unfolding(crate::specs::Written::listing_data))]
+fn write_listing(
+    alloc: Global,
+    writer: &mut Writer,
+    plan: &PlanCopy,
+    reads: &[Items<PlSmallStr>],
+    rows: Option<&Table>,
+) -> Result<(), AllocError>
+    ensures tokens { OnOk result (writer.new.tokens ≡ writer.old.tokens ++ json_tokens (outline
+        (listing_data plan.now.lp plan.now.ex plan.now.root reads.now (option_copied rows.entry)))) }
+    ensures before { OnOk result (writer.new.before ≡ writer.old.before) }
+{
+    writer.begin_object()?;
+    writer.key("plan")?;
+    write_plan(alloc, writer, plan)?;
+    writer.key("reads")?;
+    write_reads(writer, reads)?;
+    writer.key("rows")?;
+    write_rows(writer, rows)?;
+    writer.end_object()
 }
 
 /// The text of a listing, with no line feed.
-#[tactic(auto, unfolding(crate::specs::Written::listing_data))]
 pub fn listing_bytes(
     alloc: Global,
     plan: &PlanCopy,
@@ -196,11 +127,7 @@ pub fn listing_bytes(
     ensures { IfOk result (λ text. text.items ≡ compact_text
         (listing_data plan.now.lp plan.now.ex plan.now.root reads.now (option_copied rows.entry))) }
 {
-    let mut text = Vec::new(alloc);
-    text.push(b'{')?;
-    let text = with_plan(alloc, with_key(text, false, "plan")?, plan)?;
-    let text = with_reads(with_key(text, true, "reads")?, reads)?;
-    let mut text = with_rows(with_key(text, true, "rows")?, rows)?;
-    text.push(b'}')?;
-    Ok(text)
+    let mut writer = Writer::new(Vec::new(alloc));
+    write_listing(alloc, &mut writer, plan, reads, rows)?;
+    Ok(writer.into_inner())
 }

@@ -1,147 +1,123 @@
-//! Texts of values that need not be made: columns and names are written as they stand.
-ghost use Rattle.std.specs.Prelude.{◌≡◌, ◌++◌, ◌∷◌, [], map, false, IfOk, OnOk};
-ghost use Rattle.json.specs.Print.{quoted};
-ghost use Rattle.json.specs.Tree.{json_tokens};
-ghost use Rattle.serde_json.specs.Data.{string, object as an_object};
-ghost use Rattle.serde_json.specs.View.{view};
-ghost use Rattle.serde_json.specs.Written.{comma_if, compact_text, has_float, members_have_float, members_text, outline};
-ghost use Rattle.plan_text.specs.Lists.{members_from};
-ghost use Rattle.plan_text.specs.Pieces.{piece_data, piece_entry};
-ghost use Rattle.plan_text.specs.Written.{columns_data, field_data, names_data};
+//! What stands under the keys of objects, told by the parts of a plan, so that no value need be made of them.
+ghost use Rattle.std.specs.Prelude.{◌≡◌};
+ghost use Rattle.serde_json.specs.Data.{string};
+ghost use Rattle.plan_text.specs.Pieces.{piece_data};
+ghost use Rattle.plan_text.specs.Written.{columns_data, names_data, nullable_data, number_data, output_data, row_index_data, slice_data, sources_data};
 
-use crate::kinds::type_name;
-use json::Writer;
-use plan_core::{DataType, PlSmallStr, Schema};
-use serde_json::Value;
-use std::alloc::{AllocError, Global};
+use plan_core::{Items, Node, PlSmallStr, ProjectionOptions, RowIndex, Schema};
+use plan_expr::ExprIR;
+use plan_ir::ScanSources;
 
-/// A value to be written: made, or told by columns or names.
+/// A value that is to be written.
 #[derive(Drop)]
 pub enum Piece<'a> {
-    Made(Value),
-    Columns(&'a Schema),
+    /// Null.
+    Null,
+    /// A truth value.
+    Boolean(bool),
+    /// The array of truth values.
+    Booleans(&'a [bool]),
+    /// A number from 0 on.
+    Number(usize),
+    /// A whole number.
+    Integer(i64),
+    /// A text.
+    Text(&'a str),
+    /// The array of names.
     Names(&'a [PlSmallStr]),
+    /// The object of paths.
+    Paths(&'a [PlSmallStr]),
+    /// The array of columns, each with its name and its type.
+    Columns(&'a Schema),
+    /// The array of the numbers of nodes or of expressions.
+    Links(&'a [Node]),
+    /// An expression that is put out: its number, where its name comes from, and its name.
+    Output(&'a ExprIR),
+    /// The array of expressions that are put out.
+    Outputs(&'a [ExprIR]),
+    /// The three truth values of what a node that makes columns may do.
+    Options(ProjectionOptions),
+    /// The name of the column that numbers the rows, and the number of the first row.
+    RowIndex(&'a RowIndex),
+    /// The first row, and how many rows.
+    Slice(i64, usize),
 }
 
-/// Writes a column: its name and its type.
-fn write_field(writer: &mut Writer, name: &str, data_type: DataType) -> Result<(), AllocError>
-    ensures tokens { OnOk result (writer.new.tokens
-        ≡ writer.old.tokens ++ json_tokens (outline (field_data (name.now, data_type)))) }
-    ensures before { OnOk result (writer.new.before ≡ writer.old.before) }
+/// Columns, or null.
+pub fn optional_columns(given: &Option<Schema>) -> Piece<'_>
+    ensures { piece_data result ≡ nullable_data columns_data given.now }
 {
-    writer.begin_array()?;
-    writer.string(name)?;
-    writer.string(type_name(data_type))?;
-    writer.end_array()
-}
-
-/// Bytes with the text of columns after them.
-#[tactic(auto, unfolding(crate::specs::Written::list_data))]
-pub fn with_columns(bytes: Vec<u8>, schema: &Schema) -> Result<Vec<u8>, AllocError>
-    ensures { IfOk result (λ text. text.items ≡ bytes.items ++ compact_text (columns_data schema.now)) }
-{
-    let mut writer = Writer::new(bytes);
-    writer.begin_array()?;
-    for (name, data_type) in schema.iter() {
-        write_field(&mut writer, name, *data_type)?;
-    }
-    writer.end_array()?;
-    Ok(writer.into_inner())
-}
-
-/// Bytes with the text of names after them.
-#[tactic(auto, unfolding(crate::specs::Written::list_data))]
-pub fn with_names(bytes: Vec<u8>, names: &[PlSmallStr]) -> Result<Vec<u8>, AllocError>
-    ensures { IfOk result (λ text. text.items ≡ bytes.items ++ compact_text (names_data names.now)) }
-{
-    let mut writer = Writer::new(bytes);
-    writer.begin_array()?;
-    for name in names {
-        writer.string(name.as_str())?;
-    }
-    writer.end_array()?;
-    Ok(writer.into_inner())
-}
-
-/// Bytes with the text of a value that has no float after them.
-pub fn with_value(alloc: Global, bytes: Vec<u8>, value: &Value) -> Result<Vec<u8>, AllocError>
-    requires { has_float (view value.now) ≡ false }
-    ensures { IfOk result (λ text. text.items ≡ bytes.items ++ compact_text (view value.now)) }
-{
-    let mut bytes = bytes;
-    let text = value.to_vec(alloc)?;
-    bytes.extend_from_slice(text.as_slice())?;
-    Ok(bytes)
-}
-
-/// Bytes with a comma after them, where something stands before.
-pub fn with_comma(bytes: Vec<u8>, later: bool) -> Result<Vec<u8>, AllocError>
-    ensures { IfOk result (λ text. text.items ≡ bytes.items ++ comma_if later) }
-{
-    let mut bytes = bytes;
-    if later {
-        bytes.push(b',')?;
-    }
-    Ok(bytes)
-}
-
-/// Bytes with a key and its colon after them, after a comma where something stands before.
-pub fn with_key(bytes: Vec<u8>, later: bool, key: &str) -> Result<Vec<u8>, AllocError>
-    ensures { IfOk result (λ text. text.items ≡ bytes.items ++ (comma_if later ++ (quoted key.now ++ 58 ∷ []))) }
-{
-    let mut writer = Writer::new(with_comma(bytes, later)?);
-    writer.key(key)?;
-    Ok(writer.into_inner())
-}
-
-/// Bytes with the text of a piece that has no float after them.
-fn with_piece(alloc: Global, bytes: Vec<u8>, piece: &Piece<'_>) -> Result<Vec<u8>, AllocError>
-    requires { has_float (piece_data piece.now) ≡ false }
-    ensures { IfOk result (λ text. text.items ≡ bytes.items ++ compact_text (piece_data piece.now)) }
-{
-    match piece {
-        Piece::Made(value) => with_value(alloc, bytes, value),
-        Piece::Columns(schema) => with_columns(bytes, schema),
-        Piece::Names(names) => with_names(bytes, names),
+    match given {
+        None => Piece::Null,
+        Some(schema) => Piece::Columns(schema),
     }
 }
 
-/// Bytes with the text of an object's entries after them, up to its closing brace.
-fn with_members(
-    alloc: Global,
-    bytes: Vec<u8>,
-    later: bool,
-    entries: &[(&str, Piece<'_>)],
-) -> Result<Vec<u8>, AllocError>
-    requires { members_have_float (members_from (map piece_entry entries.now)) ≡ false }
-    ensures { IfOk result (λ text. text.items
-        ≡ bytes.items ++ members_text later (members_from (map piece_entry entries.now))) }
+/// Names, or null.
+pub fn optional_names(given: &Option<Items<PlSmallStr>>) -> Piece<'_>
+    ensures { piece_data result ≡ nullable_data names_data given.now }
 {
-    match entries {
-        [] => {
-            let mut bytes = bytes;
-            bytes.push(b'}')?;
-            Ok(bytes)
-        }
-        [(key, piece), rest @ ..] => {
-            let bytes = with_key(bytes, later, key)?;
-            let bytes = with_piece(alloc, bytes, piece)?;
-            with_members(alloc, bytes, true, rest)
-        }
+    match given {
+        None => Piece::Null,
+        Some(names) => Piece::Names(names.as_slice()),
     }
 }
 
-/// Bytes with the text of an object of these entries after them.
-pub fn with_object(
-    alloc: Global,
-    bytes: Vec<u8>,
-    entries: Vec<(&str, Piece<'_>)>,
-) -> Result<Vec<u8>, AllocError>
-    requires { members_have_float (members_from (map piece_entry entries.items)) ≡ false }
-    ensures { IfOk result (λ text. text.items
-        ≡ bytes.items ++ compact_text (an_object (members_from (map piece_entry entries.entry.items)))) }
+/// A name, or null.
+pub fn optional_name(given: &Option<PlSmallStr>) -> Piece<'_>
+    ensures { piece_data result ≡ nullable_data string given.now }
 {
-    let mut bytes = bytes;
-    bytes.push(b'{')?;
-    with_members(alloc, bytes, false, entries.as_slice())
+    match given {
+        None => Piece::Null,
+        Some(name) => Piece::Text(name.as_str()),
+    }
+}
+
+/// A number, or null.
+pub fn optional_number(given: Option<u32>) -> Piece<'static>
+    ensures { piece_data result ≡ nullable_data number_data given }
+{
+    match given {
+        None => Piece::Null,
+        Some(number) => Piece::Number(number as usize),
+    }
+}
+
+/// An expression that is put out, or null.
+pub fn optional_output(given: &Option<ExprIR>) -> Piece<'_>
+    ensures { piece_data result ≡ nullable_data output_data given.now }
+{
+    match given {
+        None => Piece::Null,
+        Some(expr) => Piece::Output(expr),
+    }
+}
+
+/// The column that numbers the rows, or null.
+pub fn optional_row_index(given: &Option<RowIndex>) -> Piece<'_>
+    ensures { piece_data result ≡ nullable_data row_index_data given.now }
+{
+    match given {
+        None => Piece::Null,
+        Some(column) => Piece::RowIndex(column),
+    }
+}
+
+/// The first row and how many rows, or null.
+pub fn optional_slice(given: Option<(i64, usize)>) -> Piece<'static>
+    ensures { piece_data result ≡ nullable_data slice_data given }
+{
+    match given {
+        None => Piece::Null,
+        Some((offset, len)) => Piece::Slice(offset, len),
+    }
+}
+
+/// What a scan reads from.
+pub fn sources(given: &ScanSources) -> Piece<'_>
+    ensures { piece_data result ≡ sources_data given.now }
+{
+    match given {
+        ScanSources::Paths(paths) => Piece::Paths(paths.as_slice()),
+    }
 }

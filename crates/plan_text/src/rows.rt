@@ -1,7 +1,7 @@
 //! The text of a table's rows, for which no value of a cell is made.
-ghost use Rattle.std.specs.Prelude.{◌≡◌, ◌++◌, IfOk, OnOk, option_copied};
+ghost use Rattle.std.specs.Prelude.{◌≡◌, ◌++◌, OnOk, option_copied};
 ghost use Rattle.json.specs.Tree.{json_tokens};
-ghost use Rattle.serde_json.specs.Written.{compact_text, outline};
+ghost use Rattle.serde_json.specs.Written.{outline};
 ghost use Rattle.plan_text.specs.Written.{column_data, list_data, rows_data, single_data, table_data, value_data};
 
 use crate::kinds::type_name;
@@ -108,7 +108,7 @@ fn write_table(writer: &mut Writer, table: &Table) -> Result<(), AllocError>
 }
 
 /// Writes a table, or null where there is none.
-fn write_rows(writer: &mut Writer, rows: Option<&Table>) -> Result<(), AllocError>
+pub fn write_rows(writer: &mut Writer, rows: Option<&Table>) -> Result<(), AllocError>
     ensures tokens { OnOk result (writer.new.tokens
         ≡ writer.old.tokens ++ json_tokens (outline (rows_data (option_copied rows.entry)))) }
     ensures before { OnOk result (writer.new.before ≡ writer.old.before) }
@@ -117,14 +117,4 @@ fn write_rows(writer: &mut Writer, rows: Option<&Table>) -> Result<(), AllocErro
         None => writer.null(),
         Some(table) => write_table(writer, table),
     }
-}
-
-/// Bytes with the text of a table after them, or null where there is none.
-pub fn with_rows(bytes: Vec<u8>, rows: Option<&Table>) -> Result<Vec<u8>, AllocError>
-    ensures { IfOk result (λ text. text.items
-        ≡ bytes.items ++ compact_text (rows_data (option_copied rows.entry))) }
-{
-    let mut writer = Writer::new(bytes);
-    write_rows(&mut writer, rows)?;
-    Ok(writer.into_inner())
 }

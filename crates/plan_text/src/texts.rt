@@ -2,15 +2,15 @@
 ghost use Rattle.std.specs.Prelude.{◌≡◌, IfOk, Some, false, option_copied, string_bytes};
 ghost use Rattle.serde_json.specs.Read.{read};
 ghost use Rattle.serde_json.specs.View.{view};
-ghost use Rattle.serde_json.specs.Written.{has_float};
-ghost use Rattle.plan_text.specs.Written.{fault_data, line_of, plan_data, plan_text, listing_text, error_text, schema_text};
+ghost use Rattle.serde_json.specs.Written.{compact_text, has_float};
+ghost use Rattle.plan_text.specs.Written.{fault_data, line_of, link_data, nullable_data, plan_data, plan_text, listing_text, error_text, schema_data, schema_text};
 
 use crate::kinds::{fault_name, place};
 use crate::listing::listing_bytes;
-use crate::parts::optional_link;
-use crate::pieces::{with_columns, with_key};
 use crate::plan::plan as plan_value;
-use plan_core::{Items, PlSmallStr, PolarsError, Schema};
+use crate::writing::write_columns;
+use json::Writer;
+use plan_core::{Items, Node, PlSmallStr, PolarsError, Schema};
 use plan_ir::PlanCopy;
 use plan_table::Table;
 use serde_json::{Value, json};
@@ -70,6 +70,16 @@ pub fn write_listing(
     text_of(bytes)
 }
 
+/// The number of a node, or null.
+fn optional_link(link: Option<Node>) -> Value
+    ensures { view result ≡ nullable_data link_data link }
+{
+    match link {
+        None => Value::Null,
+        Some(node) => Value::from(node.0),
+    }
+}
+
 /// The object of an error.
 #[tactic(auto, unfolding(crate::specs::Written::fault_data))]
 fn fault(alloc: Global, error: &PolarsError) -> Result<Value, AllocError>
@@ -91,16 +101,26 @@ pub fn write_fault(alloc: Global, error: &PolarsError) -> Result<String, AllocEr
     line(alloc, &value)
 }
 
+/// The text of a schema, with no line feed.
+#[tactic(auto, unfolding(crate::specs::Written::schema_data))]
+fn schema_bytes(alloc: Global, schema: &Schema) -> Result<Vec<u8>, AllocError>
+    ensures { IfOk result (λ text. text.items ≡ compact_text (schema_data schema.now)) }
+{
+    let mut writer = Writer::new(Vec::new(alloc));
+    writer.begin_object()?;
+    writer.key("schema")?;
+    write_columns(&mut writer, schema)?;
+    writer.end_object()?;
+    Ok(writer.into_inner())
+}
+
 /// The text of a schema, with a line feed: the object of a `schema`, which lists its columns in
 /// order, each with its name and its type. It fails only where memory is wanting.
-#[tactic(auto, unfolding(crate::specs::Written::schema_data, crate::specs::Written::schema_text))]
+#[tactic(auto, unfolding(crate::specs::Written::schema_text))]
 pub fn write_schema(alloc: Global, schema: &Schema) -> Result<String, AllocError>
     ensures { IfOk result (λ text. string_bytes text ≡ schema_text schema.now) }
 {
-    let mut bytes = Vec::new(alloc);
-    bytes.push(b'{')?;
-    let mut bytes = with_columns(with_key(bytes, false, "schema")?, schema)?;
-    bytes.push(b'}')?;
+    let mut bytes = schema_bytes(alloc, schema)?;
     bytes.push(b'\n')?;
     text_of(bytes)
 }
