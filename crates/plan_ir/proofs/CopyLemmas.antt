@@ -227,14 +227,6 @@ lists lp ex root nodes exprs steps h order steps_are order_exprs =
       exprs_in_order = order_exprs h.exprs (rw (steps-roots lp root h.nodes nodes steps h.stands.nodes nodes_are steps_are) h.stands.exprs);
     }
 
--- trees of nodes, and trees over the expressions of these, are a plan
-pub plan_found : (lp : List IR) (ex : List AExpr) (root : Node) (nodes : List Node) (steps : List (Step (Unit {0}))) → (t : (t : Trees IR) × StandsOnce plan_shape lp (root ∷ []) t) → nodes ≡ labels t.0 → steps ≡ steps_to tt (flat_map roots_of (entries_at lp nodes)) → ((e : Trees AExpr) × StandsOnce expr_shape ex (nodes_of steps) e) → IsPlan lp ex root
-plan_found lp ex root nodes steps t nodes_are steps_are e = record {
-  nodes = t.0;
-  exprs = e.0;
-  stands = record { nodes = t.1; exprs = rw (steps-roots lp root t.0 nodes steps t.1 nodes_are steps_are) at e.1 };
-}
-
 -- the copy that two tables give
 abbrev pub copy_of : List Node → List Node → Node → Trees IR → Trees AExpr → PlanCopy
 copy_of nodes exprs root t e = record { root = new_number nodes root; lp = map (moved_node nodes exprs) (items t); ex = map (moved_expr exprs) (items e) }

@@ -18,6 +18,3 @@ pub use iterator::{AlpIter, ArenaLpIter};
 pub use moving::into_renumbered;
 pub use reading::{reads, scan_reads};
 pub use scan::{FileInfo, FileScan, ScanSources};
-
-#[cfg(test)]
-mod tests;

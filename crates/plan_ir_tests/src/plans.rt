@@ -3,12 +3,14 @@ ghost use Rattle.std.specs.Prelude.{◌≡◌, length, IfOk};
 ghost use Rattle.plan_expr.specs.Operands.{operands_of};
 ghost use Rattle.plan_ir.specs.Parts.{inputs_of};
 
-use crate::copy::expr_steps;
-use crate::{
+use plan_core::{
+    Arena, DataType, FileScanOptions, Items, Node, PlSmallStr, PolarsError, Schema, TryClone,
+};
+use plan_expr::{AExpr, ExprIR, LiteralValue, Operator, OutputName};
+use plan_ir::{
     ArenaLpIter, FileInfo, FileScan, IR, PlanCopy, ScanSources, reads, renumbered, scan_reads,
 };
-use plan_core::{Arena, DataType, FileScanOptions, Items, Node, PlSmallStr, Schema, TryClone};
-use plan_expr::{AExpr, ExprIR, LiteralValue, Operator, OutputName};
+use plan_meaning::check_tree;
 use plan_options::UnionOptions;
 use plan_tree::{Step, walk};
 use std::alloc::{AllocError, Global};
@@ -93,27 +95,15 @@ fn greater(left: usize, right: usize) -> AExpr
     }
 }
 
-/// The copy of the plan at a root, if the root leads to one.
+/// The copy of the plan at a root.
 fn copied(
     alloc: Global,
     root: Node,
     lp: &Arena<IR>,
     ex: &Arena<AExpr>,
-) -> Result<Option<PlanCopy>, AllocError> {
-    let start = Step {
-        node: root,
-        mark: (),
-    };
-    let nodes = walk(alloc, lp, &[start])?;
-    if nodes.fault.is_some() {
-        return Ok(None);
-    }
-    let steps = expr_steps(alloc, nodes.listed.as_slice(), lp)?;
-    let exprs = walk(alloc, ex, steps.as_slice())?;
-    if exprs.fault.is_some() {
-        return Ok(None);
-    }
-    Ok(Some(renumbered(alloc, root, lp, ex)?))
+) -> Result<PlanCopy, PolarsError> {
+    check_tree(alloc, root, lp, ex)?;
+    Ok(renumbered(alloc, root, lp, ex)?)
 }
 
 /// Nodes among others: the plan stands at 5.
@@ -219,7 +209,7 @@ fn renumbers_in_walk_order(rt: HostRuntime) -> Result<(), Fail> {
     let alloc = rt.alloc();
     let lp = nodes_at_five(alloc)?;
     let ex = exprs_at_four(alloc)?;
-    let copy = copied(alloc, Node(5), &lp, &ex)?.ok_or("a plan")?;
+    let copy = copied(alloc, Node(5), &lp, &ex)?;
     assert_eq!(rt; copy.root, Node(0));
     assert_eq!(rt; copy.lp.len(), 3);
     assert!(rt; have_same(&copy.lp, &nodes_in_order(alloc)?));

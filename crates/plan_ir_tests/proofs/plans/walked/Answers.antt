@@ -1,5 +1,5 @@
 use Rattle.std.proofs.Common.{◌≡◌, None, rules}
-use Rattle.plan_ir.proofs.tests.walked.Goals as goal
+use Rattle.plan_ir_tests.proofs.plans.walked.Goals as goal
 
 pub iter-requires : goal.iter-requires
 iter-requires c =
