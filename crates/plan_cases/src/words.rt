@@ -1,4 +1,5 @@
 //! Words in angle brackets, each with the text that it stands for.
+ghost use Rattle.std.specs.Prelude.{◌≡◌, ◌++◌, ◌⊎◌, ℕ, List, codes, IfSome, IfNone};
 
 use std::alloc::{AllocError, Global};
 
@@ -9,8 +10,13 @@ pub struct Words<'a> {
 }
 
 /// The word and its text, of a line `<word> = text` or `<word> =`.
-fn defined(line: &str) -> Option<(&str, &str)> {
-    let (word, text) = line.split_once(" =")?;
+fn defined(line: &str) -> Option<(&str, &str)>
+    ensures parts { IfSome result (λ p. (line.now ≡ p.0.now ++ codes " = " ++ p.1.now) ⊎ (line.now ≡ p.0.now ++ codes " =" ++ p.1.now)) }
+    ensures none { IfNone result ((word text : List ℕ) → line.now ≡ word ++ codes " =" ++ text → ⊥) }
+{
+    let Some((word, text)) = line.split_once(" =") else {
+        return None;
+    };
     Some((word, text.strip_prefix(' ').unwrap_or(text)))
 }
 

@@ -1,5 +1,6 @@
 //! What choices, aggregates, functions, windows and lengths read as, and entries that are no expressions.
 
+use crate::made::links;
 use plan_core::{Items, Node};
 use plan_doc::{ReadError, read_document};
 use plan_expr::{AExpr, FunctionExpr, IRAggExpr};
@@ -16,14 +17,6 @@ fn reads_as(rt: &impl Abort, alloc: Global, entry: &str, wanted: AExpr) -> Resul
     assert_eq!(rt; ex.len(), 1);
     assert!(rt; *ex.get(Node(0)) == wanted, "another expression: {entry}");
     Ok(())
-}
-
-fn links(alloc: Global, numbers: &[usize]) -> Result<Items<Node>, AllocError> {
-    let mut nodes = Items::new(alloc);
-    for number in numbers {
-        nodes.push(Node(*number))?;
-    }
-    Ok(nodes)
 }
 
 #[test]

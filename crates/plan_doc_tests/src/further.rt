@@ -1,5 +1,6 @@
 //! What further forms read as, node by node and expression by expression.
 
+use crate::made::schema;
 use plan_core::{Arena, DataType, Items, Node, PlSmallStr, PlainType, ProjectionOptions, Schema};
 use plan_doc::read_document;
 use plan_expr::{AExpr, ExprIR, LiteralValue, Operator, OutputName};
@@ -13,14 +14,6 @@ const MORE: &str =
 
 fn name(alloc: Global, text: &str) -> Result<PlSmallStr, AllocError> {
     PlSmallStr::new(alloc, text)
-}
-
-fn schema(alloc: Global, columns: &[(&str, DataType)]) -> Result<Schema, AllocError> {
-    let mut schema = Schema::new(alloc);
-    for (column, data_type) in columns {
-        let _ = schema.with_column(name(alloc, column)?, *data_type)?;
-    }
-    Ok(schema)
 }
 
 fn selection(alloc: Global) -> Result<IR, AllocError> {

@@ -1,5 +1,6 @@
 //! What sorts, distinct rows, sinks, unions and caches read as, and entries that are no nodes.
 
+use crate::made::{links, marks, names};
 use plan_core::{Items, Node, PlSmallStr};
 use plan_doc::{ReadError, read_document};
 use plan_expr::{ExprIR, OutputName};
@@ -40,22 +41,6 @@ fn reads_as(rt: &impl Abort, alloc: Global, entry: &str, wanted: IR) -> Result<(
     assert_eq!(rt; lp.len(), 1);
     assert!(rt; *lp.get(Node(0)) == wanted, "another node: {entry}");
     Ok(())
-}
-
-fn names(alloc: Global, texts: &[&str]) -> Result<Items<PlSmallStr>, AllocError> {
-    let mut names = Items::new(alloc);
-    for text in texts {
-        names.push(PlSmallStr::new(alloc, text)?)?;
-    }
-    Ok(names)
-}
-
-fn marks(alloc: Global, given: &[bool]) -> Result<Items<bool>, AllocError> {
-    let mut marks = Items::new(alloc);
-    for mark in given {
-        marks.push(*mark)?;
-    }
-    Ok(marks)
 }
 
 // Two keys, with a direction for each, and one mark for the nulls of both.
@@ -159,10 +144,7 @@ fn union(inputs: Items<Node>, slice: Option<(i64, usize)>, parallel: bool) -> IR
 #[test]
 fn unions_read(rt: HostRuntime) -> Result<(), Fail> {
     let alloc = rt.alloc();
-    let mut inputs = Items::new(alloc);
-    for input in [3, 1, 3] {
-        inputs.push(Node(input))?;
-    }
+    let inputs = links(alloc, &[3, 1, 3])?;
     reads_as(
         &rt,
         alloc,

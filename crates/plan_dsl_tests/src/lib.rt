@@ -5,5 +5,4 @@
 mod columns;
 #[cfg(test)]
 mod exprs;
-#[cfg(test)]
 mod made;

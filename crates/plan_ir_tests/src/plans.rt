@@ -1,99 +1,13 @@
 //! Parts, copies and reads of a small plan: a projection to a over a filter b > 1 over a scan of a, b and c.
-ghost use Rattle.std.specs.Prelude.{◌≡◌, length, IfOk};
-ghost use Rattle.plan_expr.specs.Operands.{operands_of};
-ghost use Rattle.plan_ir.specs.Parts.{inputs_of};
 
-use plan_core::{
-    Arena, DataType, FileScanOptions, Items, Node, PlSmallStr, PolarsError, Schema, TryClone,
-};
-use plan_expr::{AExpr, ExprIR, LiteralValue, Operator, OutputName};
-use plan_ir::{
-    ArenaLpIter, FileInfo, FileScan, IR, PlanCopy, ScanSources, reads, renumbered, scan_reads,
-};
+use crate::made::{filter, greater, projection, scan, texts, union};
+use plan_core::{Arena, Items, Node, PlSmallStr, PolarsError, TryClone};
+use plan_expr::{AExpr, LiteralValue};
+use plan_ir::{ArenaLpIter, IR, PlanCopy, reads, renumbered, scan_reads};
 use plan_meaning::check_tree;
-use plan_options::UnionOptions;
 use plan_tree::{Step, walk};
 use std::alloc::{AllocError, Global};
 use std::test::Fail;
-
-/// Columns of numbers.
-fn columns(alloc: Global, names: &[&str]) -> Result<Schema, AllocError> {
-    let mut schema = Schema::new(alloc);
-    for name in names {
-        let _ = schema.with_column(PlSmallStr::new(alloc, name)?, DataType::Int64)?;
-    }
-    Ok(schema)
-}
-
-/// Names.
-fn texts(alloc: Global, names: &[&str]) -> Result<Items<PlSmallStr>, AllocError> {
-    let mut list = Items::new(alloc);
-    for name in names {
-        let text = PlSmallStr::new(alloc, name)?;
-        list.push(text)?;
-    }
-    Ok(list)
-}
-
-/// A scan of a, b and c, of which some are asked for.
-fn scan(alloc: Global, asked: Option<Items<PlSmallStr>>) -> Result<IR, AllocError> {
-    Ok(IR::Scan {
-        sources: ScanSources::Paths(texts(alloc, &["t"])?),
-        file_info: FileInfo {
-            schema: columns(alloc, &["a", "b", "c"])?,
-            reader_schema: Some(columns(alloc, &["a", "b", "c"])?),
-        },
-        predicate: None,
-        output_schema: None,
-        scan_type: FileScan::Parquet,
-        file_options: FileScanOptions {
-            with_columns: asked,
-            ..FileScanOptions::default()
-        },
-    })
-}
-
-/// A filter whose expression is named after the column b.
-fn filter(alloc: Global, input: usize, predicate: usize) -> Result<IR, AllocError>
-    ensures { IfOk result (λ node. length (inputs_of node) ≡ 1) }
-{
-    let name = OutputName::ColumnLhs(PlSmallStr::new(alloc, "b")?);
-    Ok(IR::Filter {
-        input: Node(input),
-        predicate: ExprIR::new(Node(predicate), name),
-    })
-}
-
-/// A projection to a.
-fn projection(alloc: Global, input: usize) -> Result<IR, AllocError> {
-    Ok(IR::SimpleProjection {
-        input: Node(input),
-        columns: columns(alloc, &["a"])?,
-    })
-}
-
-/// A union of nodes, in order.
-fn union(alloc: Global, inputs: &[usize]) -> Result<IR, AllocError> {
-    let mut list = Items::new(alloc);
-    for input in inputs {
-        list.push(Node(*input))?;
-    }
-    Ok(IR::Union {
-        inputs: list,
-        options: UnionOptions::default(),
-    })
-}
-
-/// A comparison of two expressions.
-fn greater(left: usize, right: usize) -> AExpr
-    ensures { length (operands_of result) ≡ 2 }
-{
-    AExpr::BinaryExpr {
-        left: Node(left),
-        op: Operator::Gt,
-        right: Node(right),
-    }
-}
 
 /// The copy of the plan at a root.
 fn copied(
@@ -112,9 +26,9 @@ fn nodes_at_five(alloc: Global) -> Result<Arena<IR>, AllocError> {
     lp.add(IR::Invalid)?;
     lp.add(scan(alloc, None)?)?;
     lp.add(IR::Invalid)?;
-    lp.add(filter(alloc, 1, 4)?)?;
+    lp.add(filter(alloc, Node(1), Node(4))?)?;
     lp.add(IR::Invalid)?;
-    lp.add(projection(alloc, 3)?)?;
+    lp.add(projection(alloc, Node(3))?)?;
     Ok(lp)
 }
 
@@ -125,15 +39,15 @@ fn exprs_at_four(alloc: Global) -> Result<Arena<AExpr>, AllocError> {
     ex.add(AExpr::Column(PlSmallStr::new(alloc, "b")?))?;
     ex.add(AExpr::Column(PlSmallStr::new(alloc, "c")?))?;
     ex.add(AExpr::Literal(LiteralValue::Int64(1)))?;
-    ex.add(greater(1, 3))?;
+    ex.add(greater(Node(1), Node(3)))?;
     Ok(ex)
 }
 
 /// The nodes of the plan alone, in walk order.
 fn nodes_in_order(alloc: Global) -> Result<Arena<IR>, AllocError> {
     let mut lp = Arena::new(alloc);
-    lp.add(projection(alloc, 1)?)?;
-    lp.add(filter(alloc, 2, 0)?)?;
+    lp.add(projection(alloc, Node(1))?)?;
+    lp.add(filter(alloc, Node(2), Node(0))?)?;
     lp.add(scan(alloc, None)?)?;
     Ok(lp)
 }
@@ -141,7 +55,7 @@ fn nodes_in_order(alloc: Global) -> Result<Arena<IR>, AllocError> {
 /// The expressions of the plan alone, in walk order.
 fn exprs_in_order(alloc: Global) -> Result<Arena<AExpr>, AllocError> {
     let mut ex = Arena::new(alloc);
-    ex.add(greater(1, 2))?;
+    ex.add(greater(Node(1), Node(2)))?;
     ex.add(AExpr::Column(PlSmallStr::new(alloc, "b")?))?;
     ex.add(AExpr::Literal(LiteralValue::Int64(1)))?;
     Ok(ex)
@@ -195,7 +109,7 @@ fn walks_over_nodes(rt: HostRuntime) -> Result<(), Fail> {
 fn walks_over_the_last_input_first(rt: HostRuntime) -> Result<(), Fail> {
     let alloc = rt.alloc();
     let mut lp = Arena::new(alloc);
-    let root = lp.add(union(alloc, &[1, 2])?)?;
+    let root = lp.add(union(alloc, &[Node(1), Node(2)])?)?;
     lp.add(scan(alloc, None)?)?;
     lp.add(scan(alloc, None)?)?;
     let numbers = walked(alloc, root, &lp)?.ok_or("a plan")?;
@@ -221,13 +135,13 @@ fn renumbers_in_walk_order(rt: HostRuntime) -> Result<(), Fail> {
 #[test]
 fn takes_nodes_apart_and_puts_them_back(rt: HostRuntime) -> Result<(), Fail> {
     let alloc = rt.alloc();
-    let node = filter(alloc, 2, 4)?;
+    let node = filter(alloc, Node(2), Node(4))?;
     let exprs = node.get_exprs(alloc)?;
     let mut inputs = Items::new(alloc);
     inputs.push(Node(2))?;
     assert_eq!(rt; node.get_inputs_vec(alloc)?.as_slice(), inputs.as_slice());
     assert_eq!(rt; node.get_inputs(alloc)?.as_slice(), inputs.as_slice());
-    let several = union(alloc, &[7, 5])?;
+    let several = union(alloc, &[Node(7), Node(5)])?;
     assert_eq!(rt;
         several.get_inputs_vec(alloc)?.as_slice(),
         [Node(7), Node(5)].as_slice()
@@ -248,7 +162,7 @@ fn takes_nodes_apart_and_puts_them_back(rt: HostRuntime) -> Result<(), Fail> {
 #[test]
 fn copies_nodes_and_lists_their_expressions(rt: HostRuntime) -> Result<(), Fail> {
     let alloc = rt.alloc();
-    let node = filter(alloc, 2, 4)?;
+    let node = filter(alloc, Node(2), Node(4))?;
     let exprs = node.get_exprs(alloc)?;
     assert_eq!(rt; exprs.len(), 1);
     assert_eq!(rt; exprs.as_slice()[0].node, Node(4));
@@ -258,8 +172,8 @@ fn copies_nodes_and_lists_their_expressions(rt: HostRuntime) -> Result<(), Fail>
 
 #[test]
 fn puts_expressions_over_other_operands(rt: HostRuntime) -> Result<(), Fail> {
-    let expr = greater(1, 2).with_operands(rt.alloc(), &[Node(8), Node(9)])?;
-    assert!(rt; is_same(&expr, &greater(8, 9)));
+    let expr = greater(Node(1), Node(2)).with_operands(rt.alloc(), &[Node(8), Node(9)])?;
+    assert!(rt; is_same(&expr, &greater(Node(8), Node(9))));
     Ok(())
 }
 
@@ -274,7 +188,7 @@ fn lists_what_scans_read(rt: HostRuntime) -> Result<(), Fail> {
         ex: Arena::new(alloc),
     };
     plan.lp.add(scan(alloc, None)?)?;
-    plan.lp.add(projection(alloc, 2)?)?;
+    plan.lp.add(projection(alloc, Node(2))?)?;
     plan.lp.add(scan(alloc, Some(some.try_clone(alloc)?))?)?;
     let lists = scan_reads(alloc, &plan)?;
     assert_eq!(rt; plan.lp.len(), 3);

@@ -1,5 +1,6 @@
 //! Plans that are to be written.
 
+use crate::made::{links, marks, names, schema};
 use plan_core::{
     Arena, DataType, FileScanOptions, Items, Node, PlSmallStr, PlainType, ProjectionOptions,
     RowIndex, Schema,
@@ -13,22 +14,6 @@ use std::alloc::{AllocError, Global};
 
 fn name(alloc: Global, text: &str) -> Result<PlSmallStr, AllocError> {
     PlSmallStr::new(alloc, text)
-}
-
-pub fn names(alloc: Global, texts: &[&str]) -> Result<Items<PlSmallStr>, AllocError> {
-    let mut list = Items::new(alloc);
-    for text in texts {
-        list.push(name(alloc, text)?)?;
-    }
-    Ok(list)
-}
-
-pub fn schema(alloc: Global, columns: &[(&str, DataType)]) -> Result<Schema, AllocError> {
-    let mut schema = Schema::new(alloc);
-    for (column, data_type) in columns {
-        let _ = schema.with_column(name(alloc, column)?, *data_type)?;
-    }
-    Ok(schema)
 }
 
 // Columns of whole numbers.
@@ -113,14 +98,6 @@ pub fn no_plan(alloc: Global) -> PlanCopy {
         lp: Arena::new(alloc),
         ex: Arena::new(alloc),
     }
-}
-
-fn links(alloc: Global, numbers: &[usize]) -> Result<Items<Node>, AllocError> {
-    let mut nodes = Items::new(alloc);
-    for number in numbers {
-        nodes.push(Node(*number))?;
-    }
-    Ok(nodes)
 }
 
 // A choice, two aggregates, a function, a window and the number of rows.
@@ -288,14 +265,6 @@ pub fn more_plan(alloc: Global) -> Result<PlanCopy, AllocError> {
         lp: more_nodes(alloc)?,
         ex: more_exprs(alloc)?,
     })
-}
-
-fn marks(alloc: Global, given: &[bool]) -> Result<Items<bool>, AllocError> {
-    let mut marks = Items::new(alloc);
-    for mark in given {
-        marks.push(*mark)?;
-    }
-    Ok(marks)
 }
 
 fn sort_of_two(alloc: Global) -> Result<IR, AllocError> {

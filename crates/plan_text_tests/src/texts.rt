@@ -1,8 +1,8 @@
 //! Whole texts, as they must be written.
 
+use crate::made::{names, schema};
 use crate::plans::{
-    all_kinds, all_operators, full_plan, more_plan, names, ordered_plan, schema, simple_plan,
-    union_plan,
+    all_kinds, all_operators, full_plan, more_plan, ordered_plan, simple_plan, union_plan,
 };
 use plan_core::{At, DataType, Node, PolarsError};
 use plan_ir::PlanCopy;

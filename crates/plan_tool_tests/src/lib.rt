@@ -3,5 +3,6 @@
 
 #[cfg(test)]
 mod depths;
+mod fakes;
 #[cfg(test)]
 mod streams;

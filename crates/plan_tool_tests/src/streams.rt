@@ -1,7 +1,7 @@
 //! The command on other words, and on sources and sinks that are short or fail.
-ghost use Rattle.std.specs.Prelude.{None, Some};
 
-use plan_stream::{Failed, MemorySink, MemorySource, Sink, Source};
+use crate::fakes::{FailingSink, FailingSource, call};
+use plan_stream::{MemorySink, MemorySource};
 use plan_tool::{LIMIT, run};
 use std::alloc::Global;
 use std::test::Fail;
@@ -20,13 +20,10 @@ pub fn answer(
     piece: usize,
     room: usize,
 ) -> Result<(u8, MemorySink), Fail> {
-    let mut owned = Vec::new(alloc);
-    for word in words {
-        owned.push(String::from_str(alloc, *word)?)?;
-    }
+    let words = call(alloc, words)?;
     let mut source = MemorySource::new(bytes, piece.max(1));
     let mut sink = MemorySink::new(alloc, room)?;
-    let status = run(alloc, owned.as_slice(), &mut source, &mut sink);
+    let status = run(alloc, words.as_slice(), &mut source, &mut sink);
     Ok((status.code(), sink))
 }
 
@@ -94,81 +91,23 @@ fn a_document_has_a_largest_size(rt: HostRuntime) -> Result<(), Fail> {
     Ok(())
 }
 
-/// A source that gives some bytes at once, and then fails.
-#[derive(Drop)]
-struct FailingSource<'a> {
-    bytes: &'a [u8],
-    faults: u64,
-}
-
-impl Source for FailingSource<'_> {
-    ghost left = { λ s. None };
-
-    ghost faults = { λ s. s.faults };
-
-    fn read(&mut self, buf: &mut [u8]) -> Result<usize, Failed> {
-        let count = self.bytes.len().min(buf.len());
-        if count == 0 {
-            self.faults = self.faults.saturating_add(1);
-            return Err(Failed);
-        }
-        let (front, rest) = self.bytes.split_at(count);
-        buf[..count].copy_from_slice(front);
-        self.bytes = rest;
-        Ok(count)
-    }
-}
-
 #[test]
 fn a_source_may_fail(rt: HostRuntime) -> Result<(), Fail> {
-    let words = [String::from_str(rt.alloc(), "optimize")?];
+    let words = call(rt.alloc(), &["optimize"])?;
     let (front, _) = GOOD.as_bytes().split_at(100);
     for bytes in [front, GOOD.as_bytes()] {
         let mut source = FailingSource { bytes, faults: 0 };
         let mut sink = MemorySink::new(rt.alloc(), 100)?;
-        let status = run(rt.alloc(), &words, &mut source, &mut sink);
+        let status = run(rt.alloc(), words.as_slice(), &mut source, &mut sink);
         assert_eq!(rt; (status.code(), source.faults), (8, 1));
         assert_eq!(rt; sink.bytes().len(), 0);
     }
     Ok(())
 }
 
-/// A sink that takes ten bytes a call. It fails after so many writes, and at each flush.
-#[derive(Drop)]
-struct FailingSink {
-    bytes: Vec<u8>,
-    writes: usize,
-    faults: u64,
-    clean: bool,
-}
-
-impl Sink for FailingSink {
-    ghost held = { λ s. Some s.bytes.items };
-
-    ghost clean = { λ s. s.clean };
-
-    ghost faults = { λ s. s.faults };
-
-    fn write(&mut self, piece: &[u8]) -> Result<usize, Failed> {
-        let count = piece.len().min(10);
-        if self.writes == 0 || self.bytes.extend_from_slice(&piece[..count]).is_err() {
-            self.faults = self.faults.saturating_add(1);
-            return Err(Failed);
-        }
-        self.writes -= 1;
-        self.clean = false;
-        Ok(count)
-    }
-
-    fn flush(&mut self) -> Result<(), Failed> {
-        self.faults = self.faults.saturating_add(1);
-        Err(Failed)
-    }
-}
-
 #[test]
 fn a_sink_may_fail(rt: HostRuntime) -> Result<(), Fail> {
-    let words = [String::from_str(rt.alloc(), "optimize")?];
+    let words = call(rt.alloc(), &["optimize"])?;
     let listing = format!(in rt.alloc(); "{LISTING}\n")?;
     for (writes, front) in [(1, r#"{"plan":{""#), (1000, listing.as_str())] {
         let mut source = MemorySource::new(GOOD.as_bytes(), 100);
@@ -178,7 +117,7 @@ fn a_sink_may_fail(rt: HostRuntime) -> Result<(), Fail> {
             faults: 0,
             clean: true,
         };
-        let status = run(rt.alloc(), &words, &mut source, &mut sink);
+        let status = run(rt.alloc(), words.as_slice(), &mut source, &mut sink);
         assert_eq!(rt; (status.code(), sink.faults), (9, 1), "after {writes}");
         assert_eq!(rt; sink.bytes.as_slice(), front.as_bytes(), "after {writes}");
     }
