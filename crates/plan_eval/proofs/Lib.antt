@@ -1,10 +1,8 @@
 -- The lemmas of this crate.
 mod StackLemmas
-mod FitLemmas
-mod FormedLemmas
 mod ColumnLemmas
 mod MadeLemmas
-mod SideLemmas
+mod GivenLemmas
 mod TurnLemmas
 mod PlanLemmas
 mod PartLemmas

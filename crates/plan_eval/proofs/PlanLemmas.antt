@@ -22,8 +22,8 @@ use Rattle.plan_table.specs.declared.table.Table.{Table}
 use Rattle.plan_table.specs.Tables.{HasRows}
 use Rattle.plan_eval.specs.Given.{GiveAll, Gives}
 use Rattle.plan_value.specs.Shown.{frame_of, schema_of}
-use Rattle.plan_eval.specs.Sources.{contents_of}
-use Rattle.plan_eval.proofs.FormedLemmas.{have-columns}
+use Rattle.plan_fit.specs.Sources.{contents_of}
+use Rattle.plan_fit.proofs.FormedLemmas.{have-columns}
 use Rattle.plan_eval.proofs.TurnLemmas.{have-rows}
 
 module _ (lp : List IR) (ex : List AExpr) (n : Node) (p : IR) (h : IsPlan lp ex n) (entry : slice_get lp n.0 ≡ Some p) where

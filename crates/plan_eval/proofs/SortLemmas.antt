@@ -24,7 +24,7 @@ use Rattle.plan_table.specs.Tables.{HasRows}
 use Rattle.plan_value.specs.declared.exprs.Values.{Values}
 use Rattle.plan_value.specs.Cells.{cell_of, cells_of}
 use Rattle.plan_value.specs.Shown.{frame_of, schema_of}
-use Rattle.plan_eval.proofs.FormedLemmas.{columns-have}
+use Rattle.plan_fit.proofs.FormedLemmas.{columns-have}
 
 -- the values of one key more
 pub keys-next : (ex : List AExpr) (keys : List ExprIR) (f : Frame) (i : ℕ) (key : ExprIR) (done : List Values) (v : Values) → i < length keys → key ≡ get_or keys i key → cell_of v ≡ val (expr_at ex key.node) f

@@ -11,10 +11,10 @@ use Rattle.std.specs.Option.{unwrap_or}
 use Rattle.plan_table.specs.declared.source_key.SourceKey.{SourceKey}
 use Rattle.plan_table.specs.declared.source_key.SourceKey.TheVariants as keys
 use Rattle.plan_table.specs.Tables.{table_at}
-use Rattle.plan_eval.specs.Sources.{contents_of}
+use Rattle.plan_fit.specs.Sources.{contents_of}
 use Rattle.plan_value.specs.Shown.{frame_of}
 use Rattle.plan_eval.specs.Stacks.{StacksAs, shown_tables}
-use Rattle.plan_eval.proofs.FitLemmas.{frame-shown}
+use Rattle.plan_fit.proofs.FitLemmas.{frame-shown}
 
 pub height-push : (fs : List Frame) (f : Frame) → total_height (fs ++ f ∷ []) ≡ total_height fs + f.height
 height-push [] f = omega arith

@@ -1,6 +1,4 @@
 -- The definitions that contracts cite.
-pub mod Sources
-pub mod Fitting
 pub mod Given
 pub mod Stacks
 pub mod Distinct

@@ -7,7 +7,7 @@ ghost use Rattle.plan_ir.specs.Plans.{scan as scan_op};
 ghost use Rattle.std.specs.declared.option.Option.{Option as OptionType};
 ghost use Rattle.plan_meaning.specs.Contents.{frames_of};
 ghost use Rattle.plan_eval.specs.Given.{Gives};
-ghost use Rattle.plan_eval.specs.Sources.{contents_of};
+ghost use Rattle.plan_fit.specs.Sources.{contents_of};
 ghost use Rattle.plan_eval.specs.Stacks.{StacksAs, shown_tables};
 
 use crate::stack::stack;

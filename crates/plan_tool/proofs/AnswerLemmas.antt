@@ -23,7 +23,7 @@ use Rattle.plan_meaning.specs.Work.{made, kept}
 use Rattle.plan_meaning.specs.Contents.{Fits}
 use Rattle.plan_table.specs.declared.table.Table.{Table}
 use Rattle.plan_value.specs.Shown.{frame_of}
-use Rattle.plan_eval.specs.Sources.{contents_of}
+use Rattle.plan_fit.specs.Sources.{contents_of}
 use Rattle.plan_tool.specs.Rows.{AreRows, Given}
 use Rattle.plan_prune.specs.Reads.{ReadWithin, tops}
 use Rattle.plan_tool.specs.declared.command.Command.{Command}

@@ -11,8 +11,8 @@ use Rattle.plan_table.specs.Tables.{HasRows}
 use Rattle.plan_tool.specs.declared.stop.Stop.{Stop}
 use Rattle.plan_tool.specs.declared.stop.Stop.TheVariants as stops
 use Rattle.plan_value.specs.Shown.{frame_of, schema_of}
-use Rattle.plan_eval.specs.Fitting.{TablesFit}
-use Rattle.plan_eval.specs.Sources.{contents_of}
+use Rattle.plan_fit.specs.Fitting.{TablesFit}
+use Rattle.plan_fit.specs.Sources.{contents_of}
 
 -- the tables that a document may have
 abbrev pub Given : Type 0

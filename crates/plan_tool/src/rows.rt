@@ -6,13 +6,14 @@ ghost use Rattle.plan_ir.specs.Plans.{plans_at};
 ghost use Rattle.plan_meaning.specs.Contents.{Fits};
 ghost use Rattle.plan_meaning.specs.PlanAt.{plan_at};
 ghost use Rattle.plan_meaning.specs.Steps.{IsValid};
-ghost use Rattle.plan_eval.specs.Sources.{contents_of};
+ghost use Rattle.plan_fit.specs.Sources.{contents_of};
 ghost use Rattle.plan_tool.specs.Rows.{AreRows, FitChecked};
 
 use crate::stop::Stop;
 use plan_core::{Arena, Node};
-use plan_eval::{evaluate, fits};
+use plan_eval::evaluate;
 use plan_expr::AExpr;
+use plan_fit::fits;
 use plan_ir::IR;
 use plan_table::{Table, Tables};
 use std::alloc::{AllocError, Global};

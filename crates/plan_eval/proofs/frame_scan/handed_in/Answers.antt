@@ -3,9 +3,9 @@ use Rattle.std.specs.Option.{unwrap_or}
 use Rattle.plan_meaning.specs.Contents.{handed_in, no_frame}
 use Rattle.plan_meaning.specs.Frames.{Frame}
 use Rattle.plan_table.specs.declared.source_key.SourceKey.TheVariants.{Frame as frame_key}
-use Rattle.plan_eval.specs.Sources.{contents_of}
+use Rattle.plan_fit.specs.Sources.{contents_of}
 use Rattle.plan_eval.specs.Stacks.{frame_found}
-use Rattle.plan_eval.proofs.FitLemmas.{frame-shown}
+use Rattle.plan_fit.proofs.FitLemmas.{frame-shown}
 use Rattle.plan_eval.proofs.frame_scan.handed_in.Goals as goal
 
 pub returns-in-Some : goal.returns-in-Some

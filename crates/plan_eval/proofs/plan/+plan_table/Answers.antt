@@ -13,9 +13,10 @@ use Rattle.plan_table.specs.declared.table.Table.{Table}
 use Rattle.plan_table.specs.Tables.{HasRows}
 use Rattle.plan_value.specs.Shown.{schema_of}
 use Rattle.plan_eval.specs.Given.{GiveAll, Gives}
-use Rattle.plan_eval.specs.Sources.{contents_of}
+use Rattle.plan_fit.specs.Sources.{contents_of}
 use Rattle.plan_eval.proofs.PlanLemmas.{given-rows, inputs-frames, plan-gives, node-valid, inputs-valid}
-use Rattle.plan_eval.proofs.SideLemmas.{give-end, give-next, one-frames, one-valid}
+use Rattle.plan_fit.proofs.SideLemmas.{one-frames}
+use Rattle.plan_eval.proofs.GivenLemmas.{give-end, give-next, one-valid}
 use Rattle.plan_eval.proofs.plan.+plan_table.Goals as goal
 
 pub plan_table-requires : goal.plan_table-requires

@@ -1,4 +1,4 @@
-use Rattle.plan_eval.specs.Sources.{contents_of}
+use Rattle.plan_fit.specs.Sources.{contents_of}
 use Rattle.plan_eval.proofs.PlanLemmas.{plans-fit, plans-valid, plan-may, plan-types, plan-rows}
 use Rattle.plan_eval.proofs.plan.evaluate.Goals as goal
 

@@ -1,6 +1,6 @@
 use Rattle.std.proofs.Common.{map, take}
 use Rattle.plan_meaning.specs.Contents.{frame_or, path}
-use Rattle.plan_eval.specs.Sources.{contents_of}
+use Rattle.plan_fit.specs.Sources.{contents_of}
 use Rattle.plan_eval.specs.Stacks.{StacksAs, shown_tables}
 use Rattle.plan_eval.proofs.scan.found.Given as goal
 

@@ -3,7 +3,7 @@ use Rattle.std.specs.Prelude.{IfSome}
 use Rattle.plan_ir.specs.Plans.{plans_at}
 use Rattle.plan_meaning.specs.Contents.{Fits}
 use Rattle.plan_meaning.specs.PlanAt.{plan_at}
-use Rattle.plan_eval.specs.Sources.{contents_of}
+use Rattle.plan_fit.specs.Sources.{contents_of}
 use Rattle.plan_tool.specs.Rows.{DontFit, Fit, Given}
 use Rattle.plan_tool.proofs.rows.check_tables.Goals as goal
 

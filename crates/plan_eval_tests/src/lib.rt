@@ -1,0 +1,17 @@
+//! The tests of plan_fit and plan_eval. They stand apart from these, so that each is proved once, and not with its tests
+//! again.
+#![tactic(auto)]
+
+#[cfg(test)]
+mod fitting;
+#[cfg(test)]
+mod nodes;
+#[cfg(test)]
+mod orders;
+#[cfg(test)]
+mod plans;
+pub mod tables;
+#[cfg(test)]
+mod unions;
+#[cfg(test)]
+mod windows;

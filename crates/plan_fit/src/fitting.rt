@@ -1,0 +1,147 @@
+//! Whether tables fit a plan.
+ghost use Rattle.std.specs.Prelude.{◌≡◌, ◌↔◌, List, [], ◌∷◌, IfSome, IsTrue};
+ghost use Rattle.std.specs.List.{AllByRecursion};
+ghost use Rattle.plan_tree.specs.Stands.{Trees, StandsOnce};
+ghost use Rattle.plan_expr.specs.declared.aexpr.AExpr.{AExpr};
+ghost use Rattle.plan_ir.specs.declared.ir.IR.{IR as IRType};
+ghost use Rattle.plan_ir.specs.declared.scan.ScanSources.TheVariants.{Paths as PathSources};
+ghost use Rattle.plan_ir.specs.Parts.{IsPlan, plan_shape};
+ghost use Rattle.plan_ir.specs.Plans.{bare, op_at, plans_at};
+ghost use Rattle.plan_meaning.specs.Contents.{Fits, FitsAll, FitsAt};
+ghost use Rattle.plan_meaning.specs.PlanAt.{plan_at};
+ghost use Rattle.plan_meaning.specs.Typing.{file_columns, is_column};
+ghost use Rattle.plan_table.specs.Tables.{IsTable, table_at, types_of};
+ghost use Rattle.plan_table.specs.declared.source_key.SourceKey.TheVariants.{Frame as frame_key, Path as path_key};
+ghost use Rattle.plan_fit.specs.Fitting.{AreFormed, HasColumns, IsMet, TablesFit, needs_by, scan_needs};
+ghost use Rattle.plan_fit.specs.Sources.{contents_of};
+
+use crate::inputs::inputs;
+use plan_core::{Arena, DataType, Node, PlSmallStr, Schema};
+use plan_ir::{FileInfo, IR, ScanSources};
+use plan_table::{SourceKey, Table, Tables};
+
+/// Whether a table has a column of this name and type.
+fn has_column(table: &Table, name: &str, dtype: DataType) -> bool
+    ensures { result ≡ is_column (types_of table.now.columns) (name.now, dtype) }
+{
+    match table.columns.get(name) {
+        Some(column) => column.dtype == dtype,
+        None => false,
+    }
+}
+
+/// Whether a table has each of these columns, of its type, among others.
+fn has_columns(table: &Table, columns: &Schema) -> bool
+    ensures { IsTrue result ↔ HasColumns columns.now table.now }
+{
+    for (name, dtype) in columns.iter() {
+        if !has_column(table, name, *dtype) {
+            return false;
+        }
+    }
+    true
+}
+
+/// Whether a table has the columns that a reader finds.
+fn has_file(table: &Table, info: &FileInfo) -> bool
+    ensures { IsTrue result ↔ HasColumns (file_columns info.now) table.now }
+{
+    match &info.reader_schema {
+        Some(columns) => has_columns(table, columns),
+        None => true,
+    }
+}
+
+/// Whether the file of a path has a table with the columns that a reader finds.
+fn path_fits(path: &PlSmallStr, info: &FileInfo, tables: &Tables) -> bool
+    ensures met { IsTrue result ↔ IsMet tables.now (path_key path.now, file_columns info.now) }
+    ensures formed { IfSome (table_at tables.now (path_key path.now)) IsTable }
+{
+    match tables.get_path(path.as_str()) {
+        Some(table) => has_file(table, info),
+        None => false,
+    }
+}
+
+/// Whether the file of each path has a table with the columns that a reader finds.
+fn paths_fit(paths: &[PlSmallStr], info: &FileInfo, tables: &Tables) -> bool
+    ensures met { IsTrue result ↔ AllByRecursion (IsMet tables.now) (scan_needs (PathSources paths.now) info.now) }
+    ensures formed { IsTrue result → AreFormed tables.now (scan_needs (PathSources paths.now) info.now) }
+{
+    for path in paths {
+        if !path_fits(path, info, tables) {
+            return false;
+        }
+    }
+    true
+}
+
+/// Whether each source of a scan has a table with the columns that its reader finds.
+fn scan_fits(sources: &ScanSources, info: &FileInfo, tables: &Tables) -> bool
+    ensures met { IsTrue result ↔ AllByRecursion (IsMet tables.now) (scan_needs sources.now info.now) }
+    ensures formed { IsTrue result → AreFormed tables.now (scan_needs sources.now info.now) }
+{
+    match sources {
+        ScanSources::Paths(paths) => paths_fit(paths.as_slice(), info, tables),
+    }
+}
+
+/// Whether the frame of a number has a table with these columns.
+fn frame_fits(number: u32, schema: &Schema, tables: &Tables) -> bool
+    ensures met { IsTrue result ↔ IsMet tables.now (frame_key number, schema.now) }
+    ensures formed { IfSome (table_at tables.now (frame_key number)) IsTable }
+{
+    match tables.get(&SourceKey::Frame(number)) {
+        Some(table) => has_columns(table, schema),
+        None => false,
+    }
+}
+
+/// Whether the sources that a node reads have tables with the columns that it needs.
+fn is_met(node: &IR, tables: &Tables) -> bool
+    ensures met { (ex : List AExpr) → IsTrue result ↔ AllByRecursion (IsMet tables.now) (needs_by (op_at ex node.now)) }
+    ensures formed { (ex : List AExpr) → IsTrue result → AreFormed tables.now (needs_by (op_at ex node.now)) }
+{
+    match node {
+        IR::Scan {
+            sources,
+            file_info,
+            ..
+        } => scan_fits(sources, file_info, tables),
+        IR::DataFrameScan {
+            df: Some(number),
+            schema,
+            ..
+        } => frame_fits(*number, schema, tables),
+        _ => true,
+    }
+}
+
+/// Whether the sources that the plan at a number reads have tables with the columns that it needs.
+fn are_met(node: Node, lp: &Arena<IR>, tables: &Tables) -> bool
+    requires { (t : Trees IRType) × StandsOnce plan_shape lp.now (node ∷ []) t }
+    ensures met { (ex : List AExpr) → IsPlan lp.now ex node → IsTrue result ↔ TablesFit tables.now (plans_at lp.now ex (node ∷ [])) }
+    ensures frames { (ex : List AExpr) → IsPlan lp.now ex node → IsTrue result → FitsAll (contents_of tables.now) (bare (plans_at lp.now ex (node ∷ []))) }
+{
+    let entry = lp.get(node);
+    if !is_met(entry, tables) {
+        return false;
+    }
+    for input in inputs(entry) {
+        if !are_met(*input, lp, tables) {
+            return false;
+        }
+    }
+    true
+}
+
+/// Whether tables fit the plan at `root`: each source of a scan has a table with the columns that its reader finds, and
+/// each frame that is handed in by number one with the columns of its scan, of their types. Further columns and tables may
+/// be there. It takes no memory.
+pub fn fits(root: Node, lp: &Arena<IR>, tables: &Tables) -> bool
+    requires { (ex : List AExpr) × IsPlan lp.now ex root }
+    ensures fits { (ex : List AExpr) → IsPlan lp.now ex root → IsTrue result ↔ TablesFit tables.now (plans_at lp.now ex (root ∷ [])) }
+    ensures frames { (ex : List AExpr) → IsPlan lp.now ex root → IsTrue result → Fits (contents_of tables.now) (plan_at lp.now ex root) }
+{
+    are_met(root, lp, tables)
+}
