@@ -1,5 +1,5 @@
 -- The inputs of a node, pruned one after another, each under a projection to the asked names or none; and a closed node.
-use Rattle.std.proofs.Common.{◌≡◌, ℕ, zero, suc, length-set, ◌+◌, ◌<◌, ◌≤◌, ◌&&◌, ◌||◌, Bool, true, false, not, List, [], ◌∷◌, ◌++◌, length, take, Some, None, Option, unwrap_or, refl, sym, ap, ap₂, ◌∙◌, inl, inr, ◌⊎◌, arith, subst, append-nil, add-one}
+use Rattle.std.proofs.Common.{◌≡◌, ℕ, zero, suc, length-set, ◌+◌, ◌<◌, ◌≤◌, ◌&&◌, ◌||◌, Bool, true, false, not, List, [], ◌∷◌, ◌++◌, length, take, Some, Option, unwrap_or, refl, sym, ap, ap₂, ◌∙◌, arith, subst, append-nil, add-one}
 use Rattle.std.specs.List.{slice_get, slice_set}
 use Rattle.std.proofs.Math.Dec.{ltb}
 use Rattle.std.proofs.lemmas.Bool.{lt-ltb, le-ltb}
@@ -9,29 +9,29 @@ use Rattle.plan_core.specs.declared.arena.Node.{Node}
 use Rattle.plan_core.specs.Columns.{Columns}
 use Rattle.plan_options.specs.declared.union.UnionOptions.{UnionOptions}
 use Rattle.plan_tree.specs.Rose.{Roses, rose, no_roses, more, join}
-use Rattle.plan_tree.specs.Stands.{Trees, Reaches, Stands, StandsOnce, Rewrites}
-use Rattle.plan_tree.proofs.TreeLemmas.{opened, nth, height_at, Stands-nth, Stands-unique}
+use Rattle.plan_tree.specs.Stands.{Trees, Stands, StandsOnce, Rewrites}
+use Rattle.plan_tree.proofs.TreeLemmas.{opened, nth, Stands-nth, Stands-unique}
 use Rattle.plan_tree.proofs.ReadLemmas.{trees_at-is}
 use Rattle.plan_tree.proofs.Frames.{front, front-more, front-all, front-none, Rewrites-refl, Rewrites-trans, Rewrites-next, Rewrites-back, StandsOnce-set, StandsOnce-next, descend, slice_get-set_same}
 use Rattle.plan_expr.specs.declared.aexpr.AExpr.{AExpr}
 use Rattle.plan_ir.specs.declared.ir.IR.{IR}
 use Rattle.plan_ir.specs.declared.ir.IR.TheVariants as nodes
-use Rattle.plan_ir.specs.Parts.{plan_shape, inputs_of, is_invalid, roots_of, roots_in, IsPlan}
-use Rattle.plan_ir.specs.Plans.{Op, op_at, plans_of, plans_at, bare}
+use Rattle.plan_ir.specs.Parts.{plan_shape, inputs_of, roots_in, IsPlan}
+use Rattle.plan_ir.specs.Plans.{Op, op_at, plans_of, bare}
 use Rattle.plan_ir.proofs.PlanLemmas.{plan_down}
 use Rattle.plan_expr.specs.Leaves.{Name}
 use Rattle.plan_meaning.specs.Typing.{first_schema}
-use Rattle.plan_meaning.specs.Counting.{is_closed, is_count, meet_count}
-use Rattle.plan_prune.specs.Pruned.{are_several, asked_columns, covered_each, covered_if, pruned_all, top_below, typed_names}
-use Rattle.plan_prune.specs.Prunes.{TakePlace, Prunes, PrunesAt, MarksAt}
+use Rattle.plan_meaning.specs.Counting.{is_count, meet_count}
+use Rattle.plan_narrowing.specs.Pruned.{are_several, asked_columns, covered_each, covered_if, pruned_all, top_below, typed_names}
+use Rattle.plan_narrowing.specs.Stored.{stored_all}
+use Rattle.plan_narrowing.proofs.ListSteps.{take-next}
+use Rattle.plan_narrowing.proofs.UnionNarrows.{covered_none}
+use Rattle.plan_prune.specs.Prunes.{TakePlace, Prunes, MarksAt}
 use Rattle.plan_prune.specs.Scans.{covered_at, with_columns_on, with_top}
 use Rattle.plan_prune.specs.Steps.{columns_at}
-use Rattle.plan_prune.specs.Stored.{stored_all}
-use Rattle.plan_prune.proofs.ListSteps.{take-next}
-use Rattle.plan_prune.proofs.PlaceLemmas.{place_equal, place_both, place_behind, place_before, place_trans}
+use Rattle.plan_prune.proofs.PlaceLemmas.{place_equal, place_both, place_before, place_trans}
 use Rattle.plan_prune.proofs.PruneLemmas.{Asks, goes_under, under}
 use Rattle.plan_prune.proofs.JoinPruned.{or_assoc, plans-join, roots-join, meet-join, pruned-join, covered_if-join, several_pruned}
-use Rattle.plan_prune.proofs.UnionNarrows.{covered_none}
 
 -- trees over numbers became others, in place and over expressions of their own: pruned to the asked names, each under a projection to these or none
 pub record PrunesEach (top covers : Bool) (asked : List Name) (old new : List IR) (ex : List AExpr) (ns : List Node) (f : Trees IR) : Type 0 where

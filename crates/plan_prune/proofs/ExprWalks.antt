@@ -12,9 +12,9 @@ use Rattle.plan_expr.specs.Leaves.{Name, leaves}
 use Rattle.plan_expr.specs.Naming.{name_of}
 use Rattle.plan_expr.specs.Scalars.{is_scalar}
 use Rattle.plan_meaning.specs.Asked.{all_leaves}
-use Rattle.plan_prune.specs.Pruned.{typed_names}
+use Rattle.plan_narrowing.specs.Pruned.{typed_names}
+use Rattle.plan_narrowing.proofs.ListSteps.{Differs, before_differ, with_name-last, with_names-append, take-next}
 use Rattle.plan_prune.specs.Kept.{many_at, names_at, with_typed}
-use Rattle.plan_prune.proofs.ListSteps.{Differs, before_differ, with_name-last, with_names-append, take-next}
 
 -- expressions one after another
 module _ (ex : List AExpr) where

@@ -1,5 +1,5 @@
 -- Plans side by side: pruned, under projections, and counting rows.
-use Rattle.std.proofs.Common.{◌≡◌, ◌&&◌, ◌||◌, Bool, true, false, not, List, [], ◌∷◌, ◌++◌, refl, sym, ap, ap₂, ◌∙◌, append_assoc}
+use Rattle.std.proofs.Common.{◌≡◌, ◌&&◌, ◌||◌, Bool, true, false, not, List, ◌++◌, refl, sym, ap, ◌∙◌, append_assoc}
 use Rattle.plan_core.specs.declared.arena.Node.{Node}
 use Rattle.plan_tree.specs.Rose.{Roses, rose, no_roses, more, join}
 use Rattle.plan_tree.specs.Stands.{Trees}
@@ -9,7 +9,7 @@ use Rattle.plan_ir.specs.Parts.{roots_of, roots_in}
 use Rattle.plan_ir.specs.Plans.{Op, op_at, plans_of, bare}
 use Rattle.plan_expr.specs.Leaves.{Name}
 use Rattle.plan_meaning.specs.Counting.{is_closed, is_count, meet_count}
-use Rattle.plan_prune.specs.Pruned.{are_several, covered, covered_each, covered_if, pruned, pruned_all, top_after}
+use Rattle.plan_narrowing.specs.Pruned.{are_several, covered, covered_each, covered_if, pruned, pruned_all, top_after}
 
 -- the plans that trees side by side are
 pub plans-join : (ex : List AExpr) (x y : Trees IR) → bare (plans_of ex (join x y)) ≡ join (bare (plans_of ex x)) (bare (plans_of ex y))

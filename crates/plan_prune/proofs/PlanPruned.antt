@@ -13,13 +13,13 @@ use Rattle.plan_meaning.specs.Relating.{all, Refines}
 use Rattle.plan_meaning.specs.Asked.{sites_of}
 use Rattle.plan_meaning.specs.PlanAt.{one_plan, plan_at}
 use Rattle.plan_meaning.specs.Counting.{meet_count, meets_count}
-use Rattle.plan_prune.specs.Pruned.{pruned, pruned_all}
+use Rattle.plan_narrowing.specs.Pruned.{pruned, pruned_all}
 use Rattle.plan_meaning.specs.Scans.{scans, nodes}
 use Rattle.plan_meaning.specs.Work.{made, kept}
-use Rattle.plan_prune.specs.Reads.{ReadWithin, tops}
-use Rattle.plan_prune.proofs.PrunedNarrows.{pruned_refines}
-use Rattle.plan_prune.proofs.PrunedReads.{pruned_reads, pruned_nodes}
-use Rattle.plan_prune.proofs.PrunedWork.{pruned_made}
+use Rattle.plan_narrowing.specs.Reads.{ReadWithin, tops}
+use Rattle.plan_narrowing.proofs.PrunedNarrows.{pruned_refines}
+use Rattle.plan_narrowing.proofs.PrunedReads.{pruned_reads, pruned_nodes}
+use Rattle.plan_narrowing.proofs.PrunedWork.{pruned_made}
 
 module _ (top : Bool) (old new : Roses (Unit {0}) Op) (is : new ≡ pruned_all top [] old) (v : IsValid (one_plan old)) where
   pruned_at : (ts : Roses (Unit {0}) Op) → IsValid (one_plan ts) → one_plan (pruned_all top [] ts) ≡ pruned top [] (one_plan ts)

@@ -10,7 +10,7 @@ use Rattle.plan_tree.specs.Stands.{Trees, Reaches, Stands, StandsOnce, Keeps, Re
 use Rattle.plan_tree.proofs.TreeLemmas.{opened, nth, height_at, Stands-nth, Stands-unique}
 use Rattle.plan_tree.proofs.Numbers.{Reaches-within}
 use Rattle.plan_tree.proofs.ReadLemmas.{trees_at-is}
-use Rattle.plan_tree.proofs.Frames.{Rewrites-refl, Rewrites-back, Rewrites-above, StandsOnce-set, StandsOnce-first, StandsOnce-next, StandsOnce-taken, Stands-kept, descend, Keeps-trans, Keeps-set, Keeps-append, slice_get-append, slice_get-append_last}
+use Rattle.plan_tree.proofs.Frames.{Rewrites-refl, Rewrites-back, Rewrites-above, StandsOnce-set, StandsOnce-first, StandsOnce-taken, Stands-kept, descend, Keeps-trans, Keeps-set, Keeps-append, slice_get-append, slice_get-append_last}
 use Rattle.plan_expr.specs.declared.aexpr.AExpr.{AExpr}
 use Rattle.plan_expr.specs.declared.expr_ir.ExprIR.{ExprIR}
 use Rattle.plan_ir.specs.declared.ir.IR.{IR}
@@ -29,12 +29,12 @@ use Rattle.plan_ir.proofs.PlanLemmas.{plan_down}
 use Rattle.plan_core.specs.Names.{with_names, with_name}
 use Rattle.plan_expr.specs.Leaves.{Name, leaves}
 use Rattle.plan_meaning.specs.Counting.{is_closed}
-use Rattle.plan_prune.specs.Pruned.{asks_plans, left_below, rebuilt, top_below, pruned_all, typed_names}
+use Rattle.plan_narrowing.specs.Pruned.{asks_plans, left_below, rebuilt, top_below, pruned_all, typed_names}
 use Rattle.plan_meaning.specs.PlanAt.{one_plan}
+use Rattle.plan_narrowing.proofs.ListSteps.{with_names-append}
 use Rattle.plan_prune.specs.Prunes.{StandExprs, TakePlace, Prunes, PrunesAt}
 use Rattle.plan_prune.specs.Scans.{narrowed, kept_scan, with_node, with_top}
 use Rattle.plan_prune.specs.Kept.{is_some_name}
-use Rattle.plan_prune.proofs.ListSteps.{with_names-append}
 use Rattle.plan_prune.proofs.PlaceLemmas.{place_equal, place_both, place_before, place_trans, place_without}
 
 -- the names of an expression are added: its own, or those of its operands one after another

@@ -19,13 +19,13 @@ use Rattle.plan_core.specs.Columns.{Columns, names_of}
 use Rattle.plan_meaning.specs.Typing.{names_or}
 use Rattle.plan_meaning.specs.Counting.{is_closed, is_count, meet_count}
 use Rattle.plan_meaning.specs.Asked.{needed_names, selected_exprs, set_of}
+use Rattle.plan_narrowing.specs.Pruned.{asked_columns, asked_with, kept, pruned_output, top_below}
 use Rattle.plan_prune.specs.declared.push_down.step.Step.TheVariants.{Leaf, Over, Closed, Each}
 use Rattle.plan_prune.specs.Kept.{is_some_name, names_at, selected_at, stacked_at, stored_after}
-use Rattle.plan_prune.specs.Pruned.{asked_columns, asked_with, kept, pruned_output, top_below}
 use Rattle.plan_prune.specs.Prunes.{MarksAt, Prunes, PrunesAt}
 use Rattle.plan_prune.specs.Scans.{covered_at, kept_scan, with_columns_on, with_node}
 use Rattle.plan_prune.specs.Steps.{columns_at, stand_in_at, step_of, put_back}
-use Rattle.plan_prune.proofs.PruneLemmas.{Asks, alone, finish, stays, scan_pruned, inputs_taken, stands_taken, stands_after}
+use Rattle.plan_prune.proofs.PruneLemmas.{Asks, alone, finish, stays, scan_pruned, stands_taken, stands_after}
 use Rattle.plan_prune.proofs.KeptLemmas.{selected_named, selected_place, select_built, hstack_asks}
 use Rattle.plan_prune.proofs.HStackPruned.{hstack_pruned, found as there}
 use Rattle.plan_prune.proofs.EachLemmas.{PrunesEach, SoFar, set_twice, closed_marks, closed_pruned, each_asks, each_finish, each_marks, one_covered, one_plain, so_far_all}

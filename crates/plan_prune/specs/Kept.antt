@@ -13,7 +13,7 @@ use Rattle.plan_expr.specs.Leaves.{Name}
 use Rattle.plan_expr.specs.Naming.{name_of}
 use Rattle.plan_expr.specs.Scalars.{is_scalar}
 use Rattle.plan_meaning.specs.Steps.{all_scalar}
-use Rattle.plan_prune.specs.Pruned.{typed_names, added_names}
+use Rattle.plan_narrowing.specs.Pruned.{typed_names, added_names}
 
 -- the expressions that are asked, in their order
 abbrev pub asked_exprs : List Name → List ExprIR → List ExprIR

@@ -9,7 +9,7 @@ use Rattle.plan_ir.specs.Parts.{plan_shape, roots_in}
 use Rattle.plan_ir.specs.Plans.{bare, plans_of}
 use Rattle.plan_expr.specs.Leaves.{Name}
 use Rattle.plan_meaning.specs.Counting.{meet_count}
-use Rattle.plan_prune.specs.Pruned.{pruned_all}
+use Rattle.plan_narrowing.specs.Pruned.{pruned_all}
 
 -- expressions stand over these numbers, no number twice
 abbrev pub StandExprs : List AExpr → List Node → Type 0

@@ -5,7 +5,7 @@ use Rattle.plan_core.specs.Columns.{Columns}
 use Rattle.plan_ir.specs.declared.ir.IR.{IR}
 use Rattle.plan_ir.specs.declared.ir.IR.TheVariants.{Slice, Filter, Scan, DataFrameScan, SimpleProjection, Select, HStack, Sort, Distinct, Sink, Union, Cache, Invalid}
 use Rattle.plan_expr.specs.Leaves.{Name}
-use Rattle.plan_prune.specs.Pruned.{typed_names, reading}
+use Rattle.plan_narrowing.specs.Pruned.{typed_names, reading}
 
 -- a scan that reads and puts out the names alone
 abbrev pub narrowed : List Name → IR → IR

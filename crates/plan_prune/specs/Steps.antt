@@ -14,10 +14,10 @@ use Rattle.plan_expr.specs.Leaves.{Name, leaves}
 use Rattle.plan_meaning.specs.Typing.{first_schema, names_or}
 use Rattle.plan_meaning.specs.Counting.{stand_ins, first_stand_in}
 use Rattle.plan_meaning.specs.Asked.{all_leaves, needed_names}
+use Rattle.plan_narrowing.specs.Stored.{stored_all}
+use Rattle.plan_narrowing.specs.Pruned.{asked_columns, asked_with, kept, pruned_output}
 use Rattle.plan_prune.specs.declared.push_down.step.Step.{Step}
 use Rattle.plan_prune.specs.declared.push_down.step.Step.TheVariants.{Leaf, Over, Closed, Each}
-use Rattle.plan_prune.specs.Stored.{stored_all}
-use Rattle.plan_prune.specs.Pruned.{asked_columns, asked_with, kept, pruned_output}
 use Rattle.plan_prune.specs.Kept.{selected_at, stacked_at, is_some_name, names_at, stored_after, asks_after, with_stacked}
 use Rattle.plan_prune.specs.Scans.{kept_scan, with_node}
 

@@ -11,9 +11,9 @@ ghost use Rattle.plan_meaning.specs.Asked.{sites_of};
 ghost use Rattle.plan_meaning.specs.Counting.{meets_count};
 ghost use Rattle.plan_meaning.specs.Scans.{nodes, scans};
 ghost use Rattle.plan_meaning.specs.Work.{made, kept};
-ghost use Rattle.plan_prune.specs.Pruned.{pruned_all};
+ghost use Rattle.plan_narrowing.specs.Pruned.{pruned_all};
+ghost use Rattle.plan_narrowing.specs.Reads.{ReadWithin, tops};
 ghost use Rattle.plan_prune.specs.Prunes.{MarksAt, PrunesAt};
-ghost use Rattle.plan_prune.specs.Reads.{ReadWithin, tops};
 
 mod cache;
 mod cover;
@@ -22,7 +22,6 @@ mod exprs;
 mod filter;
 mod frame_scan;
 mod hstack;
-mod names;
 mod projection;
 mod scan;
 mod select;
@@ -35,11 +34,11 @@ mod stored;
 mod union;
 
 use crate::push_down::cover::cover;
-use crate::push_down::names::copied;
 use crate::push_down::step::Step;
 use plan_core::{Arena, Names, Node};
 use plan_expr::AExpr;
 use plan_ir::IR;
+use plan_narrowing::copied_names;
 use std::alloc::{AllocError, Global};
 
 /// Prunes plans to the columns that they need.
@@ -129,7 +128,7 @@ impl ProjectionPushDown {
                 lp.put(node, entry);
                 let several = inputs.len() > 1;
                 for input in inputs.as_slice() {
-                    self.push_down(alloc, *input, copied(alloc, &asked)?, lp, ex)?;
+                    self.push_down(alloc, *input, copied_names(alloc, &asked)?, lp, ex)?;
                     if several {
                         cover(alloc, *input, &asked, lp)?;
                     }

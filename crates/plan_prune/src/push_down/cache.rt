@@ -6,15 +6,15 @@ ghost use Rattle.plan_expr.specs.declared.aexpr.AExpr.{AExpr};
 ghost use Rattle.plan_ir.specs.declared.ir.IR.{IR};
 ghost use Rattle.plan_ir.specs.declared.ir.IR.TheVariants.{Cache};
 ghost use Rattle.plan_ir.specs.Parts.{plan_shape};
+ghost use Rattle.plan_narrowing.specs.Pruned.{asked_columns as asked_of};
 ghost use Rattle.plan_prune.specs.declared.push_down.step.Step.TheVariants.{Closed};
-ghost use Rattle.plan_prune.specs.Pruned.{asked_columns as asked_of};
 ghost use Rattle.plan_prune.specs.Steps.{columns_at};
 
-use crate::push_down::cover::asked_columns;
 use crate::push_down::step::Step;
 use crate::push_down::stored::stored;
 use plan_core::{Arena, Names, Node, Schema};
 use plan_ir::IR;
+use plan_narrowing::asked_columns;
 use std::alloc::{AllocError, Global};
 
 /// The step of a cache.

@@ -5,29 +5,15 @@ ghost use Rattle.plan_tree.specs.Stands.{Trees, StandsOnce};
 ghost use Rattle.plan_expr.specs.declared.aexpr.AExpr.{AExpr};
 ghost use Rattle.plan_ir.specs.declared.ir.IR.{IR};
 ghost use Rattle.plan_ir.specs.Parts.{plan_shape};
-ghost use Rattle.plan_prune.specs.Pruned.{asked_columns as asked_of};
+ghost use Rattle.plan_narrowing.specs.Pruned.{asked_columns as asked_of};
 ghost use Rattle.plan_prune.specs.Scans.{covered_at, with_columns_on, with_top};
 ghost use Rattle.plan_prune.specs.Steps.{columns_at};
 
-use crate::push_down::scan::typed;
 use crate::push_down::stored::stored;
 use plan_core::{Arena, Names, Node, Schema};
 use plan_ir::IR;
+use plan_narrowing::asked_columns;
 use std::alloc::{AllocError, Global};
-
-/// The asked names with their types among columns; none where nothing is asked.
-pub fn asked_columns(
-    alloc: Global,
-    asked: &Names,
-    columns: &Schema,
-) -> Result<Option<Schema>, AllocError>
-    ensures { IfOk result (λ kept. kept ≡ asked_of asked.now columns.now) }
-{
-    if asked.len() == 0 {
-        return Ok(None);
-    }
-    Ok(Some(typed(alloc, asked, columns)?))
-}
 
 /// Puts a node at a new number, and at `node` a projection to `columns` on top of it. Refuses for want of memory alone, and
 /// then nothing is known of what stands at `node`.

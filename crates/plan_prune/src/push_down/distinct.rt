@@ -9,15 +9,15 @@ ghost use Rattle.plan_ir.specs.declared.ir.IR.{IR};
 ghost use Rattle.plan_ir.specs.declared.ir.IR.TheVariants.{Distinct};
 ghost use Rattle.plan_ir.specs.Parts.{plan_shape};
 ghost use Rattle.plan_meaning.specs.Typing.{names_or};
+ghost use Rattle.plan_narrowing.specs.Pruned.{asked_with};
 ghost use Rattle.plan_prune.specs.declared.push_down.step.Step.TheVariants.{Over};
-ghost use Rattle.plan_prune.specs.Pruned.{asked_with};
 ghost use Rattle.plan_prune.specs.Steps.{columns_at};
 
-use crate::push_down::names::{add_columns, add_listed};
 use crate::push_down::step::Step;
 use crate::push_down::stored::stored;
 use plan_core::{Arena, Items, Names, Node, PlSmallStr, Schema};
 use plan_ir::IR;
+use plan_narrowing::{add_columns, add_listed};
 use plan_options::DistinctOptionsIR;
 use std::alloc::{AllocError, Global};
 

@@ -13,10 +13,10 @@ ghost use Rattle.plan_ir.specs.Parts.{plan_shape};
 ghost use Rattle.plan_expr.specs.Exprs.{all_named_at};
 ghost use Rattle.plan_ir.specs.Plans.{bare, plans_at};
 ghost use Rattle.plan_meaning.specs.Typing.{first_schema};
+ghost use Rattle.plan_narrowing.specs.Stored.{stored_all};
 ghost use Rattle.plan_prune.specs.Kept.{asks_after, stacked_at, with_stacked};
 ghost use Rattle.plan_prune.specs.Prunes.{StandExprs};
 ghost use Rattle.plan_prune.specs.Steps.{stacked_step};
-ghost use Rattle.plan_prune.specs.Stored.{stored_all};
 
 use crate::push_down::exprs::{add_all_names, asked_exprs, with_typed};
 use crate::push_down::step::Step;

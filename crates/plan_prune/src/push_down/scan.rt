@@ -3,42 +3,14 @@
 //! without the projection it stays at its number. Asked nothing, a scan is unchanged.
 ghost use Rattle.std.specs.Prelude.{◌≡◌, ◌<◌, ◌≤◌, IfOk, OnOk, length};
 ghost use Rattle.plan_prune.specs.declared.push_down.step.Step.TheVariants.{Leaf};
-ghost use Rattle.plan_prune.specs.Pruned.{typed_names};
 ghost use Rattle.plan_prune.specs.Scans.{kept_scan, narrowed as narrowed_to, output_of, with_node};
 
 use crate::push_down::cover::put_under;
 use crate::push_down::step::Step;
-use plan_core::{Arena, Items, Names, Node, PlSmallStr, Schema, TryClone};
+use plan_core::{Arena, Names, Node, Schema, TryClone};
 use plan_ir::IR;
+use plan_narrowing::{listed_names, typed_columns};
 use std::alloc::{AllocError, Global};
-
-/// The names as a list.
-fn listed(alloc: Global, names: &Names) -> Result<Items<PlSmallStr>, AllocError>
-    ensures { IfOk result (λ list. list ≡ names.now) }
-{
-    let mut list = Items::new(alloc);
-    for i in 0..names.len() {
-        if let Some(name) = names.get_at_index(i) {
-            list.push(PlSmallStr::new(alloc, name)?)?;
-        }
-    }
-    Ok(list)
-}
-
-/// The names with their types in a schema; those that it lacks are left out.
-pub fn typed(alloc: Global, names: &Names, schema: &Schema) -> Result<Schema, AllocError>
-    ensures { IfOk result (λ columns. columns ≡ typed_names schema.now names.now) }
-{
-    let mut columns = Schema::new(alloc);
-    for i in 0..names.len() {
-        if let Some(name) = names.get_at_index(i) {
-            if let Some(dtype) = schema.get(name) {
-                let _ = columns.with_column(PlSmallStr::new(alloc, name)?, *dtype)?;
-            }
-        }
-    }
-    Ok(columns)
-}
 
 /// The scan with the asked names alone; any other node stays.
 fn narrowed(alloc: Global, scan: IR, asked: &Names) -> Result<IR, AllocError>
@@ -53,8 +25,8 @@ fn narrowed(alloc: Global, scan: IR, asked: &Names) -> Result<IR, AllocError>
             scan_type,
             mut file_options,
         } => {
-            let columns = typed(alloc, asked, &file_info.schema)?;
-            file_options.with_columns = Some(listed(alloc, asked)?);
+            let columns = typed_columns(alloc, asked, &file_info.schema)?;
+            file_options.with_columns = Some(listed_names(alloc, asked)?);
             Ok(IR::Scan {
                 sources,
                 file_info,

@@ -6,8 +6,8 @@ ghost use Rattle.plan_expr.specs.Operands.{IsExpr};
 ghost use Rattle.plan_ir.specs.declared.ir.IR.TheVariants.{Sort};
 ghost use Rattle.plan_expr.specs.Exprs.{all_named_at};
 ghost use Rattle.plan_meaning.specs.Asked.{all_leaves};
+ghost use Rattle.plan_narrowing.specs.Pruned.{asked_with};
 ghost use Rattle.plan_prune.specs.declared.push_down.step.Step.TheVariants.{Over};
-ghost use Rattle.plan_prune.specs.Pruned.{asked_with};
 ghost use Rattle.plan_prune.specs.Prunes.{StandExprs};
 
 use crate::push_down::exprs::add_all_names;

@@ -6,7 +6,7 @@ ghost use Rattle.plan_ir.specs.declared.ir.IR.{IR};
 ghost use Rattle.plan_ir.specs.Parts.{plan_shape};
 ghost use Rattle.plan_ir.specs.Plans.{bare, plans_at};
 ghost use Rattle.plan_meaning.specs.Typing.{columns_or, first_schema};
-ghost use Rattle.plan_prune.specs.Stored.{stored_all};
+ghost use Rattle.plan_narrowing.specs.Stored.{stored_all};
 
 use plan_core::{Arena, Node, Schema};
 use plan_ir::IR;

@@ -2,7 +2,7 @@ use Rattle.std.proofs.Common.{◌≡◌, ◌≤◌, ◌||◌, ◌∙◌, ap, ref
 use Rattle.std.proofs.Math.Dec.{ltb}
 use Rattle.std.proofs.lemmas.Bool.{both_ways, lt-ltb, le-ltb}
 use Rattle.plan_ir.specs.declared.ir.IR.{IR}
-use Rattle.plan_prune.specs.Pruned.{asked_columns}
+use Rattle.plan_narrowing.specs.Pruned.{asked_columns}
 use Rattle.plan_prune.specs.Scans.{covered_at}
 use Rattle.plan_prune.specs.Steps.{columns_at}
 use Rattle.std.proofs.lemmas.Option.{slice_get-get_or}
@@ -139,7 +139,7 @@ cover-requires t c =
     let k = each_call c.args.asked c.in-Each.asked c.args.lp.now c.take-entry.new.self c.put-in-Each.new.self c.args.ex.now c.args.node c.in-Each.inputs c.take-entry.result c.in-Each.entry c.take-entry.ensures.after.0
     c.take-entry.ensures.given c.take-entry.ensures.after.2 c.put-in-Each.ensures (sym c.in-Each.is ∙ c.in_ok-entry.ensures)
     c.if-is_count.self.is_count_star c.loop-input.self.is_count_star (ltb 1 c.len-several.result) c.loop-input.lp i c.loop-input.input-index c.requires there so in
-    stands_after (not c.loop-input.self.is_count_star) c.in_ok-copied-in-Each.field-0 c.loop-input.lp c.push_down-in-loop-input.new.lp c.args.ex.now i (k.plan.nodes, k.plan.stands.nodes) c.in_ok-push_down-in-Each.ensures.prunes
+    stands_after (not c.loop-input.self.is_count_star) c.in_ok-copied_names-in-Each.field-0 c.loop-input.lp c.push_down-in-loop-input.new.lp c.args.ex.now i (k.plan.nodes, k.plan.stands.nodes) c.in_ok-push_down-in-Each.ensures.prunes
 
 pub loop-input-preserved : goal.loop-input-preserved
 loop-input-preserved t c =
@@ -157,7 +157,7 @@ loop-input-preserved t c =
     c.take-entry.ensures.given c.take-entry.ensures.after.2 c.put-in-Each.ensures (sym c.in-Each.is ∙ c.in_ok-entry.ensures) in
     let pruned = c.push_down-in-loop-input.new.lp in
     let below : PrunesAt (not c.loop-input.self.is_count_star) d c.loop-input.lp pruned c.args.ex.now i =
-    subst (λ (l : List Name). PrunesAt (not c.loop-input.self.is_count_star) l c.loop-input.lp pruned c.args.ex.now i) (c.in_ok-copied-in-Each.ensures ∙ names) c.in_ok-push_down-in-Each.ensures.prunes in
+    subst (λ (l : List Name). PrunesAt (not c.loop-input.self.is_count_star) l c.loop-input.lp pruned c.args.ex.now i) (c.in_ok-copied_names-in-Each.ensures ∙ names) c.in_ok-push_down-in-Each.ensures.prunes in
     let stands = stands_after (not c.loop-input.self.is_count_star) d c.loop-input.lp pruned c.args.ex.now i (k.plan.nodes, k.plan.stands.nodes) below in
     let on : covers ≡ true → c.if-several.lp ≡ covered_at (asked_columns d (columns_at pruned c.args.ex.now i)) pruned i = λ e. elim c.if-several.branch [
       | then-several+in_ok-cover-in-Each w ↦ w.lp-is ∙ w.in_ok-cover-in-Each.ensures.placed c.args.ex.now ∙ ap (λ (l : List Name). covered_at (asked_columns l (columns_at pruned c.args.ex.now i)) pruned i) names

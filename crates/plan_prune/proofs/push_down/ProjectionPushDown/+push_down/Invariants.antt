@@ -1,6 +1,4 @@
-use Rattle.plan_tree.specs.Stands.{Trees, StandsOnce}
 use Rattle.plan_tree.proofs.TreeLemmas.{height_at}
-use Rattle.plan_ir.specs.declared.ir.IR.{IR}
 use Rattle.plan_ir.specs.Parts.{plan_shape}
 use Rattle.plan_prune.proofs.EachLemmas.{SoFar}
 use Rattle.plan_prune.proofs.push_down.ProjectionPushDown.+push_down.Given as goal

@@ -1,8 +1,8 @@
 use Rattle.std.proofs.Common.{◌∙◌, ap, Option}
 use Rattle.plan_core.specs.Columns.{Columns}
 use Rattle.plan_ir.specs.declared.ir.IR.TheVariants.{Cache}
+use Rattle.plan_narrowing.specs.Pruned.{asked_columns}
 use Rattle.plan_prune.specs.declared.push_down.step.Step.TheVariants.{Closed}
-use Rattle.plan_prune.specs.Pruned.{asked_columns}
 use Rattle.plan_prune.proofs.push_down.cache.prepare.Goals as goal
 
 pub returns : goal.returns

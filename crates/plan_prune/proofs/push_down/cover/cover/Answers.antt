@@ -1,6 +1,6 @@
 use Rattle.std.proofs.Common.{◌∙◌, ap, sym}
 use Rattle.std.proofs.lemmas.Result.{on_ok_weaker}
-use Rattle.plan_prune.specs.Pruned.{asked_columns}
+use Rattle.plan_narrowing.specs.Pruned.{asked_columns}
 use Rattle.plan_prune.specs.Steps.{columns_at}
 use Rattle.plan_prune.proofs.EachLemmas.{cover_placed}
 use Rattle.plan_prune.proofs.push_down.cover.cover.Goals as goal

@@ -3,7 +3,7 @@ use Rattle.plan_core.specs.Columns.{names_of, type_of}
 use Rattle.plan_core.specs.Names.{has, with_name}
 use Rattle.plan_expr.specs.Leaves.{Name}
 use Rattle.plan_meaning.proofs.NameSets.{some-type_of}
-use Rattle.plan_prune.proofs.ListSteps.{not_past}
+use Rattle.plan_narrowing.proofs.ListSteps.{not_past}
 use Rattle.plan_prune.proofs.ExprWalks.{where-next, where-skip}
 use Rattle.plan_prune.proofs.push_down.hstack.known.Goals.{in-Some+then-is_some+in_ok-add, in-Some+else-is_some, in_default}
 use Rattle.plan_prune.proofs.push_down.hstack.known.Goals as goal

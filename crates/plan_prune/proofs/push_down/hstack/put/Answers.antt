@@ -3,7 +3,7 @@ use Rattle.plan_core.specs.Columns.{Columns}
 use Rattle.plan_expr.specs.declared.expr_ir.ExprIR.{ExprIR}
 use Rattle.plan_ir.specs.Plans.{bare, plans_at}
 use Rattle.plan_meaning.specs.Typing.{first_schema}
-use Rattle.plan_prune.specs.Stored.{stored_all}
+use Rattle.plan_narrowing.specs.Stored.{stored_all}
 use Rattle.plan_prune.specs.Kept.{names_at, with_typed}
 use Rattle.plan_prune.proofs.KeptLemmas.{stacked_put}
 use Rattle.plan_prune.proofs.push_down.hstack.put.Goals as goal

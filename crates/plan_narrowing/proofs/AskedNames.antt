@@ -1,0 +1,120 @@
+-- Lists of asked names, of which none stands for everything, against what is asked.
+use Rattle.std.proofs.Common.{◌≡◌, false, List, [], ◌∷◌, Option, refl, sym, ap, ◌∙◌, subst}
+use Rattle.plan_core.specs.Columns.{Columns, names_of}
+use Rattle.plan_core.specs.Names.{with_names}
+use Rattle.plan_tree.specs.Rose.{Roses, rose, no_roses, more}
+use Rattle.plan_expr.specs.Exprs.{Named}
+use Rattle.plan_ir.specs.Plans.{Op, slice, filter, scan, frame_scan, simple_projection, select, hstack, sort, distinct, sink, union, cache, invalid}
+use Rattle.plan_meaning.specs.Typing.{is_empty, names_or, first_schema, schema_by, schemas, checks, AllHold, AllValid}
+use Rattle.plan_meaning.specs.Relating.{Asked, all, names, cached}
+use Rattle.plan_meaning.specs.Asked.{set_of, with_more, asks_columns, kept_exprs, selected_exprs, all_leaves, needed_names, asks_selected, asks_added, asks_stacked, asks_alike, asks as asks_of, IsFair}
+use Rattle.plan_meaning.specs.Asked as asked
+use Rattle.plan_meaning.specs.Counting.{is_closed, stand_ins, first_stand_in}
+use Rattle.plan_meaning.proofs.NameSets.{has_first, keeps_names}
+use Rattle.plan_meaning.proofs.StandIns.{are_stand_ins}
+use Rattle.plan_meaning.proofs.Fairness.{some_name, fair_asks, FairAll}
+use Rattle.plan_expr.specs.Leaves.{Name, leaves}
+use Rattle.plan_narrowing.specs.Pruned.{asked_with, kept, added_names, stacked_names, asks, asks_plans}
+use Rattle.plan_narrowing.specs.Stored.{stored_all}
+use Rattle.plan_narrowing.proofs.StoredLemmas.{stored-schemas}
+
+pub set_some : (l : List Name) → is_empty l ≡ false → set_of l ≡ names l
+set_some [] e = cc
+set_some (a ∷ l) e = refl
+
+-- all columns are kept where everything is asked
+
+pub kept_all : (cs : Columns) → asked.kept all cs ≡ cs
+kept_all [] = refl
+kept_all (c ∷ cs) = ap (λ (x : Columns). c ∷ x) (kept_all cs)
+
+pub kept_cached : (cs : Columns) → asked.kept cached cs ≡ cs
+kept_cached [] = refl
+kept_cached (c ∷ cs) = ap (λ (x : Columns). c ∷ x) (kept_cached cs)
+
+pub kept-is : (l : List Name) (cs : Columns) → kept l cs ≡ asked.kept (set_of l) cs
+kept-is [] cs = sym (kept_all cs)
+kept-is (a ∷ l) cs = refl
+
+pub more-is : (l others : List Name) → with_more others (set_of l) ≡ set_of (asked_with l others)
+more-is [] others = refl
+more-is (a ∷ l) others = sym (set_some (with_names (a ∷ l) others) (some_name (with_names (a ∷ l) others) a (keeps_names (a ∷ l) others a (has_first a l))))
+
+-- what a filter asks
+pub filter_asks : (p : Named) (l : List Name) (ss : List Columns) (os : List (Option Name)) → with_more (leaves p.expr) (set_of l) ≡ set_of (asks l (filter p) ss os)
+filter_asks p l ss os = more-is l (leaves p.expr)
+
+-- what a projection asks
+pub projection_asks : (cs : Columns) (l : List Name) (ss : List Columns) (os : List (Option Name)) → asks_columns cs (set_of l) ≡ set_of (asks l (simple_projection cs) ss os)
+projection_asks cs [] ss os = ap (λ (x : Columns). set_of (with_names [] (names_of x))) (kept_all cs)
+projection_asks cs (a ∷ l) ss os = refl
+
+-- the same asked of each of some plans
+abbrev pub each_asked : Asked → Roses (Unit {0}) Op → List Asked
+each_asked a no_roses = []
+each_asked a (more p rest) = a ∷ each_asked a rest
+
+-- what an addition asks
+
+added_asks : (es : List Named) (a : Name) (l : List Name) (s : Columns) → asks_added es (a ∷ l) s ≡ set_of (added_names (a ∷ l) es s)
+added_asks [] a l s = refl
+added_asks (e ∷ es) a l s = refl
+
+pub stacked_asks : (es : List Named) (l : List Name) (s : Columns) → asks_stacked es (set_of l) s ≡ set_of (stacked_names l es s)
+stacked_asks es [] s = refl
+stacked_asks es (a ∷ l) s = added_asks (kept_exprs (names (a ∷ l)) es) a l s
+
+-- what a selection asks
+pub selected_asks : (es : List Named) (o : Option Name) (l : List Name) → asks_selected es o (set_of l) ≡ set_of (needed_names es o (selected_exprs (set_of l) es))
+selected_asks es o [] = refl
+selected_asks es o (a ∷ l) = refl
+
+-- the same asked of each input of a union
+alike_each : (a : Asked) (ts : Roses (Unit {0}) Op) → asks_alike a (schemas ts) ≡ each_asked a ts
+alike_each a no_roses = refl
+alike_each a (more (rose n op us) rest) = ap (λ (x : List Asked). a ∷ x) (alike_each a rest)
+
+-- what a node that isn't closed asks its inputs
+pub asks-each : (l : List Name) (op : Op) (ts : Roses (Unit {0}) Op) → is_closed op ≡ false → AllHold (checks op (schemas ts)) → AllValid ts → asks_of op (set_of l) (schemas ts) (stand_ins ts (schemas ts)) ≡ each_asked (set_of (asks_plans l op ts)) ts
+asks-each l (filter p) (more (rose n op us) no_roses) opens good v = ap (λ (x : Asked). x ∷ []) (filter_asks p l (stored_all (more (rose n op us) no_roses)) [])
+asks-each l (filter p) (more (rose n op us) (more (rose m o vs) rest)) opens good v = cc
+asks-each l (filter p) no_roses opens good v = cc
+asks-each l (simple_projection cs) (more (rose n op us) no_roses) opens good v = ap (λ (x : Asked). x ∷ []) (projection_asks cs l (stored_all (more (rose n op us) no_roses)) [])
+asks-each l (simple_projection cs) (more (rose n op us) (more (rose m o vs) rest)) opens good v = cc
+asks-each l (simple_projection cs) no_roses opens good v = cc
+asks-each l (scan sources info predicate output kind options) no_roses opens good v = refl
+asks-each l (scan sources info predicate output kind options) (more (rose n op us) rest) opens good v = cc
+asks-each l (slice o n) (more (rose m op us) no_roses) opens good v = refl
+asks-each l (slice o n) (more (rose m op us) (more (rose k q vs) rest)) opens good v = cc
+asks-each l (slice o n) no_roses opens good v = cc
+asks-each l (frame_scan df schema output) no_roses opens good v = refl
+asks-each l (frame_scan df schema output) (more (rose n op us) rest) opens good v = cc
+asks-each l (select es schema options) (more (rose m op us) no_roses) opens good v =
+    let t = more (rose m op us) no_roses in
+    ap (λ (x : Asked). x ∷ []) (selected_asks es (first_stand_in (stand_ins t (schemas t))) l
+    ∙ ap (λ (ss : List Columns). set_of (needed_names es (first_stand_in (stand_ins t ss)) (selected_exprs (set_of l) es))) (sym (stored-schemas t v)))
+asks-each l (select es schema options) (more (rose m op us) (more (rose k q vs) rest)) opens good v = cc
+asks-each l (select es schema options) no_roses opens good v = cc
+asks-each l (hstack es schema options) (more (rose m op us) no_roses) opens good v =
+    let t = more (rose m op us) no_roses in
+    ap (λ (x : Asked). x ∷ []) (stacked_asks es l (first_schema (schemas t)) ∙ ap (λ (ss : List Columns). set_of (stacked_names l es (first_schema ss))) (sym (stored-schemas t v)))
+asks-each l (hstack es schema options) (more (rose m op us) (more (rose k q vs) rest)) opens good v = cc
+asks-each l (hstack es schema options) no_roses opens good v = cc
+asks-each l (sort keys part options) (more (rose m op us) no_roses) opens good v = ap (λ (x : Asked). x ∷ []) (more-is l (all_leaves keys))
+asks-each l (sort keys part options) (more (rose m op us) (more (rose k q vs) rest)) opens good v = cc
+asks-each l (sort keys part options) no_roses opens good v = cc
+asks-each l (distinct options) (more (rose m op us) no_roses) opens good v =
+    let t = more (rose m op us) no_roses in
+    ap (λ (x : Asked). x ∷ []) (more-is l (names_or options.subset (names_of (first_schema (schemas t)))) ∙ ap (λ (ss : List Columns). set_of (asked_with l (names_or options.subset (names_of (first_schema ss))))) (sym (stored-schemas t v)))
+asks-each l (distinct options) (more (rose m op us) (more (rose k q vs) rest)) opens good v = cc
+asks-each l (distinct options) no_roses opens good v = cc
+asks-each l (sink payload) (more (rose m op us) no_roses) opens good v = refl
+asks-each l (sink payload) (more (rose m op us) (more (rose k q vs) rest)) opens good v = cc
+asks-each l (sink payload) no_roses opens good v = cc
+asks-each l (union options) ts opens good v = alike_each (set_of l) ts
+asks-each l (cache id hits) ts opens good v = cc
+asks-each l invalid ts opens good v = cc
+
+-- what a node that isn't closed asks can be asked of its inputs
+pub fair_each : (l : List Name) (op : Op) (ts : Roses (Unit {0}) Op) → is_closed op ≡ false → AllHold (checks op (schemas ts)) → AllValid ts → IsFair (set_of l) (schema_by op (schemas ts)) → FairAll (each_asked (set_of (asks_plans l op ts)) ts) (schemas ts)
+fair_each l op ts opens good v f = subst (λ (x : List Asked). FairAll x (schemas ts)) (asks-each l op ts opens good v) (fair_asks op (set_of l) (schemas ts) (stand_ins ts (schemas ts)) good (are_stand_ins ts) f)

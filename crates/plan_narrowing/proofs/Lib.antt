@@ -1,0 +1,21 @@
+-- The lemmas of this crate.
+pub mod ListSteps
+mod AddedNames
+mod NarrowLemmas
+mod StoredLemmas
+mod AskedNames
+mod ProjectionNarrows
+mod ScanNarrows
+mod MadeNarrows
+mod OrderNarrows
+mod SelectNarrows
+mod StackNarrows
+mod FrameNarrows
+mod CoverNarrows
+pub mod UnionNarrows
+mod CachedLemmas
+pub mod PrunedNarrows
+pub mod PrunedReads
+pub mod PrunedWork
+mod Example
+mod KeptExample

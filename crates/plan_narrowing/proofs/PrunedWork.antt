@@ -1,0 +1,103 @@
+-- The nodes of a pruned plan make at most the columns that are asked of them.
+use Rattle.std.proofs.Common.{◌≡◌, ◌+◌, ◌≤◌, Bool, true, false, List, [], ◌∷◌, length, refl, sym, ap, subst, arith}
+use Rattle.plan_core.specs.declared.options.ProjectionOptions.{ProjectionOptions}
+use Rattle.plan_core.specs.Columns.{Columns}
+use Rattle.plan_tree.specs.Rose.{Roses, rose, no_roses, more}
+use Rattle.plan_expr.specs.Exprs.{Named}
+use Rattle.plan_ir.specs.Plans.{Op, slice, filter, scan, frame_scan, simple_projection, select, hstack, sort, distinct, sink, union, cache, invalid, Plan}
+use Rattle.plan_expr.specs.Leaves.{Name}
+use Rattle.plan_meaning.specs.Typing.{schemas, checks, AllHold, AllValid}
+use Rattle.plan_meaning.specs.PlanAt.{one_plan}
+use Rattle.plan_meaning.specs.Steps.{IsValid}
+use Rattle.plan_meaning.specs.Relating.{Asked, all, names, cached}
+use Rattle.plan_meaning.specs.Asked.{set_of, kept_exprs, asks as asks_of}
+use Rattle.plan_meaning.specs.Counting.{is_closed, stand_ins}
+use Rattle.plan_meaning.specs.Work.{reckoned_exprs, made_in, made, own_kept, kept_in, kept}
+use Rattle.plan_meaning.proofs.KeptExprs.{kept-all, selected-all}
+use Rattle.plan_narrowing.specs.Pruned.{are_several, covered, covered_each, covered_if, left_below, stacked, asks_plans, rebuilt, top_below, top_after, pruned, pruned_all}
+use Rattle.plan_narrowing.proofs.AskedNames.{each_asked, asks-each}
+use Rattle.plan_narrowing.proofs.CachedLemmas.{asks-cached, cached_made}
+
+made-more : (p : Plan) (ps : Roses (Unit {0}) Op) → made_in (more p ps) ≡ made p + made_in ps
+made-more (rose n op ts) ps = omega arith
+
+one_made : (rs : Roses (Unit {0}) Op) → made (one_plan rs) ≤ made_in rs
+one_made no_roses = omega arith
+one_made (more r rs) = let e = made-more r rs in omega arith
+
+stacked_made : (es : List Named) (schema : Columns) (options : ProjectionOptions) (rs : Roses (Unit {0}) Op) → made (stacked es schema options rs) ≤ length es + made_in rs
+stacked_made [] schema options rs = let h = one_made rs in omega arith
+stacked_made (e ∷ es) schema options rs = omega arith
+
+-- a projection on top makes nothing
+covered_made : (l : List Name) (p : Plan) → made (covered l p) ≡ made p
+covered_made [] p = refl
+covered_made (a ∷ l) (rose n op ts) = omega arith
+
+each_made : (l : List Name) (rs : Roses (Unit {0}) Op) → made_in (covered_each l rs) ≡ made_in rs
+each_made l no_roses = refl
+each_made l (more r rs) =
+    let a = made-more (covered l r) (covered_each l rs) in
+    let b = made-more r rs in
+    let c = covered_made l r in
+    let d = each_made l rs in
+    omega arith
+
+if_made : (b : Bool) (l : List Name) (rs : Roses (Unit {0}) Op) → made_in (covered_if b l rs) ≡ made_in rs
+if_made true l rs = each_made l rs
+if_made false l rs = refl
+
+-- per node: what it makes is asked of it
+rebuilt_made : (top : Bool) (l : List Name) (op : Op) (rs : Roses (Unit {0}) Op) → made (rebuilt top l op rs) ≤ own_kept op (set_of l) + made_in rs
+rebuilt_made top l (slice o n) rs = omega arith
+rebuilt_made top l (frame_scan df schema output) rs = omega arith
+rebuilt_made top [] (select es schema options) rs = let e = ap reckoned_exprs (selected-all es) in omega arith
+rebuilt_made top (b ∷ l) (select es schema options) rs = omega arith
+rebuilt_made top [] (hstack es schema options) rs = let e : length (kept_exprs all es) ≡ length es = ap length (kept-all es) in omega arith
+rebuilt_made top (b ∷ l) (hstack es schema options) rs = let h = stacked_made (kept_exprs (names (b ∷ l)) es) schema options rs in omega arith
+rebuilt_made top l (filter p) rs = omega arith
+rebuilt_made top l (simple_projection cs) rs = omega arith
+rebuilt_made top l (sort keys part options) rs = omega arith
+rebuilt_made top l (distinct options) rs = omega arith
+rebuilt_made top l (sink payload) rs = omega arith
+rebuilt_made top l (union options) rs = let e = if_made (are_several rs) l rs in omega (arith, e)
+rebuilt_made top l (cache id hits) rs = let e = covered_made l (rose tt (cache id hits) rs) in omega (arith, e)
+rebuilt_made top l invalid rs = omega arith
+rebuilt_made top [] (scan sources info predicate output kind options) rs = omega arith
+rebuilt_made false (b ∷ l) (scan sources info predicate output kind options) rs = omega arith
+rebuilt_made true (b ∷ l) (scan sources info predicate output kind options) rs = omega arith
+
+-- a node over inputs that are left as they are below it
+left_made : (top : Bool) (l : List Name) (op : Op) (rs ts : Roses (Unit {0}) Op) → AllHold (checks op (schemas ts)) → AllValid ts → made_in rs ≤ kept_in ts (each_asked (set_of (asks_plans l op ts)) ts) → made (rebuilt top l op (left_below (is_closed op) ts rs)) ≤ own_kept op (set_of l) + kept_in ts (asks_of op (set_of l) (schemas ts) (stand_ins ts (schemas ts)))
+left_made top l op rs ts good v h = at (is_closed op) refl
+  where
+    closed : (o : Op) → is_closed o ≡ true → AllHold (checks o (schemas ts)) → made (rebuilt top l o ts) ≤ own_kept o (set_of l) + kept_in ts (asks_of o (set_of l) (schemas ts) (stand_ins ts (schemas ts)))
+    closed (cache id hits) e g =
+        let k = rebuilt_made top l (cache id hits) ts in
+        let under : made_in ts ≤ kept_in ts (cached ∷ []) = subst (λ (x : List Asked). made_in ts ≤ kept_in ts x) (sym (asks-cached (cache id hits) ts g)) (cached_made ts v) in
+        omega (arith, k, under)
+    closed o e g = absurd (cc)
+
+    at : (b : Bool) → is_closed op ≡ b → made (rebuilt top l op (left_below b ts rs)) ≤ own_kept op (set_of l) + kept_in ts (asks_of op (set_of l) (schemas ts) (stand_ins ts (schemas ts)))
+    at true e = closed op e good
+    at false e =
+        let k = rebuilt_made top l op rs in
+        let under : made_in rs ≤ kept_in ts (asks_of op (set_of l) (schemas ts) (stand_ins ts (schemas ts))) = subst (λ (x : List Asked). made_in rs ≤ kept_in ts x) (sym (asks-each l op ts e good v)) h in
+        omega (arith, k, under)
+
+-- pruned plans make at most what they are asked
+all_made : (top : Bool) (l : List Name) (ts : Roses (Unit {0}) Op) → AllValid ts → made_in (pruned_all top l ts) ≤ kept_in ts (each_asked (set_of l) ts)
+all_made top l no_roses v = omega arith
+all_made top l (more (rose n op ts) rest) v =
+    let b = asks_plans l op ts in
+    let low = top_below top op in
+    let next = top_after top (rose n op ts) in
+    let rs = pruned_all low b ts in
+    let split : made_in (pruned_all top l (more (rose n op ts) rest)) ≡ made (pruned top l (rose n op ts)) + made_in (pruned_all next l rest) = made-more (pruned top l (rose n op ts)) (pruned_all next l rest) in
+    let here = left_made top l op rs ts v.0 v.1 (all_made low b ts v.1) in
+    let others = all_made next l rest v.2 in
+    omega arith
+
+-- a pruned plan makes at most the columns that its nodes are asked
+pub pruned_made : (top : Bool) (p : Plan) → IsValid p → made (pruned top [] p) ≤ kept p
+pruned_made top (rose n op ts) v = all_made top [] (more (rose n op ts) no_roses) (v.0, v.1, tt)

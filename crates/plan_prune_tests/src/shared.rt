@@ -1,0 +1,28 @@
+//! Unions, which ask each input alike, and caches, below which all stays.
+
+use crate::samples::{Sample, assert_pruned};
+use std::test::Fail;
+
+#[test]
+fn each_input_of_a_union_is_pruned(rt: HostRuntime) -> Result<(), Fail> {
+    let mut plan = Sample::scan(rt.alloc())?;
+    plan.union("u")?;
+    plan.projection(&["a"])?;
+    assert_pruned(
+        &rt,
+        &mut plan,
+        "SimpleProjection a; Union of 2; SimpleProjection a; SimpleProjection a; Scan t reads a puts out a; SimpleProjection a; SimpleProjection a; Scan u reads a puts out a",
+    )
+}
+
+#[test]
+fn what_is_below_a_cache_stays(rt: HostRuntime) -> Result<(), Fail> {
+    let mut plan = Sample::scan(rt.alloc())?;
+    plan.cache(0)?;
+    plan.projection(&["a"])?;
+    assert_pruned(
+        &rt,
+        &mut plan,
+        "SimpleProjection a; SimpleProjection a; Cache 0; Scan t",
+    )
+}
