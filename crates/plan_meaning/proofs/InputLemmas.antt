@@ -6,15 +6,12 @@ use Rattle.plan_core.specs.declared.error.PolarsError.{PolarsError}
 use Rattle.plan_core.specs.declared.error.PolarsError.TheVariants.{SchemaFieldNotFound, Duplicate, SchemaMismatch, InvalidOperation, ComputeError, OutOfMemory}
 use Rattle.plan_core.specs.Columns.{Columns}
 use Rattle.plan_tree.specs.Rose.{Roses, rose, no_roses, more, join}
-use Rattle.plan_tree.specs.Stands.{Trees}
-use Rattle.plan_tree.specs.Read.{tree_at}
-use Rattle.plan_tree.proofs.SplitLemmas.{gather-append}
 use Rattle.plan_expr.specs.declared.aexpr.AExpr.{AExpr}
 use Rattle.plan_ir.specs.declared.ir.IR.{IR}
-use Rattle.plan_ir.specs.Parts.{plan_shape}
-use Rattle.plan_ir.specs.Plans.{Op, op_at, plans_of, plans_at}
-use Rattle.plan_meaning.specs.Typing.{faults, schemas, checks, first_fault, or_fault, schema_by}
+use Rattle.plan_ir.specs.Plans.{Op, plans_at}
+use Rattle.plan_meaning.specs.Typing.{faults, schemas, checks, first_fault, or_fault}
 use Rattle.plan_meaning.specs.Typed.{IsPlanTyped}
+use Rattle.plan_meaning.proofs.SideLemmas.{plans_at-append, schemas-join}
 
 -- the first of three faults
 or_fault-assoc : (a b c : Option PolarsError) → or_fault (or_fault a b) c ≡ or_fault a (or_fault b c)
@@ -28,25 +25,12 @@ faults-join (more (rose n op ts) rest) g =
     let here : Option PolarsError = or_fault (faults ts) (first_fault n (checks op (schemas ts))) in
     ap (or_fault here) (faults-join rest g) ∙ sym (or_fault-assoc here (faults rest) (faults g))
 
--- the columns of plans side by side
-schemas-join : (f g : Roses Node Op) → schemas (join f g) ≡ schemas f ++ schemas g
-schemas-join no_roses g = refl
-schemas-join (more (rose n op ts) rest) g = ap (λ (ss : List Columns). schema_by op (schemas ts) ∷ ss) (schemas-join rest g)
-
--- the plans that trees side by side are
-plans_of-join : (ex : List AExpr) (f g : Trees IR) → plans_of ex (join f g) ≡ join (plans_of ex f) (plans_of ex g)
-plans_of-join ex no_roses g = refl
-plans_of-join ex (more (rose n p kids) rest) g = ap (λ (t : Roses Node Op). more (rose n (op_at ex p) (plans_of ex kids)) t) (plans_of-join ex rest g)
-
 module _ (lp : List IR) (ex : List AExpr) where
-  plans_at-append : (ns ms : List Node) → plans_at lp ex (ns ++ ms) ≡ join (plans_at lp ex ns) (plans_at lp ex ms)
-  plans_at-append ns ms = ap (plans_of ex) (gather-append plan_shape (tree_at plan_shape lp) ns ms) ∙ plans_of-join ex _ _
-
   faults-append : (ns ms : List Node) → faults (plans_at lp ex (ns ++ ms)) ≡ or_fault (faults (plans_at lp ex ns)) (faults (plans_at lp ex ms))
-  faults-append ns ms = ap faults (plans_at-append ns ms) ∙ faults-join (plans_at lp ex ns) (plans_at lp ex ms)
+  faults-append ns ms = ap faults (plans_at-append lp ex ns ms) ∙ faults-join (plans_at lp ex ns) (plans_at lp ex ms)
 
   schemas-append : (ns ms : List Node) → schemas (plans_at lp ex (ns ++ ms)) ≡ schemas (plans_at lp ex ns) ++ schemas (plans_at lp ex ms)
-  schemas-append ns ms = ap schemas (plans_at-append ns ms) ∙ schemas-join (plans_at lp ex ns) (plans_at lp ex ms)
+  schemas-append ns ms = ap schemas (plans_at-append lp ex ns ms) ∙ schemas-join (plans_at lp ex ns) (plans_at lp ex ms)
 
   -- the plans at numbers have no fault, and these columns
   pub record AllTyped (ns : List Node) (ss : List Columns) : Type 0 where

@@ -1,11 +1,12 @@
 -- The lemmas of this crate.
 mod ExprSteps
 pub mod ScalarExprs
-mod CheckLemmas
+pub mod CheckLemmas
 pub mod MadeLemmas
 mod ReadLemmas
 mod TreeFaultLemmas
 mod TypedLemmas
+pub mod SideLemmas
 mod InputLemmas
 pub mod NameSets
 pub mod FrameLemmas

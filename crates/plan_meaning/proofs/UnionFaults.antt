@@ -1,7 +1,6 @@
 -- The answer of a union whose inputs were found to have the same columns.
-use Rattle.std.proofs.Common.{◌≡◌, Bool, true, cond, List, [], ◌∷◌, ◌++◌, Option, Some, None, refl, sym, ap, ◌∙◌, subst}
+use Rattle.std.proofs.Common.{◌≡◌, Bool, true, cond, List, [], ◌∷◌, ◌++◌, Some, None, sym, ap, ◌∙◌, subst}
 use Rattle.plan_core.specs.declared.arena.Node.{Node}
-use Rattle.plan_core.specs.declared.error.PolarsError.{PolarsError}
 use Rattle.plan_core.specs.declared.error.PolarsError.TheVariants.{InvalidOperation}
 use Rattle.plan_core.specs.Columns.{Columns}
 use Rattle.plan_options.specs.declared.union.UnionOptions.{UnionOptions}

@@ -1,5 +1,5 @@
 -- Unions: inputs with the same columns, and their rows in turn.
-use Rattle.std.proofs.Common.{◌≡◌, ℕ, ◌+◌, ◌<◌, Bool, true, false, not, arith, slice_index_or, List, [], ◌∷◌, ◌++◌, length, Option, refl, sym, ap₂, ◌∙◌, subst, length-append}
+use Rattle.std.proofs.Common.{◌≡◌, ℕ, ◌+◌, ◌<◌, Bool, true, false, not, arith, slice_index_or, List, [], ◌∷◌, ◌++◌, length, refl, sym, ap₂, ◌∙◌, subst, length-append}
 use Rattle.std.specs.List.{AllByRecursion}
 use Rattle.std.proofs.lemmas.Bool.{and_parts}
 use Rattle.plan_core.specs.declared.error.PolarsError.TheVariants.{SchemaMismatch}

@@ -13,7 +13,7 @@ mod union;
 pub use distinct::distinct_schema;
 pub use filter::{check_filter, filter_schema};
 pub use frame_scan::{check_frame_scan, frame_scan_schema};
-pub use made::{check_made, hstack_schema, select_schema};
+pub use made::{check_made, hstack_schema, made_schema, select_schema};
 pub use place::at;
 pub use projection::{check_projection, projection_schema};
 pub use scan::{check_scan, scan_schema};

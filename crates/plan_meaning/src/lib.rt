@@ -9,7 +9,9 @@ mod plan;
 mod tests;
 mod tree;
 
-pub use check::{check_filter, check_frame_scan, check_made, check_projection, check_scan};
+pub use check::{
+    check_filter, check_frame_scan, check_made, check_projection, check_scan, made_schema,
+};
 pub use exprs::{all_scalar, counts_rows, expr_type, reads_only};
 pub use plan::{check_nodes, check_plan};
 pub use tree::check_tree;

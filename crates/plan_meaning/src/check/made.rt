@@ -88,8 +88,9 @@ pub fn check_namings(node: Node, exprs: &[ExprIR], ex: &Arena<AExpr>) -> PolarsR
     Ok(())
 }
 
-/// The columns, and those that the expressions make over the schema: each in the place of the one of its name, or last.
-fn made_schema(
+/// The columns, and those that the expressions make over the schema: each in the place of the one of its name, or last. An
+/// expression without a type makes a column of Int64. Refuses for want of memory alone.
+pub fn made_schema(
     alloc: Global,
     base: Schema,
     exprs: &[ExprIR],

@@ -1,4 +1,4 @@
-use Rattle.std.proofs.Common.{◌≡◌, ◌∙◌, Bool, true, false, ap, sym, arith, Some}
+use Rattle.std.proofs.Common.{◌≡◌, ◌∙◌, true, false, ap, sym, arith, Some}
 use Rattle.plan_core.specs.Columns.{Columns, same_columns}
 use Rattle.plan_core.specs.declared.error.At.{At}
 use Rattle.plan_core.specs.declared.error.PolarsError.TheVariants.{SchemaMismatch}

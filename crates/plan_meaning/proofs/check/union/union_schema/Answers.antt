@@ -1,4 +1,4 @@
-use Rattle.std.proofs.Common.{◌≡◌, ◌∙◌, ap, List, Bool, true, sym, rules}
+use Rattle.std.proofs.Common.{◌≡◌, ◌∙◌, ap, List, true, sym, rules}
 use Rattle.plan_core.specs.Columns.{Columns}
 use Rattle.plan_meaning.specs.Typing.{first_fault, is_built_union, same_checks}
 use Rattle.plan_meaning.proofs.UnionLemmas.{never_built}
