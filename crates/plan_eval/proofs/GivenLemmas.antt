@@ -10,19 +10,15 @@ use Rattle.plan_ir.specs.Plans.{Op, bare, plans_at}
 use Rattle.plan_meaning.specs.Contents.{Contents}
 use Rattle.plan_meaning.specs.Frames.{Frame}
 use Rattle.plan_meaning.specs.Steps.{MayAll}
-use Rattle.plan_meaning.specs.Typing.{AllValid, schemas, schema_by}
+use Rattle.plan_meaning.specs.Typing.{AllValid}
+use Rattle.plan_meaning.proofs.SideLemmas.{next, schemas-join, whole}
 use Rattle.plan_table.specs.declared.source_key.SourceKey.{SourceKey}
 use Rattle.plan_table.specs.declared.table.Table.{Table}
 use Rattle.plan_value.specs.Shown.{frame_of, schema_of}
 use Rattle.plan_fit.specs.Sources.{contents_of}
-use Rattle.plan_fit.proofs.SideLemmas.{next, whole}
 use Rattle.plan_eval.specs.Given.{GiveAll}
 
 -- The plans of two lists, side by side
-
-schemas-join : (f g : Roses Node Op) → schemas (join f g) ≡ schemas f ++ schemas g
-schemas-join no_roses g = refl
-schemas-join (more (rose n op ts) rest) g = ap (λ (ss : List Columns). schema_by op (schemas ts) ∷ ss) (schemas-join rest g)
 
 valid-first : (f g : Roses Node Op) → AllValid (join f g) → AllValid f
 valid-first no_roses g h = tt
