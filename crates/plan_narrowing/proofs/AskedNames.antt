@@ -15,8 +15,8 @@ use Rattle.plan_meaning.proofs.StandIns.{are_stand_ins}
 use Rattle.plan_meaning.proofs.Fairness.{some_name, fair_asks, FairAll}
 use Rattle.plan_expr.specs.Leaves.{Name, leaves}
 use Rattle.plan_narrowing.specs.Pruned.{asked_with, kept, added_names, stacked_names, asks, asks_plans}
-use Rattle.plan_narrowing.specs.Stored.{stored_all}
-use Rattle.plan_narrowing.proofs.StoredLemmas.{stored-schemas}
+use Rattle.plan_schema.specs.Stored.{stored_all}
+use Rattle.plan_schema.proofs.StoredLemmas.{stored-schemas}
 
 pub set_some : (l : List Name) → is_empty l ≡ false → set_of l ≡ names l
 set_some [] e = cc

@@ -19,11 +19,11 @@ use Rattle.plan_meaning.proofs.FrameLemmas.{cut_same, found-table, schema_holds,
 use Rattle.plan_meaning.proofs.Runs.{valid_runs}
 use Rattle.plan_meaning.proofs.Related.{relates_top}
 use Rattle.plan_narrowing.specs.Pruned.{covered, typed_names}
-use Rattle.plan_narrowing.specs.Stored.{stored_all}
+use Rattle.plan_schema.specs.Stored.{stored_all}
 use Rattle.plan_narrowing.proofs.NarrowLemmas.{holding_same}
 use Rattle.plan_narrowing.proofs.ProjectionNarrows.{some_is, projection_good}
 use Rattle.plan_narrowing.proofs.ScanNarrows.{type_or, columns_at, some_or, typed-known, names-columns_at, type_of-columns_at, each_column}
-use Rattle.plan_narrowing.proofs.StoredLemmas.{stored-schemas}
+use Rattle.plan_schema.proofs.StoredLemmas.{stored-schemas}
 
 -- how much of a plan is seen: what is asked, or these columns alone
 pub data View : Type 0 where

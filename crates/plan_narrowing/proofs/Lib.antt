@@ -2,7 +2,6 @@
 pub mod ListSteps
 mod AddedNames
 mod NarrowLemmas
-mod StoredLemmas
 mod AskedNames
 mod ProjectionNarrows
 mod ScanNarrows

@@ -26,7 +26,7 @@ use Rattle.plan_meaning.proofs.Fairness.{FairAll}
 use Rattle.plan_meaning.proofs.KeptExprs.{selected-all}
 use Rattle.plan_expr.specs.Leaves.{Name}
 use Rattle.plan_narrowing.specs.Pruned.{asked_with, kept, pruned_output, typed_names, reading, projected, stacked_names, pruned_select, stacked, pruned_hstack, asks, asks_plans, left_below, rebuilt, top_below, top_after, pruned, pruned_all}
-use Rattle.plan_narrowing.specs.Stored.{stored_all}
+use Rattle.plan_schema.specs.Stored.{stored_all}
 use Rattle.plan_narrowing.proofs.AskedNames.{set_some, kept-is, more-is, filter_asks, stacked_asks, each_asked, fair_each}
 use Rattle.plan_narrowing.proofs.NarrowLemmas.{Local, same_one, same_none, local_filter, local_slice}
 use Rattle.plan_narrowing.proofs.MadeNarrows.{SameLeaves, none_selected, needed_types, needed_frames}
@@ -35,7 +35,7 @@ use Rattle.plan_narrowing.proofs.UnionNarrows.{union_narrows}
 use Rattle.plan_narrowing.proofs.OrderNarrows.{local_sort, local_distinct, local_sink}
 use Rattle.plan_narrowing.proofs.SelectNarrows.{local_selected, whole_selected}
 use Rattle.plan_narrowing.proofs.StackNarrows.{dropped_holds, dropped_agrees, local_added}
-use Rattle.plan_narrowing.proofs.StoredLemmas.{stored-schemas}
+use Rattle.plan_schema.proofs.StoredLemmas.{stored-schemas}
 use Rattle.plan_narrowing.proofs.FrameNarrows.{local_frame}
 use Rattle.plan_narrowing.proofs.ProjectionNarrows.{local_columns, asked_some}
 use Rattle.plan_narrowing.proofs.ScanNarrows.{local_scan, left_holds, top_good, top_agrees}

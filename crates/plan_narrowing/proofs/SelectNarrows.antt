@@ -19,7 +19,7 @@ use Rattle.plan_meaning.proofs.Fairness.{has_some}
 use Rattle.plan_narrowing.specs.Pruned.{typed_names}
 use Rattle.plan_narrowing.proofs.NarrowLemmas.{Local, one_step}
 use Rattle.plan_narrowing.proofs.ProjectionNarrows.{some_is}
-use Rattle.plan_narrowing.proofs.StoredLemmas.{same_is}
+use Rattle.plan_schema.proofs.StoredLemmas.{same_is}
 use Rattle.plan_narrowing.proofs.MadeNarrows.{SameLeaves, same_made, same_values, once_names, left_stored, left_made}
 
 some_exprs : (es : List Named) (b : Name) → has (out_names es) b ≡ true → is_empty es ≡ false

@@ -19,7 +19,7 @@ use Rattle.plan_meaning.specs.PlanAt.{one_plan}
 use Rattle.plan_meaning.specs.Relating.{names as these}
 use Rattle.plan_meaning.specs.Counting.{is_closed, is_count, meets_count, stand_ins, first_stand_in}
 use Rattle.plan_meaning.specs.Asked.{set_of, kept_exprs, selected_exprs, all_leaves, needed_names}
-use Rattle.plan_narrowing.specs.Stored.{stored_all}
+use Rattle.plan_schema.specs.Stored.{stored_all}
 
 -- the asked names with more, each last unless it is there; asked nothing, nothing
 abbrev pub asked_with : List Name → List Name → List Name

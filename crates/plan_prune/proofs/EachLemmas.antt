@@ -23,7 +23,7 @@ use Rattle.plan_expr.specs.Leaves.{Name}
 use Rattle.plan_meaning.specs.Typing.{first_schema}
 use Rattle.plan_meaning.specs.Counting.{is_count, meet_count}
 use Rattle.plan_narrowing.specs.Pruned.{are_several, asked_columns, covered_each, covered_if, pruned_all, top_below, typed_names}
-use Rattle.plan_narrowing.specs.Stored.{stored_all}
+use Rattle.plan_schema.specs.Stored.{stored_all}
 use Rattle.plan_narrowing.proofs.ListSteps.{take-next}
 use Rattle.plan_narrowing.proofs.UnionNarrows.{covered_none}
 use Rattle.plan_prune.specs.Prunes.{TakePlace, Prunes, MarksAt}

@@ -23,7 +23,7 @@ use Rattle.plan_meaning.specs.Steps.{all_scalar}
 use Rattle.plan_meaning.specs.Relating.{all, names}
 use Rattle.plan_meaning.specs.Counting.{first_many}
 use Rattle.plan_meaning.specs.Asked.{kept_exprs, selected_exprs, set_of}
-use Rattle.plan_narrowing.specs.Stored.{stored_all}
+use Rattle.plan_schema.specs.Stored.{stored_all}
 use Rattle.plan_narrowing.specs.Pruned.{added_names, stacked_names, pruned_select, stacked, pruned_hstack}
 use Rattle.plan_prune.specs.Prunes.{StandExprs, TakePlace}
 use Rattle.plan_meaning.specs.PlanAt.{one_plan}

@@ -4,7 +4,6 @@ pub mod PlaceLemmas
 pub mod KeptLemmas
 mod StandInLemmas
 mod ExprWalks
-mod StoredNodes
 mod HStackPruned
 mod JoinPruned
 mod EachLemmas

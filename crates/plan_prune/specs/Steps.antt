@@ -14,7 +14,7 @@ use Rattle.plan_expr.specs.Leaves.{Name, leaves}
 use Rattle.plan_meaning.specs.Typing.{first_schema, names_or}
 use Rattle.plan_meaning.specs.Counting.{stand_ins, first_stand_in}
 use Rattle.plan_meaning.specs.Asked.{all_leaves, needed_names}
-use Rattle.plan_narrowing.specs.Stored.{stored_all}
+use Rattle.plan_schema.specs.Stored.{stored_all}
 use Rattle.plan_narrowing.specs.Pruned.{asked_columns, asked_with, kept, pruned_output}
 use Rattle.plan_prune.specs.declared.push_down.step.Step.{Step}
 use Rattle.plan_prune.specs.declared.push_down.step.Step.TheVariants.{Leaf, Over, Closed, Each}

@@ -30,7 +30,6 @@ mod slice;
 mod sort;
 mod stand_in;
 mod step;
-mod stored;
 mod union;
 
 use crate::push_down::cover::cover;

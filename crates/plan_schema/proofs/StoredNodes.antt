@@ -12,7 +12,7 @@ use Rattle.plan_ir.specs.declared.ir.IR.{IR}
 use Rattle.plan_ir.specs.Parts.{plan_shape, inputs_of}
 use Rattle.plan_ir.specs.Plans.{op_at, plans_of, plans_at, bare}
 use Rattle.plan_meaning.specs.Typing.{first_schema}
-use Rattle.plan_narrowing.specs.Stored.{stored_by, stored_all}
+use Rattle.plan_schema.specs.Stored.{stored_by, stored_all}
 
 pub stored_open : (lp : List IR) (ex : List AExpr) (n : Node) (p : IR) → ((t : Trees IR) × StandsOnce plan_shape lp (n ∷ []) t) → slice_get lp n.0 ≡ Some p → stored_by (op_at ex p) (stored_all (bare (plans_at lp ex (inputs_of p)))) ≡ first_schema (stored_all (bare (plans_at lp ex (n ∷ []))))
 stored_open lp ex n p h e =

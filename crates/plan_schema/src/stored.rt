@@ -3,10 +3,12 @@ ghost use Rattle.std.specs.Prelude.{◌≡◌, List, [], ◌∷◌};
 ghost use Rattle.plan_tree.specs.Stands.{Trees, StandsOnce};
 ghost use Rattle.plan_expr.specs.declared.aexpr.AExpr.{AExpr};
 ghost use Rattle.plan_ir.specs.declared.ir.IR.{IR};
-ghost use Rattle.plan_ir.specs.Parts.{plan_shape};
+ghost use Rattle.plan_ir.specs.Parts.{IsPlan, plan_shape};
 ghost use Rattle.plan_ir.specs.Plans.{bare, plans_at};
-ghost use Rattle.plan_meaning.specs.Typing.{columns_or, first_schema};
-ghost use Rattle.plan_narrowing.specs.Stored.{stored_all};
+ghost use Rattle.plan_meaning.specs.PlanAt.{plan_at};
+ghost use Rattle.plan_meaning.specs.Steps.{IsValid};
+ghost use Rattle.plan_meaning.specs.Typing.{columns_or, first_schema, schema};
+ghost use Rattle.plan_schema.specs.Stored.{stored_all};
 
 use plan_core::{Arena, Node, Schema};
 use plan_ir::IR;
@@ -22,7 +24,7 @@ fn told<'a>(output: &'a Option<Schema>, columns: &'a Schema) -> &'a Schema
 }
 
 /// The columns that the plan at a number says it has; `none`, which are no columns, where a union without inputs says it.
-pub fn stored<'a>(node: Node, lp: &'a Arena<IR>, none: &'a Schema) -> &'a Schema
+fn stored<'a>(node: Node, lp: &'a Arena<IR>, none: &'a Schema) -> &'a Schema
     requires stands { (t : Trees IR) × StandsOnce plan_shape lp.now (node ∷ []) t }
     requires none { none.now ≡ [] }
     ensures { (ex : List AExpr) → result.now ≡ first_schema (stored_all (bare (plans_at lp.now ex (node ∷ [])))) }
@@ -53,4 +55,15 @@ pub fn stored<'a>(node: Node, lp: &'a Arena<IR>, none: &'a Schema) -> &'a Schema
         IR::HStack { schema, .. } => schema,
         IR::Invalid => unreachable!(),
     }
+}
+
+/// The columns that the plan at a number says it has: those that its node stores, else those of its first input; `none`,
+/// which are no columns, where a union without inputs says it. Of a valid plan they are its columns.
+pub fn stored_schema<'a>(node: Node, lp: &'a Arena<IR>, none: &'a Schema) -> &'a Schema
+    requires stands { (t : Trees IR) × StandsOnce plan_shape lp.now (node ∷ []) t }
+    requires none { none.now ≡ [] }
+    ensures stored { (ex : List AExpr) → result.now ≡ first_schema (stored_all (bare (plans_at lp.now ex (node ∷ [])))) }
+    ensures valid { (ex : List AExpr) → IsPlan lp.now ex node → IsValid (plan_at lp.now ex node) → result.now ≡ schema (plan_at lp.now ex node) }
+{
+    stored(node, lp, none)
 }

@@ -11,10 +11,10 @@ ghost use Rattle.plan_prune.specs.declared.push_down.step.Step.TheVariants.{Clos
 ghost use Rattle.plan_prune.specs.Steps.{columns_at};
 
 use crate::push_down::step::Step;
-use crate::push_down::stored::stored;
 use plan_core::{Arena, Names, Node, Schema};
 use plan_ir::IR;
 use plan_narrowing::asked_columns;
+use plan_schema::stored_schema;
 use std::alloc::{AllocError, Global};
 
 /// The step of a cache.
@@ -30,7 +30,7 @@ pub fn prepare(
     ensures { IfOk result (λ step. (ex : List AExpr) → step ≡ Closed (asked_of asked.now (columns_at lp.now ex input)) (Cache input id cache_hits)) }
 {
     let none = Schema::new(alloc);
-    let columns = asked_columns(alloc, asked, stored(input, lp, &none))?;
+    let columns = asked_columns(alloc, asked, stored_schema(input, lp, &none))?;
     Ok(Step::Closed {
         columns,
         entry: IR::Cache {

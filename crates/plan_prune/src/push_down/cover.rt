@@ -9,10 +9,10 @@ ghost use Rattle.plan_narrowing.specs.Pruned.{asked_columns as asked_of};
 ghost use Rattle.plan_prune.specs.Scans.{covered_at, with_columns_on, with_top};
 ghost use Rattle.plan_prune.specs.Steps.{columns_at};
 
-use crate::push_down::stored::stored;
 use plan_core::{Arena, Names, Node, Schema};
 use plan_ir::IR;
 use plan_narrowing::asked_columns;
+use plan_schema::stored_schema;
 use std::alloc::{AllocError, Global};
 
 /// Puts a node at a new number, and at `node` a projection to `columns` on top of it. Refuses for want of memory alone, and
@@ -61,7 +61,7 @@ pub fn cover(alloc: Global, node: Node, asked: &Names, lp: &mut Arena<IR>) -> Re
     ensures grows { length lp.old ≤ length lp.new }
 {
     let none = Schema::new(alloc);
-    match asked_columns(alloc, asked, stored(node, lp, &none))? {
+    match asked_columns(alloc, asked, stored_schema(node, lp, &none))? {
         Some(columns) => {
             let entry = lp.take(node);
             put_under(node, entry, columns, lp)

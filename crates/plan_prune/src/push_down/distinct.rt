@@ -14,11 +14,11 @@ ghost use Rattle.plan_prune.specs.declared.push_down.step.Step.TheVariants.{Over
 ghost use Rattle.plan_prune.specs.Steps.{columns_at};
 
 use crate::push_down::step::Step;
-use crate::push_down::stored::stored;
 use plan_core::{Arena, Items, Names, Node, PlSmallStr, Schema};
 use plan_ir::IR;
 use plan_narrowing::{add_columns, add_listed};
 use plan_options::DistinctOptionsIR;
+use plan_schema::stored_schema;
 use std::alloc::{AllocError, Global};
 
 /// What distinct rows ask their input: the asked names, and then the other names by which rows are told apart; no names
@@ -53,7 +53,7 @@ pub fn prepare(
     ensures { IfOk result (λ step. (ex : List AExpr) → step ≡ Over input (asked_with asked (names_or options.subset (names_of (columns_at lp.now ex input)))) (Distinct input options)) }
 {
     let none = Schema::new(alloc);
-    let asked = asks(asked, &options.subset, stored(input, lp, &none))?;
+    let asked = asks(asked, &options.subset, stored_schema(input, lp, &none))?;
     Ok(Step::Over {
         input,
         asked,

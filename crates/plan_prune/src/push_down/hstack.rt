@@ -13,17 +13,17 @@ ghost use Rattle.plan_ir.specs.Parts.{plan_shape};
 ghost use Rattle.plan_expr.specs.Exprs.{all_named_at};
 ghost use Rattle.plan_ir.specs.Plans.{bare, plans_at};
 ghost use Rattle.plan_meaning.specs.Typing.{first_schema};
-ghost use Rattle.plan_narrowing.specs.Stored.{stored_all};
+ghost use Rattle.plan_schema.specs.Stored.{stored_all};
 ghost use Rattle.plan_prune.specs.Kept.{asks_after, stacked_at, with_stacked};
 ghost use Rattle.plan_prune.specs.Prunes.{StandExprs};
 ghost use Rattle.plan_prune.specs.Steps.{stacked_step};
 
 use crate::push_down::exprs::{add_all_names, asked_exprs, with_typed};
 use crate::push_down::step::Step;
-use crate::push_down::stored::stored;
 use plan_core::{Arena, Items, Names, Node, ProjectionOptions, Schema, TryClone};
 use plan_expr::{AExpr, ExprIR};
 use plan_ir::IR;
+use plan_schema::stored_schema;
 use std::alloc::{AllocError, Global};
 
 /// The expressions that an addition keeps.
@@ -90,7 +90,7 @@ pub fn prepare(
 {
     let exprs = keep(alloc, exprs, &asked)?;
     let none = Schema::new(alloc);
-    let columns = stored(input, lp, &none);
+    let columns = stored_schema(input, lp, &none);
     let asked = asks(alloc, asked, exprs.as_slice(), columns, ex)?;
     Ok(Step::Over {
         input,
@@ -140,7 +140,7 @@ pub fn put(
         return Ok(());
     }
     let none = Schema::new(alloc);
-    let base = stored(input, lp, &none).try_clone(alloc)?;
+    let base = stored_schema(input, lp, &none).try_clone(alloc)?;
     let schema = with_typed(alloc, base, exprs.as_slice(), &schema)?;
     lp.put(
         node,

@@ -10,10 +10,10 @@ ghost use Rattle.plan_meaning.specs.Counting.{last_name as last_of};
 ghost use Rattle.plan_prune.specs.Kept.{made_by as exprs_by, many_at};
 ghost use Rattle.plan_prune.specs.Steps.{stand_in_at};
 
-use crate::push_down::stored::stored;
 use plan_core::{Arena, Node, Schema};
 use plan_expr::{AExpr, ExprIR, is_scalar, output_name};
 use plan_ir::IR;
+use plan_schema::stored_schema;
 
 /// The first expression that isn't scalar, if there is one.
 pub fn first_many<'a>(exprs: &'a [ExprIR], ex: &Arena<AExpr>) -> Option<&'a ExprIR>
@@ -68,6 +68,6 @@ pub fn stand_in<'a>(
 {
     match first_many(made_by(lp.get(node)), ex) {
         Some(expr) => Some(output_name(&expr.output_name)),
-        None => last_name(stored(node, lp, none)),
+        None => last_name(stored_schema(node, lp, none)),
     }
 }

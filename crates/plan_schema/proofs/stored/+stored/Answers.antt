@@ -4,8 +4,8 @@ use Rattle.plan_core.specs.declared.arena.Node.{Node}
 use Rattle.plan_ir.specs.declared.ir.IR.TheVariants.{Slice, Filter, Scan, DataFrameScan, SimpleProjection, Select, HStack, Sort, Distinct, Sink, Union, Cache}
 use Rattle.plan_ir.specs.Parts.{plan_shape}
 use Rattle.plan_tree.proofs.TreeLemmas.{height-falls, StandsOnce-input}
-use Rattle.plan_prune.proofs.StoredNodes.{stored_first, stored_none, stored_open}
-use Rattle.plan_prune.proofs.push_down.stored.+stored.Goals as goal
+use Rattle.plan_schema.proofs.StoredNodes.{stored_first, stored_none, stored_open}
+use Rattle.plan_schema.proofs.stored.+stored.Goals as goal
 
 pub stored-requires : goal.stored-requires
 stored-requires t c =

@@ -3,7 +3,7 @@ use Rattle.plan_core.specs.Columns.{Columns}
 use Rattle.plan_expr.specs.declared.expr_ir.ExprIR.{ExprIR}
 use Rattle.plan_ir.specs.Plans.{bare, plans_at}
 use Rattle.plan_meaning.specs.Typing.{first_schema}
-use Rattle.plan_narrowing.specs.Stored.{stored_all}
+use Rattle.plan_schema.specs.Stored.{stored_all}
 use Rattle.plan_prune.specs.Kept.{names_at, with_typed}
 use Rattle.plan_prune.proofs.KeptLemmas.{stacked_put}
 use Rattle.plan_prune.proofs.push_down.hstack.put.Goals as goal
@@ -14,5 +14,5 @@ returns-clause-placed c = λ ex.
     c.put-2.ensures
     ∙ stacked_put c.args.is_asked c.args.lp.now c.args.node c.args.input c.args.exprs c.args.schema c.in_ok-schema.schema s c.args.options c.if-not-is_asked.false (λ z. omega (arith, z, c.len.ensures, c.if-len-eq0.false))
     (c.in_ok-schema.ensures
-    ∙ ap (λ (t : Columns). with_typed t (names_at c.as_slice.result.now) c.args.schema) (c.in_ok-base.ensures ∙ c.stored.ensures ex)
+    ∙ ap (λ (t : Columns). with_typed t (names_at c.as_slice.result.now) c.args.schema) (c.in_ok-base.ensures ∙ c.stored_schema.ensures.stored ex)
     ∙ ap (λ (l : List ExprIR). with_typed s (names_at l) c.args.schema) c.as_slice.ensures)

@@ -25,8 +25,8 @@ none_many c = ap (many_at c.args.ex.now) (sym c.made_by.ensures) ∙ c.in-None.e
 
 pub returns-in-None-clause-some : goal.returns-in-None-clause-some
 returns-in-None-clause-some c = IfSome_then c.last_name.result c.last_name.ensures.some (λ a e.
-    stands_last c.args.lp.now c.args.ex.now c.args.node c.requires.plan c.get.result.now (Some a.now) c.get.ensures.entry (none_many c) (ap last_name (sym (c.stored.ensures c.args.ex.now)) ∙ e))
+    stands_last c.args.lp.now c.args.ex.now c.args.node c.requires.plan c.get.result.now (Some a.now) c.get.ensures.entry (none_many c) (ap last_name (sym (c.stored_schema.ensures.stored c.args.ex.now)) ∙ e))
 
 pub returns-in-None-clause-none : goal.returns-in-None-clause-none
 returns-in-None-clause-none c = none_then c.last_name.result c.last_name.ensures.none (λ e.
-    stands_last c.args.lp.now c.args.ex.now c.args.node c.requires.plan c.get.result.now None c.get.ensures.entry (none_many c) (ap last_name (sym (c.stored.ensures c.args.ex.now)) ∙ e))
+    stands_last c.args.lp.now c.args.ex.now c.args.node c.requires.plan c.get.result.now None c.get.ensures.entry (none_many c) (ap last_name (sym (c.stored_schema.ensures.stored c.args.ex.now)) ∙ e))
