@@ -1,0 +1,4 @@
+-- The lemmas of this crate.
+mod Faults
+pub mod Follow
+mod PickLemmas

@@ -1,0 +1,9 @@
+//! Plans built from below: each call puts a node on the plan that there is.
+#![tactic(auto)]
+
+mod builder;
+pub mod laws;
+mod made;
+mod simple;
+
+pub use builder::IRBuilder;
