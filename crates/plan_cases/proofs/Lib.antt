@@ -1,0 +1,2 @@
+mod CaseLemmas
+mod WordLemmas

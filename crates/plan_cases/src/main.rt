@@ -2,31 +2,38 @@
 //! subject. The program prints each case that is answered otherwise, and of each file how many cases it has.
 #![tactic(auto)]
 
+ghost use Rattle.std.specs.Prelude.{◌≡◌, IfOk, map};
+ghost use Rattle.std.specs.Str.Lines.{lines};
+
 mod answers;
 mod cases;
 mod words;
 
-use cases::{Line, tried};
+use cases::{Line, all_tried, cases_among};
+use std::alloc::{AllocError, Global};
 use std::{env, fs, io};
 use words::Words;
 
+/// The lines of a text.
+fn lines_of(alloc: Global, text: &str) -> Result<Vec<&str>, AllocError>
+    ensures { IfOk result (λ found. map (λ line. line.now) found.items ≡ lines text.now) }
+{
+    text.lines().collect(alloc)
+}
+
 /// Tries the cases of a file, prints those that are answered otherwise, and gives how many there are.
-fn cases_of(rt: &HostRuntime, known: &str, name: &str) -> io::Result<u64> {
+fn cases_of(rt: &HostRuntime, known: &str, name: &str) -> io::Result<usize> {
     let file = fs::read_to_string(rt, name)?;
+    let lines = lines_of(rt.alloc(), &file)?;
     let mut words = Words::new(rt.alloc(), known)?;
-    let mut count = 0u64;
-    for (at, given) in file.lines().enumerate() {
-        match tried(rt.alloc(), &mut words, given)? {
-            Line::Given => continue,
-            Line::Right => {}
-            Line::Wrong => {
-                let number = at.saturating_add(1);
-                println!(rt; "{name}:{number}: wrong: {given}")?;
-            }
+    let found = all_tried(rt.alloc(), &mut words, &lines)?;
+    for (at, (line, found)) in lines.iter().zip(found.iter()).enumerate() {
+        if *found == Line::Wrong {
+            let number = at.saturating_add(1);
+            println!(rt; "{name}:{number}: wrong: {line}")?;
         }
-        count = count.saturating_add(1);
     }
-    Ok(count)
+    Ok(cases_among(&found))
 }
 
 fn main(rt: HostRuntime) -> io::Result<()> {

@@ -1,7 +1,9 @@
 //! Words in angle brackets, each with the text that it stands for.
-ghost use Rattle.std.specs.Prelude.{◌≡◌, ◌++◌, ◌⊎◌, ℕ, List, codes, IfSome, IfNone};
+ghost use Rattle.std.specs.Prelude.{◌≡◌, ◌↔◌, ◌++◌, ℕ, List, codes, IsTrue, IfOk, IfSome, IfNone, string_bytes};
+ghost use Rattle.plan_cases.specs.Words.{DefinesKnown, has_word, IsDefinition, IsFilled, SameWords, with_text};
 
 use std::alloc::{AllocError, Global};
+use std::marker::Model;
 
 /// The words, in the order in which they are replaced: a text may have words that come later.
 #[derive(Drop)]
@@ -9,10 +11,18 @@ pub struct Words<'a> {
     words: Vec<(&'a str, &'a str)>,
 }
 
+impl<'a> Model for Words<'a> {
+    ghost use Rattle.std.specs.Prelude.{ℕ, List, map};
+
+    ghost Value = { List (List ℕ × List ℕ) };
+
+    ghost view = { λ s. map (λ w. (w.0.now, w.1.now)) s.words.items };
+}
+
 /// The word and its text, of a line `<word> = text` or `<word> =`.
 fn defined(line: &str) -> Option<(&str, &str)>
-    ensures parts { IfSome result (λ p. (line.now ≡ p.0.now ++ codes " = " ++ p.1.now) ⊎ (line.now ≡ p.0.now ++ codes " =" ++ p.1.now)) }
-    ensures none { IfNone result ((word text : List ℕ) → line.now ≡ word ++ codes " =" ++ text → ⊥) }
+    ensures parts { IfSome result (λ p. IsDefinition line.now p.0.now p.1.now) }
+    ensures none { IfNone result ((word text : List ℕ) → line.now ≡ word ++ (codes " =" ++ text) → ⊥) }
 {
     let Some((word, text)) = line.split_once(" =") else {
         return None;
@@ -33,10 +43,14 @@ impl<'a> Words<'a> {
     }
 
     /// Gives a word that is there another text. Whether it is there.
-    pub fn set(&mut self, word: &str, text: &'a str) -> bool {
-        for known in self.words.iter_mut() {
-            if known.0 == word {
-                known.1 = text;
+    pub fn set(&mut self, word: &str, text: &'a str) -> bool
+        ensures known { result ≡ has_word self.old word.now }
+        ensures texts { self.new ≡ with_text self.old word.now text.now }
+        ensures same { SameWords self.old self.new }
+    {
+        for at in 0..self.words.len() {
+            if self.words[at].0 == word {
+                self.words[at].1 = text;
                 return true;
             }
         }
@@ -44,15 +58,20 @@ impl<'a> Words<'a> {
     }
 
     /// Gives the word of a line another text. Whether the line has such a form, and the word is there.
-    pub fn set_line(&mut self, line: &'a str) -> bool {
+    pub fn set_line(&mut self, line: &'a str) -> bool
+        ensures known { IsTrue result ↔ DefinesKnown self.old line.now }
+        ensures same { SameWords self.old self.new }
+    {
         match defined(line) {
             Some((word, text)) => self.set(word, text),
             None => false,
         }
     }
 
-    /// The text with each word replaced wherever it stands.
-    pub fn full(&self, alloc: Global, text: &str) -> Result<String, AllocError> {
+    /// The text with each word replaced wherever it stands, one word after another.
+    pub fn full(&self, alloc: Global, text: &str) -> Result<String, AllocError>
+        ensures { IfOk result (λ full. IsFilled self.now text.now (string_bytes full)) }
+    {
         let mut made = String::from_str(alloc, text)?;
         for (word, meaning) in &self.words {
             made = made.replace(alloc, *word, *meaning)?;

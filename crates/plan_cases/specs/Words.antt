@@ -1,0 +1,39 @@
+-- Words, each with the text that it stands for, and what texts become by them.
+use Rattle.std.specs.Prelude.{◌≡◌, ◌≢◌, ◌≤◌, ◌⊎◌, ℕ, List, [], ◌∷◌, ◌++◌, length, codes, Bool, true, if◌then◌else◌}
+use Rattle.std.specs.List.{list_any}
+use Rattle.std.specs.Str.{bytes_eq}
+use Rattle.std.specs.Str.Pattern.{FindsText}
+use Rattle.std.specs.Str.Replace.{ReplacesMatches}
+
+-- the line is a word, ` =` where it first stands, and the text, maybe after a blank
+pub record IsDefinition (whole word text : List ℕ) : Type 0 where
+  pub rest : List ℕ
+  pub parts : whole ≡ word ++ (codes " =" ++ rest)
+  pub first : (before after : List ℕ) → whole ≡ before ++ (codes " =" ++ after) → length word ≤ length before
+  pub blank : (rest ≡ 32 ∷ text) ⊎ (((more : List ℕ) → rest ≢ 32 ∷ more) × (text ≡ rest))
+
+-- whether a word is among the words
+abbrev pub has_word : List (List ℕ × List ℕ) → List ℕ → Bool
+has_word words word = list_any (λ w. bytes_eq w.0 word) words
+
+-- the line gives a text to a word that is among the words
+abbrev pub DefinesKnown : List (List ℕ × List ℕ) → List ℕ → Type 0
+DefinesKnown words line = (word : List ℕ) × (text : List ℕ) × IsDefinition line word text × (has_word words word ≡ true)
+
+-- the words, with another text for one of them; as they are where it isn't among them
+abbrev pub with_text : List (List ℕ × List ℕ) → List ℕ → List ℕ → List (List ℕ × List ℕ)
+with_text [] word text = []
+with_text (w ∷ ws) word text = if bytes_eq w.0 word then (w.0, text) ∷ ws else w ∷ with_text ws word text
+
+-- the same words, whatever they stand for
+abbrev pub SameWords : List (List ℕ × List ℕ) → List (List ℕ × List ℕ) → Type 0
+SameWords old new = (word : List ℕ) → has_word new word ≡ has_word old word
+
+-- a text with another one put wherever a word stands, from left to right
+abbrev pub IsReplaced : List ℕ → List ℕ → List ℕ → List ℕ → Type 0
+IsReplaced word to text new = (n : ℕ) × ReplacesMatches FindsText (λ a b. b ≡ a) to n word text new
+
+-- a text with each word replaced, one word after another
+abbrev pub IsFilled : List (List ℕ × List ℕ) → List ℕ → List ℕ → Type 0
+IsFilled [] text full = full ≡ text
+IsFilled (w ∷ ws) text full = (next : List ℕ) × IsReplaced w.0 w.1 text next × IsFilled ws next full
