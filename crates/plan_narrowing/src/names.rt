@@ -1,5 +1,5 @@
 //! Names copied, listed, and added to others, each last unless it is there.
-ghost use Rattle.std.specs.Prelude.{◌≡◌, IfOk, OnOk};
+ghost use Rattle.std.specs.Prelude.{◌≡◌, ℕ, take, IfOk, OnErr, OnOk};
 ghost use Rattle.plan_core.specs.Columns.{names_of};
 ghost use Rattle.plan_core.specs.Names.{with_names};
 
@@ -32,9 +32,10 @@ pub fn listed_names(alloc: Global, names: &Names) -> Result<Items<PlSmallStr>, A
     Ok(list)
 }
 
-/// Adds the names, in their order. Refuses for want of memory alone, and then some of them are added.
+/// Adds the names, in their order. Refuses for want of memory alone, and then a front of them is added.
 pub fn add_listed(names: &mut Names, others: &[PlSmallStr]) -> Result<(), AllocError>
-    ensures { OnOk result (names.new ≡ with_names names.old others.now) }
+    ensures added { OnOk result (names.new ≡ with_names names.old others.now) }
+    ensures front { OnErr result ((k : ℕ) × (names.new ≡ with_names names.old (take k others.now))) }
 {
     for name in others {
         let _ = names.add(name.as_str())?;
@@ -42,9 +43,10 @@ pub fn add_listed(names: &mut Names, others: &[PlSmallStr]) -> Result<(), AllocE
     Ok(())
 }
 
-/// Adds the names of the columns, in their order. Refuses for want of memory alone, and then some of them are added.
+/// Adds the names of the columns, in their order. Refuses for want of memory alone, and then a front of them is added.
 pub fn add_columns(names: &mut Names, columns: &Schema) -> Result<(), AllocError>
-    ensures { OnOk result (names.new ≡ with_names names.old (names_of columns.now)) }
+    ensures added { OnOk result (names.new ≡ with_names names.old (names_of columns.now)) }
+    ensures front { OnErr result ((k : ℕ) × (names.new ≡ with_names names.old (take k (names_of columns.now)))) }
 {
     for i in 0..columns.len() {
         if let Some((name, _)) = columns.get_at_index(i) {
