@@ -40,6 +40,10 @@ own_stand ex ns h k d lt =
     let at : slice_index_or (map (own_expr ex) ns) k (own_expr ex d) ≡ own_expr ex (slice_index_or ns k d) = get_or-map (own_expr ex) ns k d (own_expr ex d) lt in
     subst (λ (e : ExprIR). IsExpr ex e.node) at (h k (own_expr ex d) (omega (arith, same, lt)))
 
+-- what is built stays so under other words for it
+pub built_same : (lp lp' : List IR) (ex ex' : List AExpr) (root root' : Node) → lp' ≡ lp → ex' ≡ ex → root' ≡ root → IsPlan lp ex root → IsValid (plan_at lp ex root) → IsBuilt lp' ex' root'
+built_same lp lp' ex ex' root root' p q r plan valid = rw (p, q, r) (let b : IsBuilt lp ex root = record { plan = plan; valid = valid } in b)
+
 -- what follows from a fact on an answer holds of it
 pub if-ok : {A E : Type 0} (P Q : A → Type 0) (r : Result A E) → ((x : A) → P x → Q x) → IfOk r P → IfOk r Q
 if-ok P Q (Ok x) f h = f x h

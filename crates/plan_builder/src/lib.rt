@@ -5,5 +5,7 @@ mod builder;
 pub mod laws;
 mod made;
 mod simple;
+#[cfg(test)]
+mod tests;
 
 pub use builder::IRBuilder;

@@ -1,0 +1,90 @@
+//! What is built on the frame with the columns a and b of whole numbers and c of texts.
+
+use crate::IRBuilder;
+use plan_core::{Arena, At, DataType, Items, Node, PlSmallStr, PolarsError, PolarsResult, Schema};
+use plan_expr::AExpr;
+use plan_ir::IR;
+use plan_meaning::check_plan;
+use std::alloc::{AllocError, Global};
+use std::test::Fail;
+
+/// The frame.
+fn frame(alloc: Global) -> Result<IR, AllocError> {
+    let mut schema = Schema::new(alloc);
+    let _ = schema.with_column(PlSmallStr::new(alloc, "a")?, DataType::Int64)?;
+    let _ = schema.with_column(PlSmallStr::new(alloc, "b")?, DataType::Int64)?;
+    let _ = schema.with_column(PlSmallStr::new(alloc, "c")?, DataType::String)?;
+    Ok(IR::DataFrameScan {
+        df: Some(0),
+        schema,
+        output_schema: None,
+    })
+}
+
+/// The names.
+fn listed(alloc: Global, names: &[&str]) -> Result<Items<PlSmallStr>, AllocError> {
+    let mut list = Items::new(alloc);
+    for name in names {
+        list.push(PlSmallStr::new(alloc, *name)?)?;
+    }
+    Ok(list)
+}
+
+/// The names of the columns, each followed by a blank.
+fn named(alloc: Global, columns: &Schema) -> Result<String, AllocError> {
+    let mut text = String::new(alloc);
+    for (name, _) in columns.iter() {
+        text.push_str(name)?;
+        text.push_str(" ")?;
+    }
+    Ok(text)
+}
+
+/// The names of the columns once a projection to some is put on the frame.
+fn projected(alloc: Global, names: &[&str]) -> PolarsResult<String> {
+    let ex = Arena::new(alloc);
+    let mut lp = Arena::new(alloc);
+    let root = lp.add(frame(alloc)?)?;
+    let _ = check_plan(alloc, root, &lp, &ex)?;
+    let mut builder = IRBuilder::new(root, &ex, &mut lp);
+    let names = listed(alloc, names)?;
+    builder.project_simple(alloc, names.as_slice())?;
+    Ok(named(alloc, &builder.schema(alloc)?)?)
+}
+
+/// The place of an item outside plans.
+fn item(place: u32) -> At {
+    At { node: None, place }
+}
+
+#[test]
+fn columns_are_projected_by_their_names(rt: HostRuntime) -> Result<(), Fail> {
+    let alloc = rt.alloc();
+    assert_eq!(rt; projected(alloc, &["c", "a"])?.as_str(), "c a ");
+    assert_eq!(rt; projected(alloc, &[])?.as_str(), "a b c ");
+    let absent = projected(alloc, &["a", "d"]).err();
+    assert_eq!(rt; absent, Some(PolarsError::SchemaFieldNotFound(item(1))));
+    let twice = projected(alloc, &["a", "a"]).err();
+    assert_eq!(rt; twice, Some(PolarsError::Duplicate(item(1))));
+    let both = projected(alloc, &["a", "a", "d"]).err();
+    assert_eq!(rt; both, Some(PolarsError::SchemaFieldNotFound(item(2))));
+    Ok(())
+}
+
+#[test]
+fn columns_are_projected_by_their_numbers(rt: HostRuntime) -> Result<(), Fail> {
+    let alloc = rt.alloc();
+    let mut ex = Arena::new(alloc);
+    let column = ex.add(AExpr::Column(PlSmallStr::new(alloc, "b")?))?;
+    let mut lp = Arena::new(alloc);
+    let root = lp.add(frame(alloc)?)?;
+    let _ = check_plan(alloc, root, &lp, &ex)?;
+    let mut builder = IRBuilder::new(root, &ex, &mut lp);
+    builder.project_simple_nodes(alloc, &[column])?;
+    assert_eq!(rt; named(alloc, &builder.schema(alloc)?)?.as_str(), "b ");
+    assert_eq!(rt; builder.node(), Node(1));
+    assert!(rt; matches!(builder.build(), IR::SimpleProjection { input: Node(0), .. }));
+    assert!(rt; matches!(lp.get(Node(1)), IR::Invalid));
+    assert_eq!(rt; lp.len(), 2);
+    Ok(())
+}
