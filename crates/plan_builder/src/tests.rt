@@ -1,4 +1,7 @@
 //! What is built on the frame with the columns a and b of whole numbers and c of texts.
+ghost use Rattle.std.specs.Prelude.{◌≡◌, IfOk, None, Some};
+ghost use Rattle.plan_core.specs.Columns.{Columns};
+ghost use Rattle.plan_ir.specs.declared.ir.IR.TheVariants.{DataFrameScan};
 
 use crate::IRBuilder;
 use plan_core::{Arena, At, DataType, Items, Node, PlSmallStr, PolarsError, PolarsResult, Schema};
@@ -9,7 +12,9 @@ use std::alloc::{AllocError, Global};
 use std::test::Fail;
 
 /// The frame.
-fn frame(alloc: Global) -> Result<IR, AllocError> {
+fn frame(alloc: Global) -> Result<IR, AllocError>
+    ensures { IfOk result (λ p. (columns : Columns) × (p ≡ DataFrameScan (Some 0) columns None)) }
+{
     let mut schema = Schema::new(alloc);
     let _ = schema.with_column(PlSmallStr::new(alloc, "a")?, DataType::Int64)?;
     let _ = schema.with_column(PlSmallStr::new(alloc, "b")?, DataType::Int64)?;
@@ -86,5 +91,22 @@ fn columns_are_projected_by_their_numbers(rt: HostRuntime) -> Result<(), Fail> {
     assert!(rt; matches!(builder.build(), IR::SimpleProjection { input: Node(0), .. }));
     assert!(rt; matches!(lp.get(Node(1)), IR::Invalid));
     assert_eq!(rt; lp.len(), 2);
+    Ok(())
+}
+
+#[test]
+fn nodes_are_put_on_one_another(rt: HostRuntime) -> Result<(), Fail> {
+    let alloc = rt.alloc();
+    let ex = Arena::new(alloc);
+    let mut lp = Arena::new(alloc);
+    let mut builder = IRBuilder::from_lp(&mut lp, &ex, frame(alloc)?)?;
+    let slice = IR::Slice {
+        input: builder.node(),
+        offset: 1,
+        len: 5,
+    };
+    builder.add_alp(slice)?;
+    assert_eq!(rt; named(alloc, &builder.schema(alloc)?)?.as_str(), "a b c ");
+    assert_eq!(rt; builder.node(), Node(1));
     Ok(())
 }
