@@ -1,9 +1,9 @@
 //! What choices, aggregates, functions, windows and lengths read as, and entries that are no expressions.
 
-use crate::made::links;
 use plan_core::{Items, Node};
 use plan_doc::{ReadError, read_document};
 use plan_expr::{AExpr, FunctionExpr, IRAggExpr};
+use plan_made::links;
 use std::alloc::{AllocError, Global};
 use std::process::Abort;
 use std::test::Fail;

@@ -1,10 +1,10 @@
 //! What further forms read as, node by node and expression by expression.
 
-use crate::made::schema;
 use plan_core::{Arena, DataType, Items, Node, PlSmallStr, PlainType, ProjectionOptions, Schema};
 use plan_doc::read_document;
 use plan_expr::{AExpr, ExprIR, LiteralValue, Operator, OutputName};
 use plan_ir::IR;
+use plan_made::schema;
 use std::alloc::{AllocError, Global};
 use std::process::Abort;
 use std::test::Fail;

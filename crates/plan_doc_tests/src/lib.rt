@@ -7,7 +7,6 @@ mod documents;
 mod exprs;
 #[cfg(test)]
 mod further;
-mod made;
 #[cfg(test)]
 mod nodes;
 #[cfg(test)]

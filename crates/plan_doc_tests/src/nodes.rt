@@ -1,10 +1,10 @@
 //! What sorts, distinct rows, sinks, unions and caches read as, and entries that are no nodes.
 
-use crate::made::{links, marks, names};
 use plan_core::{Items, Node, PlSmallStr};
 use plan_doc::{ReadError, read_document};
 use plan_expr::{ExprIR, OutputName};
 use plan_ir::IR;
+use plan_made::{links, marks, names};
 use plan_options::{
     DistinctOptionsIR, SinkType, SortMultipleOptions, UnionOptions, UniqueKeepStrategy,
 };

@@ -1,7 +1,6 @@
 //! The tests of plan_text. They stand apart from it, so that it is proved once, and not with its tests again.
 #![tactic(auto)]
 
-mod made;
 #[cfg(test)]
 mod plans;
 #[cfg(test)]

@@ -1,12 +1,12 @@
 //! Plans that are to be written.
 
-use crate::made::{links, marks, names, schema};
 use plan_core::{
     Arena, DataType, FileScanOptions, Items, Node, PlSmallStr, PlainType, ProjectionOptions,
     RowIndex, Schema,
 };
 use plan_expr::{AExpr, ExprIR, FunctionExpr, IRAggExpr, LiteralValue, Operator, OutputName};
 use plan_ir::{FileInfo, FileScan, IR, PlanCopy, ScanSources};
+use plan_made::{links, marks, names, schema};
 use plan_options::{
     DistinctOptionsIR, SinkType, SortMultipleOptions, UnionOptions, UniqueKeepStrategy,
 };

@@ -1,11 +1,11 @@
 //! Whole texts, as they must be written.
 
-use crate::made::{names, schema};
 use crate::plans::{
     all_kinds, all_operators, full_plan, more_plan, ordered_plan, simple_plan, union_plan,
 };
 use plan_core::{At, DataType, Node, PolarsError};
 use plan_ir::PlanCopy;
+use plan_made::{names, schema};
 use plan_text::{write_fault, write_listing, write_plan, write_schema};
 use std::alloc::{AllocError, Global};
 use std::process::Abort;

@@ -1,4 +1,6 @@
-//! Names, columns, marks and numbers of entries, for the tests.
+//! Lists of names, of columns, of marks and of entries, which tests of several crates are made of.
+#![tactic(auto)]
+
 ghost use Rattle.std.specs.Prelude.{◌≡◌, [], map, IfOk};
 ghost use Rattle.plan_core.specs.Columns.{with_types};
 
