@@ -1,13 +1,15 @@
 -- Words, one after another, and the first mark in a line.
-use Rattle.std.proofs.Common.{◌≡◌, ◌≢◌, ◌∙◌, ◌⊎◌, inl, inr, ℕ, zero, suc, ◌+◌, ◌<◌, ◌≤◌, Bool, true, false, ◌||◌, cond, List, [], ◌∷◌, ◌++◌, length, take, drop, map, Option, Some, None, Bor, refl, sym, ap, subst, get_or, drop-cons, add-one}
+use Rattle.std.proofs.Common.{◌≡◌, ◌≢◌, ◌∙◌, ◌⊎◌, inl, inr, ℕ, zero, suc, ◌+◌, ◌<◌, ◌≤◌, Bool, true, false, ◌||◌, cond, List, [], ◌∷◌, ◌++◌, length, take, drop, map, filter, codes, append-nil, IfSome, IfNone, Option, Some, None, Bor, refl, sym, ap, subst, get_or, drop-cons, add-one}
 use Rattle.std.specs.List.{slice_get, slice_set}
 use Rattle.std.specs.Option.{MatchOption, unwrap_or}
 use Rattle.std.specs.Str.{bytes_eq}
 use Rattle.std.specs.Str.Pattern.{FindsText}
 use Rattle.std.specs.Str.Replace.{ReplacesFirstMatches, ReplacesMatches}
-use Rattle.std.proofs.lemmas.List.{drop_at}
+use Rattle.std.proofs.Math.Seq.{take-suc}
+use Rattle.std.proofs.lemmas.List.{drop_at, map-append}
+use Rattle.std.proofs.lemmas.List.Elements.{filter-append}
 use Rattle.std.proofs.lemmas.Bool.{cases_lt}
-use Rattle.plan_cases.specs.Words.{has_word, IsFilled, IsReplaced, SameWords, with_text}
+use Rattle.plan_cases.specs.Words.{AreWordsOf, gives_word, has_word, IsDefinition, IsFilled, IsReplaced, IsWordOf, SameWords, with_text}
 
 -- a word with its text, as it lies in memory
 abbrev pub Lies : Type 0
@@ -16,6 +18,10 @@ Lies = Bor (List ℕ) × Bor (List ℕ)
 -- a word with its text
 abbrev pub seen : Lies → List ℕ × List ℕ
 seen w = (w.0.now, w.1.now)
+
+-- what a text in memory is
+abbrev pub shown : Bor (List ℕ) → List ℕ
+shown text = text.now
 
 -- where a mark stands after a front, it doesn't stand first behind that front
 pub first_mark : (mark s : List ℕ) (i : ℕ) → ((k : ℕ) → k < i → (rest : List ℕ) → drop k s ≡ mark ++ rest → ⊥) → (before after : List ℕ) → s ≡ before ++ (mark ++ after) → i ≤ length before
@@ -113,3 +119,39 @@ replaced_first p to (suc n) s out (inr (a, b, q, rest, finds, keeps, on, is)) =
 pub same_words : (ws : List (List ℕ × List ℕ)) (word text : List ℕ) → SameWords ws (with_text ws word text)
 same_words [] word text other = refl
 same_words (w ∷ ws) word text other = elim (bytes_eq w.0 word) as (λ b. has_word (cond b ((w.0, text) ∷ ws) (w ∷ with_text ws word text)) other ≡ has_word (w ∷ ws) other) [ true ↦ refl | false ↦ ap (λ (b : Bool). bytes_eq w.0 other || b) (same_words ws word text other) ]
+
+-- what is made of a line is its word
+pub word_of_line : (line : List ℕ) (r : Option Lies) (other made : Lies) → IfSome r (λ (p : Lies). IsDefinition line p.0.now p.1.now) → IfNone r ((before after : List ℕ) → line ≡ before ++ (codes " =" ++ after) → ⊥) → seen other ≡ (line, []) → made ≡ unwrap_or r other → IsWordOf line (seen made)
+word_of_line line None other made some none alone is = inr (none, ap seen is ∙ alone)
+word_of_line line (Some p) other made some none alone is = inl (subst (λ (w : Lies). IsDefinition line w.0.now w.1.now) (sym is) some)
+
+-- one word more
+words_next : (lines : List (List ℕ)) (words : List (List ℕ × List ℕ)) (line : List ℕ) (word : List ℕ × List ℕ) → AreWordsOf lines words → IsWordOf line word → AreWordsOf (lines ++ line ∷ []) (words ++ word ∷ [])
+words_next [] [] line word are is = (is, tt)
+words_next [] (w ∷ ws) line word are is = absurd are
+words_next (l ∷ ls) [] line word are is = absurd are
+words_next (l ∷ ls) (w ∷ ws) line word are is = (are.0, words_next ls ws line word are.1 is)
+
+-- the lines that give words, up to the next place
+giving_next : (lines : List (Bor (List ℕ))) (i : ℕ) (d : Bor (List ℕ)) → i < length lines → filter gives_word (map shown (take (i + 1) lines)) ≡ filter gives_word (map shown (take i lines)) ++ filter gives_word ((get_or lines i d).now ∷ [])
+giving_next lines i d within =
+    ap (λ (k : ℕ). filter gives_word (map shown (take k lines))) (add-one i)
+    ∙ ap (λ (l : List (Bor (List ℕ))). filter gives_word (map shown l)) (take-suc lines i d within)
+    ∙ ap (filter gives_word) (map-append shown (take i lines) (get_or lines i d ∷ []))
+    ∙ filter-append gives_word (map shown (take i lines)) ((get_or lines i d).now ∷ [])
+
+-- a line that gives no word adds none
+pub words_skip : (lines : List (Bor (List ℕ))) (i : ℕ) (d : Bor (List ℕ)) (words : List (List ℕ × List ℕ)) → i < length lines → gives_word (get_or lines i d).now ≡ false → AreWordsOf (filter gives_word (map shown (take i lines))) words → AreWordsOf (filter gives_word (map shown (take (i + 1) lines))) words
+words_skip lines i d words within lacks are =
+    let before : List (List ℕ) = filter gives_word (map shown (take i lines)) in
+    let is : filter gives_word (map shown (take (i + 1) lines)) ≡ before = giving_next lines i d within ∙ ap (λ (b : Bool). before ++ cond b ((get_or lines i d).now ∷ []) []) lacks ∙ append-nil before in
+    subst (λ (l : List (List ℕ)). AreWordsOf l words) (sym is) are
+
+-- a line that gives a word adds that
+pub words_more : (lines : List (Bor (List ℕ))) (i : ℕ) (d : Bor (List ℕ)) (items : List Lies) (made : Lies) → i < length lines → gives_word (get_or lines i d).now ≡ true → AreWordsOf (filter gives_word (map shown (take i lines))) (map seen items) → IsWordOf (get_or lines i d).now (seen made) → AreWordsOf (filter gives_word (map shown (take (i + 1) lines))) (map seen (items ++ made ∷ []))
+words_more lines i d items made within gives are word =
+    let before : List (List ℕ) = filter gives_word (map shown (take i lines)) in
+    let line : List ℕ = (get_or lines i d).now in
+    let is : filter gives_word (map shown (take (i + 1) lines)) ≡ before ++ line ∷ [] = giving_next lines i d within ∙ ap (λ (b : Bool). before ++ cond b (line ∷ []) []) gives in
+    subst (λ (l : List (List ℕ)). AreWordsOf l (map seen (items ++ made ∷ []))) (sym is)
+    (subst (λ (l : List (List ℕ × List ℕ)). AreWordsOf (before ++ line ∷ []) l) (sym (map-append seen items (made ∷ []))) (words_next before (map seen items) line (seen made) are word))

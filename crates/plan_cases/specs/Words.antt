@@ -1,5 +1,5 @@
 -- Words, each with the text that it stands for, and what texts become by them.
-use Rattle.std.specs.Prelude.{◌≡◌, ◌≢◌, ◌≤◌, ◌⊎◌, ℕ, List, [], ◌∷◌, ◌++◌, length, codes, Bool, true, if◌then◌else◌}
+use Rattle.std.specs.Prelude.{◌≡◌, ◌≢◌, ◌≤◌, ◌⊎◌, ℕ, List, [], ◌∷◌, ◌++◌, length, codes, ◌==◌, Bool, true, slice_index, if◌then◌else◌}
 use Rattle.std.specs.List.{list_any}
 use Rattle.std.specs.Str.{bytes_eq}
 use Rattle.std.specs.Str.Pattern.{FindsText}
@@ -11,6 +11,21 @@ pub record IsDefinition (whole word text : List ℕ) : Type 0 where
   pub parts : whole ≡ word ++ (codes " =" ++ rest)
   pub first : (before after : List ℕ) → whole ≡ before ++ (codes " =" ++ after) → length word ≤ length before
   pub blank : (rest ≡ 32 ∷ text) ⊎ (((more : List ℕ) → rest ≢ 32 ∷ more) × (text ≡ rest))
+
+-- the word of a line with its text; a line without ` =` is a word itself, which stands for nothing
+abbrev pub IsWordOf : List ℕ → List ℕ × List ℕ → Type 0
+IsWordOf line word = IsDefinition line word.0 word.1 ⊎ (((before after : List ℕ) → line ≡ before ++ (codes " =" ++ after) → ⊥) × (word ≡ (line, [])))
+
+-- whether a line gives a word
+abbrev pub gives_word : List ℕ → Bool
+gives_word line = slice_index line 0 == 60
+
+-- the words of lines, one after another
+abbrev pub AreWordsOf : List (List ℕ) → List (List ℕ × List ℕ) → Type 0
+AreWordsOf [] [] = Unit {0}
+AreWordsOf [] (word ∷ words) = ⊥
+AreWordsOf (line ∷ lines) [] = ⊥
+AreWordsOf (line ∷ lines) (word ∷ words) = IsWordOf line word × AreWordsOf lines words
 
 -- whether a word is among the words
 abbrev pub has_word : List (List ℕ × List ℕ) → List ℕ → Bool

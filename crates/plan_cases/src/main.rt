@@ -2,24 +2,13 @@
 //! subject. The program prints each case that is answered otherwise, and of each file how many cases it has.
 #![tactic(auto)]
 
-ghost use Rattle.std.specs.Prelude.{◌≡◌, IfOk, map};
-ghost use Rattle.std.specs.Str.Lines.{lines};
-
 mod answers;
 mod cases;
 mod words;
 
 use cases::{Line, all_tried, cases_among};
-use std::alloc::{AllocError, Global};
 use std::{env, fs, io};
-use words::Words;
-
-/// The lines of a text.
-fn lines_of(alloc: Global, text: &str) -> Result<Vec<&str>, AllocError>
-    ensures { IfOk result (λ found. map (λ line. line.now) found.items ≡ lines text.now) }
-{
-    text.lines().collect(alloc)
-}
+use words::{Words, lines_of};
 
 /// Tries the cases of a file, prints those that are answered otherwise, and gives how many there are.
 fn cases_of(rt: &HostRuntime, known: &str, name: &str) -> io::Result<usize> {

@@ -1,6 +1,7 @@
 //! Words in angle brackets, each with the text that it stands for.
-ghost use Rattle.std.specs.Prelude.{◌≡◌, ◌↔◌, ◌++◌, ℕ, List, codes, IsTrue, IfOk, IfSome, IfNone, string_bytes};
-ghost use Rattle.plan_cases.specs.Words.{DefinesKnown, has_word, IsDefinition, IsFilled, SameWords, with_text};
+ghost use Rattle.std.specs.Prelude.{◌≡◌, ◌↔◌, ◌++◌, ℕ, List, codes, filter, map, IsTrue, IfOk, IfSome, IfNone, string_bytes};
+ghost use Rattle.std.specs.Str.Lines.{lines};
+ghost use Rattle.plan_cases.specs.Words.{AreWordsOf, DefinesKnown, gives_word, has_word, IsDefinition, IsFilled, SameWords, with_text};
 
 use std::alloc::{AllocError, Global};
 use std::marker::Model;
@@ -30,15 +31,35 @@ fn defined(line: &str) -> Option<(&str, &str)>
     Some((word, text.strip_prefix(' ').unwrap_or(text)))
 }
 
-impl<'a> Words<'a> {
-    /// The words that the lines of a file define, in their order.
-    pub fn new(alloc: Global, file: &'a str) -> Result<Self, AllocError> {
-        let mut words = Vec::new(alloc);
-        for line in file.lines() {
-            if line.starts_with('<') {
-                words.push(defined(line).unwrap_or((line, "")))?;
-            }
+/// The lines of a text.
+pub fn lines_of(alloc: Global, text: &str) -> Result<Vec<&str>, AllocError>
+    ensures { IfOk result (λ found. map (λ line. line.now) found.items ≡ lines text.now) }
+{
+    text.lines().collect(alloc)
+}
+
+/// The words that lines give, in their order, each with its text.
+fn words_of<'a>(alloc: Global, lines: &[&'a str]) -> Result<Vec<(&'a str, &'a str)>, AllocError>
+    ensures { IfOk result (λ words. AreWordsOf
+        (filter gives_word (map (λ line. line.now) lines.now))
+        (map (λ word. (word.0.now, word.1.now)) words.items)) }
+{
+    let mut words = Vec::new(alloc);
+    for line in lines {
+        if line.starts_with('<') {
+            words.push(defined(line).unwrap_or((line, "")))?;
         }
+    }
+    Ok(words)
+}
+
+impl<'a> Words<'a> {
+    /// The words that the lines of a file give, in their order.
+    pub fn new(alloc: Global, file: &'a str) -> Result<Self, AllocError>
+        ensures { IfOk result (AreWordsOf (filter gives_word (lines file.now))) }
+    {
+        let lines = lines_of(alloc, file)?;
+        let words = words_of(alloc, &lines)?;
         Ok(Words { words })
     }
 
