@@ -1,2 +1,3 @@
 mod CaseLemmas
 mod WordLemmas
+mod EndingLemmas
