@@ -2,3 +2,4 @@
 mod Faults
 pub mod Follow
 mod PickLemmas
+mod TestLemmas

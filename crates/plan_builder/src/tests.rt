@@ -1,11 +1,16 @@
 //! What is built on the frame with the columns a and b of whole numbers and c of texts.
-ghost use Rattle.std.specs.Prelude.{◌≡◌, IfOk, None, Some};
-ghost use Rattle.plan_core.specs.Columns.{Columns};
+ghost use Rattle.std.specs.Prelude.{◌≡◌, [], ◌∷◌, codes, IfOk, None, Some};
+ghost use Rattle.plan_core.specs.declared.data_type.DataType.TheVariants.{Int64, String};
+ghost use Rattle.plan_core.specs.Columns.{Columns, type_of};
+ghost use Rattle.plan_expr.specs.declared.expr_ir.OutputName.TheVariants.{Alias};
 ghost use Rattle.plan_ir.specs.declared.ir.IR.TheVariants.{DataFrameScan};
 
 use crate::IRBuilder;
-use plan_core::{Arena, At, DataType, Items, Node, PlSmallStr, PolarsError, PolarsResult, Schema};
-use plan_expr::AExpr;
+use plan_core::{
+    Arena, At, DataType, Items, Node, PlSmallStr, PolarsError, PolarsResult, ProjectionOptions,
+    Schema,
+};
+use plan_expr::{AExpr, ExprIR, OutputName};
 use plan_ir::IR;
 use plan_meaning::check_plan;
 use std::alloc::{AllocError, Global};
@@ -13,7 +18,7 @@ use std::test::Fail;
 
 /// The frame.
 fn frame(alloc: Global) -> Result<IR, AllocError>
-    ensures { IfOk result (λ p. (columns : Columns) × (p ≡ DataFrameScan (Some 0) columns None)) }
+    ensures { IfOk result (λ p. (columns : Columns) × (p ≡ DataFrameScan (Some 0) columns None) × (type_of columns (codes "a") ≡ Some Int64) × (type_of columns (codes "c") ≡ Some String)) }
 {
     let mut schema = Schema::new(alloc);
     let _ = schema.with_column(PlSmallStr::new(alloc, "a")?, DataType::Int64)?;
@@ -24,6 +29,15 @@ fn frame(alloc: Global) -> Result<IR, AllocError>
         schema,
         output_schema: None,
     })
+}
+
+/// The expression at a number, put out under a name.
+fn under(alloc: Global, node: Node, name: &str) -> Result<Items<ExprIR>, AllocError>
+    ensures { IfOk result (λ exprs. exprs ≡ record { node = node; output_name = Alias name.now } ∷ []) }
+{
+    let mut exprs = Items::new(alloc);
+    exprs.push(ExprIR::new(node, OutputName::Alias(PlSmallStr::new(alloc, name)?)))?;
+    Ok(exprs)
 }
 
 /// The names.
@@ -108,5 +122,47 @@ fn nodes_are_put_on_one_another(rt: HostRuntime) -> Result<(), Fail> {
     builder.add_alp(slice)?;
     assert_eq!(rt; named(alloc, &builder.schema(alloc)?)?.as_str(), "a b c ");
     assert_eq!(rt; builder.node(), Node(1));
+    Ok(())
+}
+
+#[test]
+fn a_selection_has_what_expressions_make(rt: HostRuntime) -> Result<(), Fail> {
+    let alloc = rt.alloc();
+    let mut ex = Arena::new(alloc);
+    let column = ex.add(AExpr::Column(PlSmallStr::new(alloc, "a")?))?;
+    let mut lp = Arena::new(alloc);
+    let mut builder = IRBuilder::from_lp(&mut lp, &ex, frame(alloc)?)?;
+    let exprs = under(alloc, column, "z")?;
+    builder.project(alloc, exprs, ProjectionOptions::default())?;
+    assert_eq!(rt; named(alloc, &builder.schema(alloc)?)?.as_str(), "z ");
+    Ok(())
+}
+
+#[test]
+fn an_addition_replaces_a_column_of_its_name(rt: HostRuntime) -> Result<(), Fail> {
+    let alloc = rt.alloc();
+    let mut ex = Arena::new(alloc);
+    let column = ex.add(AExpr::Column(PlSmallStr::new(alloc, "a")?))?;
+    let mut lp = Arena::new(alloc);
+    let mut builder = IRBuilder::from_lp(&mut lp, &ex, frame(alloc)?)?;
+    let exprs = under(alloc, column, "b")?;
+    builder.with_columns(alloc, exprs, ProjectionOptions::default())?;
+    let schema = builder.schema(alloc)?;
+    assert_eq!(rt; named(alloc, &schema)?.as_str(), "a b c ");
+    assert_eq!(rt; schema.get("b"), Some(&DataType::Int64));
+    Ok(())
+}
+
+#[test]
+fn an_addition_names_a_column_by_itself(rt: HostRuntime) -> Result<(), Fail> {
+    let alloc = rt.alloc();
+    let mut ex = Arena::new(alloc);
+    let column = ex.add(AExpr::Column(PlSmallStr::new(alloc, "c")?))?;
+    let mut lp = Arena::new(alloc);
+    let mut builder = IRBuilder::from_lp(&mut lp, &ex, frame(alloc)?)?;
+    builder.with_columns_simple(alloc, &[column], ProjectionOptions::default())?;
+    let schema = builder.schema(alloc)?;
+    assert_eq!(rt; named(alloc, &schema)?.as_str(), "a b c ");
+    assert_eq!(rt; schema.get("c"), Some(&DataType::String));
     Ok(())
 }
