@@ -9,5 +9,6 @@ mod exprs;
 mod further;
 #[cfg(test)]
 mod nodes;
+pub mod several;
 #[cfg(test)]
 mod tables;

@@ -1,13 +1,12 @@
 //! What sorts, distinct rows, sinks, unions and caches read as, and entries that are no nodes.
 
+use crate::several::{cache, union};
 use plan_core::{Items, Node, PlSmallStr};
 use plan_doc::{ReadError, read_document};
 use plan_expr::{ExprIR, OutputName};
 use plan_ir::IR;
 use plan_made::{links, marks, names};
-use plan_options::{
-    DistinctOptionsIR, SinkType, SortMultipleOptions, UnionOptions, UniqueKeepStrategy,
-};
+use plan_options::{DistinctOptionsIR, SinkType, SortMultipleOptions, UniqueKeepStrategy};
 use std::alloc::{AllocError, Global};
 use std::process::Abort;
 use std::test::Fail;
@@ -125,21 +124,6 @@ fn each_kept_row_has_its_name(rt: HostRuntime) -> Result<(), Fail> {
     )
 }
 
-fn union(inputs: Items<Node>, slice: Option<(i64, usize)>, parallel: bool) -> IR {
-    IR::Union {
-        inputs,
-        options: UnionOptions {
-            slice,
-            rows: (None, 0),
-            parallel,
-            from_partitioned_ds: false,
-            flattened_by_opt: true,
-            rechunk: false,
-            maintain_order: !parallel,
-        },
-    }
-}
-
 // An input that comes twice, and no input.
 #[test]
 fn unions_read(rt: HostRuntime) -> Result<(), Fail> {
@@ -152,14 +136,6 @@ fn unions_read(rt: HostRuntime) -> Result<(), Fail> {
         union(inputs, Some((-3, 4294967295)), true),
     )?;
     reads_as(&rt, alloc, NO_UNION, union(Items::new(alloc), None, false))
-}
-
-fn cache(input: usize, id: u32, cache_hits: u32) -> IR {
-    IR::Cache {
-        input: Node(input),
-        id,
-        cache_hits,
-    }
 }
 
 #[test]

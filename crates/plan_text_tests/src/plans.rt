@@ -1,5 +1,6 @@
 //! Plans that are to be written.
 
+use crate::over;
 use plan_core::{
     Arena, DataType, FileScanOptions, Items, Node, PlSmallStr, PlainType, ProjectionOptions,
     RowIndex, Schema,
@@ -7,9 +8,7 @@ use plan_core::{
 use plan_expr::{AExpr, ExprIR, FunctionExpr, IRAggExpr, LiteralValue, Operator, OutputName};
 use plan_ir::{FileInfo, FileScan, IR, PlanCopy, ScanSources};
 use plan_made::{links, marks, names, schema};
-use plan_options::{
-    DistinctOptionsIR, SinkType, SortMultipleOptions, UnionOptions, UniqueKeepStrategy,
-};
+use plan_options::{DistinctOptionsIR, SortMultipleOptions, UnionOptions, UniqueKeepStrategy};
 use std::alloc::{AllocError, Global};
 
 fn name(alloc: Global, text: &str) -> Result<PlSmallStr, AllocError> {
@@ -54,10 +53,7 @@ fn scan_of_two(alloc: Global) -> Result<IR, AllocError> {
 }
 
 fn projection(alloc: Global, input: usize, columns: &[&str]) -> Result<IR, AllocError> {
-    Ok(IR::SimpleProjection {
-        input: Node(input),
-        columns: numbers(alloc, columns)?,
-    })
+    Ok(over::projection(input, numbers(alloc, columns)?))
 }
 
 fn filter(alloc: Global) -> Result<IR, AllocError> {
@@ -327,10 +323,7 @@ pub fn ordered_plan(alloc: Global) -> Result<PlanCopy, AllocError> {
         let _ = plan.lp.add(distinct(Some(subset), keep))?;
     }
     let _ = plan.lp.add(distinct(None, UniqueKeepStrategy::Any))?;
-    let _ = plan.lp.add(IR::Sink {
-        input: Node(5),
-        payload: SinkType::Memory,
-    })?;
+    let _ = plan.lp.add(over::sink(5))?;
     Ok(plan)
 }
 
@@ -369,11 +362,7 @@ pub fn union_plan(alloc: Global) -> Result<PlanCopy, AllocError> {
     let mut plan = no_plan(alloc);
     let _ = plan.lp.add(union_of_three(alloc)?)?;
     let _ = plan.lp.add(union_of_none(alloc))?;
-    let _ = plan.lp.add(IR::Cache {
-        input: Node(2),
-        id: 7,
-        cache_hits: 4294967295,
-    })?;
+    let _ = plan.lp.add(over::cache(2, 7, 4294967295))?;
     Ok(plan)
 }
 
