@@ -1,5 +1,5 @@
 //! Columns that expressions make, alone or beside those that there are.
-ghost use Rattle.std.specs.Prelude.{◌≡◌, [], All, IfOk, map, OnErr, OnOk};
+ghost use Rattle.std.specs.Prelude.{◌≡◌, [], All, IfOk, IsOk, map, OnErr, OnOk};
 ghost use Rattle.plan_expr.specs.Operands.{IsExpr};
 ghost use Rattle.plan_builder.specs.Builds.{addition, Adds, IsBuilt, MayFollow, own_expr, selection, Stays};
 
@@ -40,7 +40,7 @@ impl IRBuilder<'_> {
         requires follows { (expr ≡ [] → ⊥) → MayFollow self.old.lp_arena.now self.old.expr_arena.now (selection self.old.lp_arena.now self.old.expr_arena.now self.old.root expr options) }
         ensures exprs { self.new.expr_arena ≡ self.old.expr_arena }
         ensures added { (expr ≡ [] → ⊥) → OnOk result (Adds self.old.lp_arena.now self.new.lp_arena.now self.new.root (selection self.old.lp_arena.now self.old.expr_arena.now self.old.root expr options)) }
-        ensures none { expr ≡ [] → Stays self.old.lp_arena.now self.new.lp_arena.now self.old.root self.new.root }
+        ensures none { expr ≡ [] → IsOk result × Stays self.old.lp_arena.now self.new.lp_arena.now self.old.root self.new.root }
         ensures built { OnOk result (IsBuilt self.new.lp_arena.now self.new.expr_arena.now self.new.root) }
         ensures refused { OnErr result (Stays self.old.lp_arena.now self.new.lp_arena.now self.old.root self.new.root) }
         ensures same_reference { self.new.lp_arena.ghost_name ≡ self.old.lp_arena.ghost_name }

@@ -1,5 +1,5 @@
 //! Projections to columns by their names.
-ghost use Rattle.std.specs.Prelude.{◌≡◌, [], ◌∷◌, All, IfOk, List, map, min, None, OnErr, OnOk, Some};
+ghost use Rattle.std.specs.Prelude.{◌≡◌, [], ◌∷◌, All, IfOk, IsOk, List, map, min, None, OnErr, OnOk, Some};
 ghost use Rattle.plan_core.specs.declared.error.PolarsError.TheVariants.{SchemaFieldNotFound};
 ghost use Rattle.plan_core.specs.Columns.{Columns};
 ghost use Rattle.plan_core.specs.Errors.{item_at};
@@ -94,7 +94,7 @@ impl IRBuilder<'_> {
         requires { IsBuilt self.old.lp_arena.now self.old.expr_arena.now self.old.root }
         ensures exprs { self.new.expr_arena ≡ self.old.expr_arena }
         ensures added { OnOk result ((names.now ≡ [] → ⊥) → (columns : Columns) × Picks (columns_at self.old.lp_arena.now self.old.expr_arena.now self.old.root) names.now columns × Adds self.old.lp_arena.now self.new.lp_arena.now self.new.root (SimpleProjection self.old.root columns)) }
-        ensures none { names.now ≡ [] → Stays self.old.lp_arena.now self.new.lp_arena.now self.old.root self.new.root }
+        ensures none { names.now ≡ [] → IsOk result × Stays self.old.lp_arena.now self.new.lp_arena.now self.old.root self.new.root }
         ensures fault { Says result (first_item_fault (name_checks names.now (columns_at self.old.lp_arena.now self.old.expr_arena.now self.old.root))) }
         ensures built { OnOk result (IsBuilt self.new.lp_arena.now self.new.expr_arena.now self.new.root) }
         ensures refused { OnErr result (Stays self.old.lp_arena.now self.new.lp_arena.now self.old.root self.new.root) }
@@ -119,12 +119,15 @@ impl IRBuilder<'_> {
         requires columns { All (IsColumn self.old.expr_arena.now) nodes.now }
         ensures exprs { self.new.expr_arena ≡ self.old.expr_arena }
         ensures added { OnOk result ((nodes.now ≡ [] → ⊥) → (columns : Columns) × Picks (columns_at self.old.lp_arena.now self.old.expr_arena.now self.old.root) (map (column_at self.old.expr_arena.now) nodes.now) columns × Adds self.old.lp_arena.now self.new.lp_arena.now self.new.root (SimpleProjection self.old.root columns)) }
-        ensures none { nodes.now ≡ [] → Stays self.old.lp_arena.now self.new.lp_arena.now self.old.root self.new.root }
+        ensures none { nodes.now ≡ [] → IsOk result × Stays self.old.lp_arena.now self.new.lp_arena.now self.old.root self.new.root }
         ensures fault { Says result (first_item_fault (name_checks (map (column_at self.old.expr_arena.now) nodes.now) (columns_at self.old.lp_arena.now self.old.expr_arena.now self.old.root))) }
         ensures built { OnOk result (IsBuilt self.new.lp_arena.now self.new.expr_arena.now self.new.root) }
         ensures refused { OnErr result (Stays self.old.lp_arena.now self.new.lp_arena.now self.old.root self.new.root) }
         ensures same_reference { self.new.lp_arena.ghost_name ≡ self.old.lp_arena.ghost_name }
     {
+        if nodes.is_empty() {
+            return Ok(());
+        }
         let names = column_names(alloc, nodes, self.expr_arena)?;
         self.project_simple(alloc, names.as_slice())
     }
