@@ -19,7 +19,7 @@ use Rattle.plan_expr.specs.declared.aexpr.AExpr.{AExpr}
 use Rattle.plan_expr.specs.declared.aexpr.AExpr.TheVariants.{Column, Literal, Alias, BinaryExpr, Ternary, Agg, Function, Window, Len}
 use Rattle.plan_expr.specs.declared.expr_ir.ExprIR.{ExprIR}
 use Rattle.plan_ir.specs.declared.ir.IR.{IR}
-use Rattle.plan_ir.specs.declared.ir.IR.TheVariants.{Slice, Filter, Scan, DataFrameScan, SimpleProjection, Select, HStack, Sort, Distinct, Sink, Union, Cache, Invalid}
+use Rattle.plan_ir.specs.declared.ir.IR.TheVariants.{Slice, Filter, Scan, DataFrameScan, SimpleProjection, Select, HStack, Sort, Distinct, MapFunction, Sink, Union, Cache, Invalid}
 use Rattle.plan_ir.specs.Copies.{IsRenumbered, Lists}
 use Rattle.plan_ir.specs.Moved.{entries_at, moved_expr, moved_named, moved_node, new_number}
 use Rattle.plan_expr.specs.Operands.{expr_shape, operands_of}
@@ -112,6 +112,7 @@ module _ (nodes exprs : List Node) where
   inputs-moved (HStack input own schema options) = refl
   inputs-moved (Sort input by_column slice sort_options) = refl
   inputs-moved (Distinct input options) = refl
+  inputs-moved (MapFunction input function) = refl
   inputs-moved (Sink input payload) = refl
   inputs-moved (Union inputs options) = refl
   inputs-moved (Cache input id cache_hits) = refl
@@ -127,6 +128,7 @@ module _ (nodes exprs : List Node) where
   invalid-moved (HStack input own schema options) = refl
   invalid-moved (Sort input by_column slice sort_options) = refl
   invalid-moved (Distinct input options) = refl
+  invalid-moved (MapFunction input function) = refl
   invalid-moved (Sink input payload) = refl
   invalid-moved (Union inputs options) = refl
   invalid-moved (Cache input id cache_hits) = refl
@@ -146,6 +148,7 @@ module _ (nodes exprs : List Node) where
   roots-moved (HStack input own schema options) = nodes-moved own
   roots-moved (Sort input by_column slice sort_options) = nodes-moved by_column
   roots-moved (Distinct input options) = refl
+  roots-moved (MapFunction input function) = refl
   roots-moved (Sink input payload) = refl
   roots-moved (Union inputs options) = refl
   roots-moved (Cache input id cache_hits) = refl
@@ -184,6 +187,7 @@ module _ (ex ex' : List AExpr) (nodes exprs : List Node) where
   op_at-moved (HStack input own schema options) same = ap (λ (ns : List Named). hstack ns schema options) (all-moved own same)
   op_at-moved (Sort input by_column slice sort_options) same = ap (λ (ns : List Named). sort ns slice sort_options) (all-moved by_column same)
   op_at-moved (Distinct input options) same = refl
+  op_at-moved (MapFunction input function) same = refl
   op_at-moved (Sink input payload) same = refl
   op_at-moved (Union inputs options) same = refl
   op_at-moved (Cache input id cache_hits) same = refl

@@ -3,7 +3,7 @@ use Rattle.std.proofs.Common.{◌≡◌, List, [], ◌∷◌, length, get_or, So
 use Rattle.plan_core.specs.declared.arena.Node.{Node}
 use Rattle.plan_expr.specs.declared.expr_ir.ExprIR.{ExprIR}
 use Rattle.plan_ir.specs.declared.ir.IR.{IR}
-use Rattle.plan_ir.specs.declared.ir.IR.TheVariants.{Slice, Filter, Scan, DataFrameScan, SimpleProjection, Select, HStack, Sort, Distinct, Sink, Union, Cache, Invalid}
+use Rattle.plan_ir.specs.declared.ir.IR.TheVariants.{Slice, Filter, Scan, DataFrameScan, SimpleProjection, Select, HStack, Sort, Distinct, MapFunction, Sink, Union, Cache, Invalid}
 use Rattle.plan_ir.specs.Parts.{exprs_of, exprs_over, inputs_of, over_parts}
 
 one_is : (i : Node) (is : List Node) → length is ≡ 1 → get_or is 0 i ∷ [] ≡ is
@@ -26,6 +26,7 @@ inputs-over (Select input expr schema options) es is h = one_is input is h
 inputs-over (HStack input exprs schema options) es is h = one_is input is h
 inputs-over (Sort input by_column slice sort_options) es is h = one_is input is h
 inputs-over (Distinct input options) es is h = one_is input is h
+inputs-over (MapFunction input function) es is h = one_is input is h
 inputs-over (Sink input payload) es is h = one_is input is h
 inputs-over (Union inputs options) es is h = refl
 inputs-over (Cache input id cache_hits) es is h = one_is input is h
@@ -43,6 +44,7 @@ own-parts (Select input expr schema options) = refl
 own-parts (HStack input exprs schema options) = refl
 own-parts (Sort input by_column slice sort_options) = refl
 own-parts (Distinct input options) = refl
+own-parts (MapFunction input function) = refl
 own-parts (Sink input payload) = refl
 own-parts (Union inputs options) = refl
 own-parts (Cache input id cache_hits) = refl

@@ -7,7 +7,7 @@ use Rattle.plan_expr.specs.declared.aexpr.AExpr.{AExpr}
 use Rattle.plan_expr.specs.declared.expr_ir.ExprIR.{ExprIR}
 use Rattle.plan_expr.specs.Operands.{expr_shape}
 use Rattle.plan_ir.specs.declared.ir.IR.{IR}
-use Rattle.plan_ir.specs.declared.ir.IR.TheVariants.{Slice, Filter, Scan, DataFrameScan, SimpleProjection, Select, HStack, Sort, Distinct, Sink, Union, Cache, Invalid}
+use Rattle.plan_ir.specs.declared.ir.IR.TheVariants.{Slice, Filter, Scan, DataFrameScan, SimpleProjection, Select, HStack, Sort, Distinct, MapFunction, Sink, Union, Cache, Invalid}
 
 -- a value that may be there, as a list
 abbrev pub list_of : {A : Type 0} → Option A → List A
@@ -25,6 +25,7 @@ inputs_of (Select input expr schema options) = input ∷ []
 inputs_of (HStack input exprs schema options) = input ∷ []
 inputs_of (Sort input by_column slice sort_options) = input ∷ []
 inputs_of (Distinct input options) = input ∷ []
+inputs_of (MapFunction input function) = input ∷ []
 inputs_of (Sink input payload) = input ∷ []
 inputs_of (Union inputs options) = inputs
 inputs_of (Cache input id cache_hits) = input ∷ []
@@ -41,6 +42,7 @@ exprs_of (Select input expr schema options) = expr
 exprs_of (HStack input exprs schema options) = exprs
 exprs_of (Sort input by_column slice sort_options) = by_column
 exprs_of (Distinct input options) = []
+exprs_of (MapFunction input function) = []
 exprs_of (Sink input payload) = []
 exprs_of (Union inputs options) = []
 exprs_of (Cache input id cache_hits) = []
@@ -58,6 +60,7 @@ is_invalid (Select input expr schema options) = false
 is_invalid (HStack input exprs schema options) = false
 is_invalid (Sort input by_column slice sort_options) = false
 is_invalid (Distinct input options) = false
+is_invalid (MapFunction input function) = false
 is_invalid (Sink input payload) = false
 is_invalid (Union inputs options) = false
 is_invalid (Cache input id cache_hits) = false
@@ -122,6 +125,7 @@ over_parts (Select input expr schema options) exprs inputs = Select (get_or inpu
 over_parts (HStack input own schema options) exprs inputs = HStack (get_or inputs 0 input) exprs schema options
 over_parts (Sort input by_column slice sort_options) exprs inputs = Sort (get_or inputs 0 input) exprs slice sort_options
 over_parts (Distinct input options) exprs inputs = Distinct (get_or inputs 0 input) options
+over_parts (MapFunction input function) exprs inputs = MapFunction (get_or inputs 0 input) function
 over_parts (Sink input payload) exprs inputs = Sink (get_or inputs 0 input) payload
 over_parts (Union own options) exprs inputs = Union inputs options
 over_parts (Cache input id cache_hits) exprs inputs = Cache (get_or inputs 0 input) id cache_hits

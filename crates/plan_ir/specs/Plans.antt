@@ -15,6 +15,7 @@ use Rattle.plan_expr.specs.declared.aexpr.AExpr.{AExpr}
 use Rattle.plan_ir.specs.declared.scan.FileInfo.{FileInfo}
 use Rattle.plan_ir.specs.declared.scan.FileScan.{FileScan}
 use Rattle.plan_ir.specs.declared.scan.ScanSources.{ScanSources}
+use Rattle.plan_ir.specs.declared.functions.FunctionIR.{FunctionIR}
 use Rattle.plan_ir.specs.declared.ir.IR.{IR}
 use Rattle.plan_ir.specs.declared.ir.IR.TheVariants as nodes
 use Rattle.plan_expr.specs.Exprs.{Named, named_at, all_named_at}
@@ -31,6 +32,7 @@ pub data Op : Type 0 where
   hstack : (exprs : List Named) → (schema : Columns) → (options : ProjectionOptions) → Op
   sort : (keys : List Named) → (cut : Option (ℤ × ℕ)) → (options : SortMultipleOptions) → Op
   distinct : (options : DistinctOptionsIR) → Op
+  map_function : (function : FunctionIR) → Op
   sink : (payload : SinkType) → Op
   union : (options : UnionOptions) → Op
   cache : (id hits : ℕ) → Op
@@ -51,6 +53,7 @@ op_at ex (nodes.Select input expr schema options) = select (all_named_at ex expr
 op_at ex (nodes.HStack input exprs schema options) = hstack (all_named_at ex exprs) schema options
 op_at ex (nodes.Sort input by_column cut sort_options) = sort (all_named_at ex by_column) cut sort_options
 op_at ex (nodes.Distinct input options) = distinct options
+op_at ex (nodes.MapFunction input function) = map_function function
 op_at ex (nodes.Sink input payload) = sink payload
 op_at ex (nodes.Union inputs options) = union options
 op_at ex (nodes.Cache input id cache_hits) = cache id cache_hits

@@ -1,6 +1,7 @@
 //! The nodes of a plan.
 ghost use Rattle.std.specs.Prelude.{◌≡◌, IfOk};
 
+use crate::functions::FunctionIR;
 use crate::scan::{FileInfo, FileScan, ScanSources};
 use plan_core::{FileScanOptions, Items, Node, ProjectionOptions, Schema, TryClone};
 use plan_expr::ExprIR;
@@ -97,6 +98,13 @@ pub enum IR {
         input: Node,
         /// In which columns rows are the same, which of them is kept, and whether those that are kept stay in order.
         options: DistinctOptionsIR,
+    },
+    /// What a function makes of the whole input.
+    MapFunction {
+        /// The number of the node whose frame the function is given.
+        input: Node,
+        /// The function.
+        function: FunctionIR,
     },
     /// The input, whose rows go somewhere.
     Sink {

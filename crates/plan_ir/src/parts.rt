@@ -29,6 +29,7 @@ impl Entry for IR {
             | IR::HStack { input, .. }
             | IR::Sort { input, .. }
             | IR::Distinct { input, .. }
+            | IR::MapFunction { input, .. }
             | IR::Sink { input, .. }
             | IR::Cache { input, .. } => {
                 out.push(*input)?;
@@ -75,6 +76,7 @@ impl IR {
             | IR::DataFrameScan { .. }
             | IR::SimpleProjection { .. }
             | IR::Distinct { .. }
+            | IR::MapFunction { .. }
             | IR::Sink { .. }
             | IR::Union { .. }
             | IR::Cache { .. }
@@ -124,6 +126,7 @@ impl IR {
             | IR::HStack { input, .. }
             | IR::Sort { input, .. }
             | IR::Distinct { input, .. }
+            | IR::MapFunction { input, .. }
             | IR::Sink { input, .. }
             | IR::Cache { input, .. } => inputs.push(*input)?,
             IR::Union { inputs: list, .. } => {
@@ -191,6 +194,10 @@ impl IR {
             IR::Distinct { options, .. } => Ok(IR::Distinct {
                 input: only(inputs),
                 options: options.try_clone(alloc)?,
+            }),
+            IR::MapFunction { function, .. } => Ok(IR::MapFunction {
+                input: only(inputs),
+                function: function.try_clone(alloc)?,
             }),
             IR::Sink { payload, .. } => Ok(IR::Sink {
                 input: only(inputs),

@@ -2,7 +2,7 @@
 use Rattle.std.proofs.Common.{◌≡◌, List, [], ◌∷◌, ◌++◌, map, refl, sym, ap₂, ◌∙◌, append_assoc}
 use Rattle.std.proofs.lemmas.List.{map-append}
 use Rattle.plan_tree.specs.Rose.{Roses, rose, no_roses, more}
-use Rattle.plan_ir.specs.Plans.{Op, slice, filter, scan, frame_scan, simple_projection, select, hstack, sort, distinct, sink, union, cache, invalid, Plan}
+use Rattle.plan_ir.specs.Plans.{Op, slice, filter, scan, frame_scan, simple_projection, select, hstack, sort, distinct, map_function, sink, union, cache, invalid, Plan}
 use Rattle.plan_meaning.specs.Typing.{schemas}
 use Rattle.plan_meaning.specs.Relating.{Asked}
 use Rattle.plan_meaning.specs.Counting.{stand_ins}
@@ -28,6 +28,7 @@ own_scans (select es stored options) = tt
 own_scans (hstack es stored options) = tt
 own_scans (sort keys part options) = tt
 own_scans (distinct options) = tt
+own_scans (map_function function) = tt
 own_scans (sink payload) = tt
 own_scans (union options) = tt
 own_scans (cache id hits) = tt
@@ -75,6 +76,7 @@ own-site (select es stored options) a = refl
 own-site (hstack es stored options) a = refl
 own-site (sort keys part options) a = refl
 own-site (distinct options) a = refl
+own-site (map_function function) a = refl
 own-site (sink payload) a = refl
 own-site (union options) a = refl
 own-site (cache id hits) a = refl

@@ -8,7 +8,7 @@ use Rattle.plan_core.specs.declared.error.PolarsError.TheVariants.{SchemaFieldNo
 use Rattle.plan_core.specs.Columns.{Columns, names_of, type_of}
 use Rattle.plan_tree.specs.Rose.{Roses, rose, no_roses, more}
 use Rattle.plan_expr.specs.Exprs.{Named}
-use Rattle.plan_ir.specs.Plans.{Op, slice, filter, scan, frame_scan, simple_projection, select, hstack, sort, distinct, sink, union, cache, Plan}
+use Rattle.plan_ir.specs.Plans.{Op, slice, filter, scan, frame_scan, simple_projection, select, hstack, sort, distinct, map_function, sink, union, cache, Plan}
 use Rattle.plan_core.specs.declared.data_type.DataType.TheVariants as types
 use Rattle.plan_expr.specs.Leaves.{Name}
 use Rattle.plan_expr.specs.Naming.{name_of}

@@ -1,15 +1,18 @@
 -- What each node of a plan is asked from above, the scans with what they are asked, and what these may read.
 use Rattle.std.specs.Prelude.{◌≡◌, Bool, true, false, List, [], ◌∷◌, ◌++◌, Option, is_some, if◌then◌else◌}
-use Rattle.std.specs.List.{AllByRecursion, filter as only_where}
+use Rattle.std.specs.List.{AllByRecursion, filter as only_where, filter_map}
 use Rattle.plan_core.specs.declared.data_type.DataType.{DataType}
 use Rattle.plan_core.specs.Columns.{Columns, names_of, type_of}
 use Rattle.plan_core.specs.Names.{has, with_names, AreDistinct}
 use Rattle.plan_tree.specs.Rose.{Roses, rose, no_roses, more}
 use Rattle.plan_expr.specs.Exprs.{Named}
-use Rattle.plan_ir.specs.Plans.{Op, slice, filter, scan, frame_scan, simple_projection, select, hstack, sort, distinct, sink, union, cache, invalid, Plan}
+use Rattle.plan_ir.specs.Plans.{Op, slice, filter, scan, frame_scan, simple_projection, select, hstack, sort, distinct, map_function, sink, union, cache, invalid, Plan}
 use Rattle.plan_expr.specs.Leaves.{Name, leaves}
 use Rattle.plan_expr.specs.Naming.{name_of}
 use Rattle.plan_meaning.specs.Typing.{is_empty, names_or, columns_or, file_columns, first_schema, schema_by, schemas}
+use Rattle.plan_ir.specs.declared.functions.FunctionIR.{FunctionIR}
+use Rattle.plan_ir.specs.declared.functions.FunctionIR.TheVariants.{Rename, RowIndex}
+use Rattle.plan_meaning.specs.Functions.{renamed, former}
 use Rattle.plan_meaning.specs.Steps.{all_scalar}
 use Rattle.plan_meaning.specs.Counting.{first_many, counts_rows, stand_ins, first_stand_in, stand_in_names}
 use Rattle.plan_meaning.specs.Relating.{Asked, all, names, cached}
@@ -81,6 +84,17 @@ asks_stacked es all s = all
 asks_stacked es (names wanted) s = asks_added (kept_exprs (names wanted) es) wanted s
 asks_stacked es cached s = cached
 
+-- the names that a function of which these are asked needs of its input: a renaming those that get them, a numbering of the rows those that the input has
+abbrev pub function_names : FunctionIR → List Name → Columns → List Name
+function_names (Rename existing new swapping) wanted s = filter_map (former (renamed existing new) (names_of s)) wanted
+function_names (RowIndex name offset) wanted s = only_where (has (names_of s)) wanted
+
+-- a function asks for the names that it needs
+abbrev pub asks_function : FunctionIR → Asked → Columns → Asked
+asks_function function all s = all
+asks_function function (names wanted) s = set_of (function_names function wanted s)
+asks_function function cached s = cached
+
 -- the same asked of each input
 abbrev pub asks_alike : Asked → List Columns → List Asked
 asks_alike a [] = []
@@ -97,6 +111,7 @@ asks (select exprs schema options) a ss os = asks_selected exprs (first_stand_in
 asks (hstack exprs schema options) a ss os = asks_stacked exprs a (first_schema ss) ∷ []
 asks (sort keys part options) a ss os = with_more (all_leaves keys) a ∷ []
 asks (distinct options) a ss os = with_more (names_or options.subset (names_of (first_schema ss))) a ∷ []
+asks (map_function function) a ss os = asks_function function a (first_schema ss) ∷ []
 asks (sink payload) a ss os = a ∷ []
 asks (union options) a ss os = asks_alike a ss
 asks (cache id hits) a ss os = cached ∷ []
@@ -128,6 +143,7 @@ own_site (select exprs schema options) a = []
 own_site (hstack exprs schema options) a = []
 own_site (sort keys part options) a = []
 own_site (distinct options) a = []
+own_site (map_function function) a = []
 own_site (sink payload) a = []
 own_site (union options) a = []
 own_site (cache id hits) a = []
@@ -154,6 +170,7 @@ reads (select exprs schema options) = []
 reads (hstack exprs schema options) = []
 reads (sort keys part options) = []
 reads (distinct options) = []
+reads (map_function function) = []
 reads (sink payload) = []
 reads (union options) = []
 reads (cache id hits) = []

@@ -1,6 +1,7 @@
 -- The definitions that contracts cite.
 pub mod Exprs
 pub mod Firsts
+pub mod Functions
 pub mod Typing
 pub mod TreeFaults
 pub mod Typed
@@ -10,6 +11,7 @@ pub mod Aggregates
 pub mod Meaning
 pub mod Orders
 pub mod Contents
+pub mod Mapped
 pub mod Steps
 pub mod Relating
 pub mod PlanAt

@@ -9,16 +9,19 @@ use Rattle.plan_core.specs.declared.options.FileScanOptions.{FileScanOptions}
 use Rattle.plan_options.specs.declared.distinct.DistinctOptionsIR.{DistinctOptionsIR}
 use Rattle.plan_options.specs.declared.sort.SortMultipleOptions.{SortMultipleOptions}
 use Rattle.plan_options.specs.declared.union.UnionOptions.{UnionOptions}
-use Rattle.plan_core.specs.Columns.{Columns, type_of, with_types, same_columns}
+use Rattle.plan_core.specs.Columns.{Columns, names_of, type_of, with_types, same_columns}
 use Rattle.plan_core.specs.Names.{has}
 use Rattle.plan_tree.specs.Rose.{Rose, Roses, rose, no_roses, more}
+use Rattle.plan_ir.specs.declared.functions.FunctionIR.{FunctionIR}
+use Rattle.plan_ir.specs.declared.functions.FunctionIR.TheVariants.{Rename, RowIndex}
 use Rattle.plan_ir.specs.declared.scan.FileInfo.{FileInfo}
 use Rattle.plan_expr.specs.Exprs.{Named}
 use Rattle.plan_expr.specs.Forms.{has_form}
 use Rattle.plan_expr.specs.Types.{is_plain}
-use Rattle.plan_ir.specs.Plans.{Op, slice, filter, scan, frame_scan, simple_projection, select, hstack, sort, distinct, sink, union, cache, invalid}
+use Rattle.plan_ir.specs.Plans.{Op, slice, filter, scan, frame_scan, simple_projection, select, hstack, sort, distinct, map_function, sink, union, cache, invalid}
 use Rattle.plan_expr.specs.Leaves.{Name, leaves}
 use Rattle.plan_expr.specs.Naming.{naming, may_be_named, name_of}
+use Rattle.plan_meaning.specs.Functions.{renamed, stay_apart, function_schema}
 use Rattle.plan_meaning.specs.Exprs.{all_known, expr_type, is_type}
 use Rattle.plan_core.specs.declared.data_type.DataType.TheVariants as types
 
@@ -57,6 +60,7 @@ schema_by (select exprs schema options) ss = made_schema [] exprs (first_schema 
 schema_by (hstack exprs schema options) ss = made_schema (first_schema ss) exprs (first_schema ss)
 schema_by (sort keys part options) ss = first_schema ss
 schema_by (distinct options) ss = first_schema ss
+schema_by (map_function function) ss = function_schema function (first_schema ss)
 schema_by (sink payload) ss = first_schema ss
 schema_by (union options) ss = first_schema ss
 schema_by (cache id hits) ss = first_schema ss
@@ -259,6 +263,23 @@ is_built_distinct options = is_none options.slice && is_some_subset options.subs
 unfoldable pub subset_checks : Option (List Name) → Columns → List Check
 subset_checks subset s = each SchemaFieldNotFound 1 (is_known s) (names_or subset [])
 
+-- a renaming has as many new names as old ones, none twice on either side, and gives no two columns one name
+unfoldable pub rename_checks : (existing new : List Name) → Columns → List Check
+rename_checks existing new s =
+    check InvalidOperation 0 (length existing == length new)
+    ∷ (each_new 1 [] existing
+    ++ (each_new (suc (length existing)) [] new
+    ++ (check Duplicate 0 (stay_apart (renamed existing new) (names_of s)) ∷ [])))
+
+-- the column that numbers the rows has a name that no other has
+unfoldable pub row_index_checks : Name → Columns → List Check
+row_index_checks name s = check Duplicate 0 (not (has (names_of s) name)) ∷ []
+
+-- the checks on a function over the columns of its input
+abbrev pub function_checks : FunctionIR → Columns → List Check
+function_checks (Rename existing new swapping) s = rename_checks existing new s
+function_checks (RowIndex name offset) s = row_index_checks name s
+
 -- whether a union has a form that is built: some inputs, and no slice
 unfoldable pub is_built_union : UnionOptions → List Columns → Bool
 is_built_union options ss = not (is_empty ss) && is_none options.slice
@@ -288,6 +309,7 @@ checks (select exprs schema options) ss = with_one ss (λ s. check InvalidOperat
 checks (hstack exprs schema options) ss = with_one ss (λ s. made_checks s exprs schema s)
 checks (sort keys part options) ss = with_one ss (λ s. check InvalidOperation 0 (is_built_sort (length keys) part options) ∷ key_checks keys s)
 checks (distinct options) ss = with_one ss (λ s. check InvalidOperation 0 (is_built_distinct options) ∷ subset_checks options.subset s)
+checks (map_function function) ss = with_one ss (function_checks function)
 checks (sink payload) ss = with_one ss (λ s. [])
 checks (union options) ss = check InvalidOperation 0 (is_built_union options ss) ∷ same_checks ss
 checks (cache id hits) ss = with_one ss (λ s. [])

@@ -3,7 +3,7 @@ use Rattle.std.specs.Prelude.{ℕ, ◌+◌, Bool, true, false, not, List, [], �
 use Rattle.std.specs.List.{filter as only_where}
 use Rattle.plan_tree.specs.Rose.{Roses, rose, no_roses, more}
 use Rattle.plan_expr.specs.Exprs.{ExprOp, column, literal, alias, binary, ternary, aggregate, call, window, len as row_count, Expr, Named}
-use Rattle.plan_ir.specs.Plans.{Op, slice, filter, scan, frame_scan, simple_projection, select, hstack, sort, distinct, sink, union, cache, invalid, Plan}
+use Rattle.plan_ir.specs.Plans.{Op, slice, filter, scan, frame_scan, simple_projection, select, hstack, sort, distinct, map_function, sink, union, cache, invalid, Plan}
 use Rattle.plan_meaning.specs.Typing.{schemas}
 use Rattle.plan_meaning.specs.Relating.{Asked, all}
 use Rattle.plan_meaning.specs.Counting.{stand_ins}
@@ -40,6 +40,7 @@ own_made (frame_scan df schema output) = 0
 own_made (simple_projection columns) = 0
 own_made (sort keys part options) = 0
 own_made (distinct options) = 0
+own_made (map_function function) = 0
 own_made (sink payload) = 0
 own_made (union options) = 0
 own_made (cache id hits) = 0
@@ -65,6 +66,7 @@ own_kept (frame_scan df schema output) a = 0
 own_kept (simple_projection columns) a = 0
 own_kept (sort keys part options) a = 0
 own_kept (distinct options) a = 0
+own_kept (map_function function) a = 0
 own_kept (sink payload) a = 0
 own_kept (union options) a = 0
 own_kept (cache id hits) a = 0

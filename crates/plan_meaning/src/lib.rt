@@ -5,6 +5,7 @@ mod check;
 mod exprs;
 pub mod laws;
 mod plan;
+mod renaming;
 #[cfg(test)]
 mod tests;
 mod tree;
@@ -14,4 +15,5 @@ pub use check::{
 };
 pub use exprs::{all_scalar, counts_rows, expr_type, reads_only};
 pub use plan::{check_nodes, check_plan};
+pub use renaming::Renaming;
 pub use tree::check_tree;

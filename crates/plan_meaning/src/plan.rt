@@ -10,8 +10,8 @@ ghost use Rattle.plan_meaning.specs.TreeFaults.{tree_fault};
 ghost use Rattle.plan_meaning.specs.Typed.{typed, IsNodeTyped, IsPlanTyped, IsTyped};
 
 use crate::check::{
-    at, distinct_schema, filter_schema, frame_scan_schema, hstack_schema, projection_schema,
-    scan_schema, select_schema, sort_schema, union_schema,
+    at, distinct_schema, filter_schema, frame_scan_schema, function_schema, hstack_schema,
+    projection_schema, scan_schema, select_schema, sort_schema, union_schema,
 };
 use crate::tree::check_tree;
 use plan_core::{Arena, Items, Node, PolarsError, PolarsResult, Schema};
@@ -100,6 +100,7 @@ fn node_schema(
             only(schemas),
         ),
         IR::Distinct { options, .. } => distinct_schema(node, options, only(schemas)),
+        IR::MapFunction { function, .. } => function_schema(alloc, node, function, only(schemas)),
         IR::Union { options, .. } => union_schema(node, options, schemas),
         IR::Invalid => Err(PolarsError::ComputeError(at(node, 0))),
     }
