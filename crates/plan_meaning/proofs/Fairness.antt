@@ -19,6 +19,7 @@ use Rattle.plan_meaning.specs.Asked.{asked_names, is_asked, set_of, with_more, k
 use Rattle.plan_meaning.proofs.NameSets.{has_cons, has_first, has_later, some-type_of, keeps_names, from_names, distinct_names, distinct_none}
 use Rattle.plan_meaning.proofs.CheckParts.{hold_front, each_pass, name_passes, known_leaf, scan_good, made_good, keys_good}
 use Rattle.plan_meaning.proofs.UnionLemmas.{union_inputs}
+use Rattle.plan_meaning.proofs.FunctionLemmas.{fair_function}
 use Rattle.plan_meaning.proofs.MadeColumns.{types_kept}
 use Rattle.plan_meaning.proofs.StandIns.{IsStandIn, AreStandIns, first_stands, are_stand_ins}
 use Rattle.plan_meaning.proofs.KeptExprs.{all_append, all_kept_exprs, all_selected, known_leaves, where_has, distinct_where}
@@ -159,6 +160,7 @@ fair_asks (select es stored options) a (s ∷ []) os good k f = (fair_selected e
 fair_asks (hstack es stored options) a (s ∷ []) os good k f = (fair_stacked es a s (made_good s es stored s good).known f, tt)
 fair_asks (sort keys part options) a (s ∷ []) os good k f = (fair_more (all_leaves keys) a s (λ b i. known_leaves keys s (keys_good keys s good.1).known b i) f, tt)
 fair_asks (distinct options) a (s ∷ []) os good k f = (fair_more (names_or options.subset (names_of s)) a s (λ b i. told_known options.subset s good.1 b i) f, tt)
+fair_asks (map_function function) a (s ∷ []) os good k f = (fair_function function a s f, tt)
 fair_asks (sink payload) a (s ∷ []) os good k f = (f, tt)
 fair_asks (union options) a ss os good k f = fair_alike a (first_schema ss) ss (union_inputs options ss good) f
 fair_asks (cache id hits) a (s ∷ []) os good k f = (tt, tt)
@@ -235,6 +237,7 @@ site_fair (filter predicate) a ss good f = tt
 site_fair (simple_projection cols) a ss good f = tt
 site_fair (sort keys part options) a ss good f = tt
 site_fair (distinct options) a ss good f = tt
+site_fair (map_function function) a ss good f = tt
 site_fair (sink payload) a ss good f = tt
 site_fair (union options) a ss good f = tt
 site_fair (cache id hits) a ss good f = tt

@@ -4,11 +4,12 @@ pub mod ScalarExprs
 pub mod CheckLemmas
 pub mod MadeLemmas
 mod ReadLemmas
-mod TreeFaultLemmas
+pub mod TreeFaultLemmas
 mod TypedLemmas
 pub mod SideLemmas
 mod InputLemmas
 pub mod NameSets
+pub mod RenameLemmas
 pub mod FrameLemmas
 pub mod SameValues
 pub mod Depends
@@ -21,6 +22,7 @@ pub mod KeptRows
 pub mod UnionLemmas
 pub mod MadeColumns
 pub mod KeptExprs
+pub mod FunctionLemmas
 pub mod Runs
 pub mod Refining
 pub mod Related

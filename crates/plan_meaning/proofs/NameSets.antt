@@ -67,7 +67,7 @@ adds_name xs b = at (has xs b) refl
     at true e = e
     at false e = has_back xs (b ∷ []) b (has_first b [])
 
-only : (b a : Name) → has (b ∷ []) a ≡ true → a ≡ b
+pub only : (b a : Name) → has (b ∷ []) a ≡ true → a ≡ b
 only b a h = ⊎_elim (λ e. e) (λ e. none e) (has_cons b [] a h)
   where
     none : false ≡ true → a ≡ b

@@ -15,6 +15,8 @@ use Rattle.plan_expr.specs.Naming.{name_of}
 use Rattle.plan_expr.specs.Scalars.{is_scalar}
 use Rattle.plan_expr.specs.Types.{is_plain}
 use Rattle.plan_meaning.specs.Exprs.{expr_type}
+use Rattle.plan_meaning.specs.Functions.{function_schema}
+use Rattle.plan_meaning.specs.Mapped.{mapped}
 use Rattle.plan_meaning.specs.Typing.{each, is_known, is_column, columns_or, file_columns, has_columns, put_out_checks, is_plain_type, first_schema, made_schema, schema_by, schema, schemas, checks, AllHold, AllValid}
 use Rattle.plan_meaning.specs.Frames.{Frame, Column, HaveTypes, HasSchema, Holds, HoldsAll, with_columns, cut, in_turn}
 use Rattle.plan_meaning.specs.Meaning.{are_alike, val, filled}
@@ -29,6 +31,7 @@ use Rattle.plan_meaning.proofs.CheckParts.{hold_back, each_pass, scan_good, Fram
 use Rattle.plan_meaning.proofs.KeptRows.{alike_equivalence, kept_exists}
 pub use Rattle.plan_meaning.proofs.UnionLemmas.{HaveSchemas}
 use Rattle.plan_meaning.proofs.UnionLemmas.{union_has}
+use Rattle.plan_meaning.proofs.FunctionLemmas.{mapped_has}
 use Rattle.plan_meaning.proofs.OrderLemmas.{IsKey, rows_total, sorted_exists}
 
 -- a frame that has columns holds those that are among them
@@ -138,6 +141,7 @@ step_has c (sort keys part options) (s ∷ []) (g ∷ []) f good fit has st =
     subst (λ (x : Frame). HasSchema x s) (sym st.2) (rows_schema st.0 g s has.0)
 step_has c (distinct options) (s ∷ []) (g ∷ []) f good fit has st =
     subst (λ (x : Frame). HasSchema x s) (sym st.2) (rows_schema st.0 g s has.0)
+step_has c (map_function function) (s ∷ []) (g ∷ []) f good fit has st = subst (λ (x : Frame). HasSchema x (function_schema function s)) (sym st) (mapped_has function s g has.0)
 step_has c (sink payload) (s ∷ []) (g ∷ []) f good fit has st = subst (λ (x : Frame). HasSchema x s) (sym st) has.0
 step_has c (union options) ss fs f good fit has st =
     subst (λ (x : Frame). HasSchema x (first_schema ss)) (sym st.2) (rows_schema st.0 (in_turn fs) (first_schema ss) (union_has options ss fs good has))
@@ -162,6 +166,7 @@ step_runs c (distinct options) (s ∷ []) (g ∷ []) good fit has =
     let same = are_alike (told_columns options.subset g) in
     let rows = kept_exists same (alike_equivalence (told_columns options.subset g)) g.height options.maintain_order options.keep_strategy in
     (rows_at rows.0 g, (rows.0, rows.1, refl))
+step_runs c (map_function function) (s ∷ []) (g ∷ []) good fit has = (mapped function g, refl)
 step_runs c (sink payload) (s ∷ []) (g ∷ []) good fit has = (g, refl)
 step_runs c (union options) ss fs good fit has =
     let rows = range_with_len 0 (in_turn fs).height in

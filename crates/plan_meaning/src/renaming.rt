@@ -1,5 +1,5 @@
 //! The new names that a renaming gives.
-ghost use Rattle.std.specs.Prelude.{◌≡◌, IfOk, IfSome, is_some};
+ghost use Rattle.std.specs.Prelude.{◌≡◌, List, ℕ, None, Some, IfNone, IfOk, IfSome, is_some, length};
 ghost use Rattle.plan_core.specs.Columns.{names_of};
 ghost use Rattle.plan_meaning.specs.Functions.{former, name_in, names_now, new_name, renamed_columns, stay_apart};
 
@@ -24,16 +24,17 @@ impl Model for Renaming {
 
 impl Renaming {
     /// The renaming that gives each of some names the new name at its place; of a name that comes twice the first place
-    /// counts. A name without a partner is left out. Refuses for want of memory alone.
+    /// counts. Refuses for want of memory alone.
     pub fn new(
         alloc: Global,
         existing: &[PlSmallStr],
         new: &[PlSmallStr],
     ) -> Result<Self, AllocError>
+        requires { length existing.now ≡ length new.now }
         ensures { IfOk result (λ names. (a : List ℕ) → name_in names a ≡ new_name existing.now new.now a) }
     {
         let mut names = IndexMap::new(alloc);
-        let mut left = existing.len().min(new.len());
+        let mut left = existing.len();
         while left > 0 {
             left -= 1;
             let name = String::from_str(alloc, existing[left].as_str())?;
@@ -74,9 +75,9 @@ impl Renaming {
     pub fn now<'a>(&'a self, name: &'a str) -> &'a str
         ensures { result.now ≡ names_now self.now name.now }
     {
-        match self.names.get(name) {
+        match self.get(name) {
             None => name,
-            Some(now) => now.as_str(),
+            Some(now) => now,
         }
     }
 
