@@ -11,7 +11,8 @@ mod tests;
 mod tree;
 
 pub use check::{
-    check_filter, check_frame_scan, check_made, check_projection, check_scan, made_schema,
+    check_filter, check_frame_scan, check_made, check_projection, check_scan, function_schema,
+    made_schema,
 };
 pub use exprs::{all_scalar, counts_rows, expr_type, reads_only};
 pub use plan::{check_nodes, check_plan};

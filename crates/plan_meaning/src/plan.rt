@@ -100,7 +100,9 @@ fn node_schema(
             only(schemas),
         ),
         IR::Distinct { options, .. } => distinct_schema(node, options, only(schemas)),
-        IR::MapFunction { function, .. } => function_schema(alloc, node, function, only(schemas)),
+        IR::MapFunction { function, .. } => {
+            function_schema(alloc, node, function, &only(schemas))
+        }
         IR::Union { options, .. } => union_schema(node, options, schemas),
         IR::Invalid => Err(PolarsError::ComputeError(at(node, 0))),
     }

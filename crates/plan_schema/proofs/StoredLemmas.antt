@@ -1,23 +1,52 @@
 -- In a valid plan the stored columns are those that are computed.
-use Rattle.std.proofs.Common.{◌≡◌, List, [], ◌∷◌, Option, Some, None, refl, sym, ap, ap₂, ◌∙◌, subst}
+use Rattle.std.proofs.Common.{◌≡◌, ◌&&◌, Bool, true, false, cond, List, [], ◌∷◌, Option, Some, None, Err, refl, sym, ap, ap₂, ◌∙◌, subst}
 use Rattle.plan_core.specs.declared.arena.Node.{Node}
+use Rattle.plan_core.specs.declared.error.PolarsError.{PolarsError}
+use Rattle.plan_core.specs.declared.error.PolarsError.TheVariants.{SchemaFieldNotFound, Duplicate, SchemaMismatch, InvalidOperation, ComputeError, OutOfMemory}
 use Rattle.plan_core.specs.Columns.{Columns}
 use Rattle.plan_tree.specs.Rose.{Roses, rose, no_roses, more}
 use Rattle.plan_expr.specs.declared.aexpr.AExpr.{AExpr}
 use Rattle.plan_ir.specs.declared.ir.IR.{IR}
 use Rattle.plan_ir.specs.Parts.{IsPlan}
-use Rattle.plan_ir.specs.Plans.{Op, slice, filter, scan, frame_scan, simple_projection, select, hstack, sort, distinct, sink, union, cache, invalid, bare, plans_at}
+use Rattle.plan_ir.specs.Plans.{Op, slice, filter, scan, frame_scan, simple_projection, select, hstack, sort, distinct, map_function, sink, union, cache, invalid, bare, plans_at}
 use Rattle.plan_meaning.specs.PlanAt.{one_plan, plan_at}
 use Rattle.plan_meaning.specs.Steps.{IsValid}
-use Rattle.plan_meaning.specs.Typing.{columns_or, file_columns, first_schema, schema, schema_by, schemas, checks, AllHold, AllValid}
-use Rattle.plan_meaning.proofs.Validity.{one_stands}
+use Rattle.plan_meaning.specs.Functions.{function_schema}
+use Rattle.plan_meaning.specs.Typing.{Check, at as at_node, columns_or, file_columns, first_fault, first_schema, function_checks, schema, schema_by, schemas, checks, Says, AllHold, AllValid}
+use Rattle.plan_meaning.proofs.Validity.{all_hold_unless, one_stands}
 pub use Rattle.plan_meaning.proofs.CheckParts.{same_is, is_same}
 use Rattle.plan_meaning.proofs.CheckParts.{scan_good, made_good}
-use Rattle.plan_schema.specs.Stored.{stored_by, stored_all}
+use Rattle.plan_schema.specs.Stored.{all_hold, wants_memory, stored_by, stored_all}
 
 out_same : (output : Option Columns) (stored file : Columns) → stored ≡ file → columns_or output stored ≡ columns_or output file
 out_same None stored file e = e
 out_same (Some out) stored file e = refl
+
+-- checks that hold, all of them
+all-hold : (cs : List Check) → AllHold cs → all_hold cs ≡ true
+all-hold [] h = refl
+all-hold (c ∷ cs) h = ap₂ (λ (x y : Bool). x && y) h.0 (all-hold cs h.1)
+
+pub all-without : (n : Node) (cs : List Check) → first_fault n cs ≡ None → all_hold cs ≡ true
+all-without n cs e = all-hold cs (all_hold_unless n cs e)
+
+-- and not all, where there is a fault
+pub none-with : (n : Node) (cs : List Check) (e : PolarsError) → first_fault n cs ≡ Some e → all_hold cs ≡ false
+none-with n [] e h = cc
+none-with n (c ∷ cs) e h = at c.holds h (λ k. none-with n cs e k)
+  where
+    at : (b : Bool) → cond b (first_fault n cs) (Some (c.fault (at_node n c.place))) ≡ Some e → (first_fault n cs ≡ Some e → all_hold cs ≡ false) → (b && all_hold cs) ≡ false
+    at true q r = r q
+    at false q r = refl
+
+-- a fault that isn't want of memory is the one that is told
+pub fault-told : (e : PolarsError) (fault : Option PolarsError) → wants_memory e ≡ false → Says {A = Columns} (Err e) fault → fault ≡ Some e
+fault-told OutOfMemory fault w h = cc
+fault-told (SchemaFieldNotFound a) fault w h = h
+fault-told (Duplicate a) fault w h = h
+fault-told (SchemaMismatch a) fault w h = h
+fault-told (InvalidOperation a) fault w h = h
+fault-told (ComputeError a) fault w h = h
 
 -- per node
 stored-by : (op : Op) (ss : List Columns) → AllHold (checks op ss) → stored_by op ss ≡ schema_by op ss
@@ -36,6 +65,9 @@ stored-by (hstack es schema options) [] good = cc
 stored-by (hstack es schema options) (s ∷ t ∷ ss) good = cc
 stored-by (sort keys part options) ss good = refl
 stored-by (distinct options) ss good = refl
+stored-by (map_function function) (s ∷ []) good = ap (λ (b : Bool). cond b (function_schema function s) []) (all-hold (function_checks function s) good)
+stored-by (map_function function) [] good = cc
+stored-by (map_function function) (s ∷ t ∷ ss) good = cc
 stored-by (sink payload) ss good = refl
 stored-by (union options) ss good = refl
 stored-by (cache id hits) ss good = refl

@@ -1,5 +1,5 @@
 -- What a plan says it has, by its node.
-use Rattle.std.proofs.Common.{◌≡◌, List, [], ◌∷◌, Some, None, refl, sym, ap, ◌∙◌}
+use Rattle.std.proofs.Common.{◌≡◌, List, [], ◌∷◌, Some, None, Ok, Err, Result, IfOk, refl, sym, ap, ◌∙◌}
 use Rattle.std.specs.List.{slice_get}
 use Rattle.plan_core.specs.declared.arena.Node.{Node}
 use Rattle.plan_tree.specs.Rose.{rose, no_roses, more, join}
@@ -9,11 +9,30 @@ use Rattle.plan_tree.proofs.ReadLemmas.{trees_at-is, tree_at-is}
 use Rattle.plan_tree.proofs.TreeLemmas.{opened}
 use Rattle.plan_expr.specs.declared.aexpr.AExpr.{AExpr}
 use Rattle.plan_ir.specs.declared.ir.IR.{IR}
-use Rattle.plan_ir.specs.Parts.{plan_shape, inputs_of}
+use Rattle.plan_ir.specs.Parts.{IsPlan, plan_shape, inputs_of}
 use Rattle.plan_ir.specs.Plans.{op_at, plans_of, plans_at, bare}
-use Rattle.plan_meaning.specs.Typing.{first_schema}
-use Rattle.plan_schema.specs.Stored.{stored_by, stored_all}
+use Rattle.plan_meaning.specs.PlanAt.{plan_at}
+use Rattle.plan_meaning.specs.Steps.{IsValid}
+use Rattle.plan_meaning.specs.Typing.{first_schema, schema}
+use Rattle.plan_schema.specs.declared.stored.StoredSchema.{StoredSchema}
+use Rattle.plan_schema.specs.Stored.{columns_told, stored_by, stored_all}
+use Rattle.plan_schema.proofs.StoredLemmas.{stored-is}
 
+-- what is told is what the plan at a number says it has
+abbrev pub Tells : List IR → Node → StoredSchema → Type 0
+Tells lp n told = (ex : List AExpr) → columns_told told ≡ first_schema (stored_all (bare (plans_at lp ex (n ∷ []))))
+
+-- what is told of one plan is told of another that says the same
+pub tells_up : {E : Type 0} (r : Result StoredSchema E) (lp : List IR) (n m : Node) → ((ex : List AExpr) → first_schema (stored_all (bare (plans_at lp ex (m ∷ [])))) ≡ first_schema (stored_all (bare (plans_at lp ex (n ∷ []))))) → IfOk r (Tells lp m) → IfOk r (Tells lp n)
+tells_up (Ok told) lp n m same h = λ ex. h ex ∙ same ex
+tells_up (Err e) lp n m same h = tt
+
+-- of a valid plan they are its columns
+pub tells_valid : {E : Type 0} (r : Result StoredSchema E) (lp : List IR) (n : Node) → IfOk r (Tells lp n) → IfOk r (λ (told : StoredSchema). (ex : List AExpr) → IsPlan lp ex n → IsValid (plan_at lp ex n) → columns_told told ≡ schema (plan_at lp ex n))
+tells_valid (Ok told) lp n h = λ ex plan valid. h ex ∙ stored-is lp ex n plan valid
+tells_valid (Err e) lp n h = tt
+
+-- what a plan says it has, by what its inputs say
 pub stored_open : (lp : List IR) (ex : List AExpr) (n : Node) (p : IR) → ((t : Trees IR) × StandsOnce plan_shape lp (n ∷ []) t) → slice_get lp n.0 ≡ Some p → stored_by (op_at ex p) (stored_all (bare (plans_at lp ex (inputs_of p)))) ≡ first_schema (stored_all (bare (plans_at lp ex (n ∷ []))))
 stored_open lp ex n p h e =
     let o = opened plan_shape lp n p h.0 h.1 e in

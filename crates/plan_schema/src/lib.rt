@@ -3,4 +3,4 @@
 
 mod stored;
 
-pub use stored::stored_schema;
+pub use stored::{StoredSchema, stored_schema};

@@ -44,14 +44,14 @@ fn row_index_schema(
     alloc: Global,
     node: Node,
     name: &PlSmallStr,
-    schema: Schema,
+    schema: &Schema,
 ) -> PolarsResult<Schema>
-    ensures { (offset : Option ℕ) → IsNodeTyped result node (map_function (RowIndex name.now offset)) (schema ∷ []) }
+    ensures { (offset : Option ℕ) → IsNodeTyped result node (map_function (RowIndex name.now offset)) (schema.now ∷ []) }
 {
     if schema.get(name.as_str()).is_some() {
         return Err(PolarsError::Duplicate(at(node, 0)));
     }
-    let mut numbered = schema;
+    let mut numbered = schema.try_clone(alloc)?;
     numbered.insert_at_index(0, name.try_clone(alloc)?, DataType::Int64)?;
     Ok(numbered)
 }
@@ -61,13 +61,13 @@ pub fn function_schema(
     alloc: Global,
     node: Node,
     function: &FunctionIR,
-    schema: Schema,
+    schema: &Schema,
 ) -> PolarsResult<Schema>
-    ensures { IsNodeTyped result node (map_function function.now) (schema ∷ []) }
+    ensures { IsNodeTyped result node (map_function function.now) (schema.now ∷ []) }
 {
     match function {
         FunctionIR::Rename { existing, new, .. } => {
-            rename_schema(alloc, node, existing.as_slice(), new.as_slice(), &schema)
+            rename_schema(alloc, node, existing.as_slice(), new.as_slice(), schema)
         }
         FunctionIR::RowIndex { name, .. } => row_index_schema(alloc, node, name, schema),
     }
