@@ -4,17 +4,18 @@ use Rattle.plan_core.specs.Columns.{Columns, names_of}
 use Rattle.plan_core.specs.Names.{with_names}
 use Rattle.plan_tree.specs.Rose.{Roses, rose, no_roses, more}
 use Rattle.plan_expr.specs.Exprs.{Named}
-use Rattle.plan_ir.specs.Plans.{Op, slice, filter, scan, frame_scan, simple_projection, select, hstack, sort, distinct, sink, union, cache, invalid}
+use Rattle.plan_ir.specs.declared.functions.FunctionIR.{FunctionIR}
+use Rattle.plan_ir.specs.Plans.{Op, slice, filter, scan, frame_scan, simple_projection, select, hstack, sort, distinct, map_function, sink, union, cache, invalid}
 use Rattle.plan_meaning.specs.Typing.{is_empty, names_or, first_schema, schema_by, schemas, checks, AllHold, AllValid}
 use Rattle.plan_meaning.specs.Relating.{Asked, all, names, cached}
-use Rattle.plan_meaning.specs.Asked.{set_of, with_more, asks_columns, kept_exprs, selected_exprs, all_leaves, needed_names, asks_selected, asks_added, asks_stacked, asks_alike, asks as asks_of, IsFair}
+use Rattle.plan_meaning.specs.Asked.{set_of, with_more, asks_columns, kept_exprs, selected_exprs, all_leaves, needed_names, asks_selected, asks_added, asks_stacked, asks_function, asks_alike, asks as asks_of, IsFair}
 use Rattle.plan_meaning.specs.Asked as asked
 use Rattle.plan_meaning.specs.Counting.{is_closed, stand_ins, first_stand_in}
 use Rattle.plan_meaning.proofs.NameSets.{has_first, keeps_names}
 use Rattle.plan_meaning.proofs.StandIns.{are_stand_ins}
 use Rattle.plan_meaning.proofs.Fairness.{some_name, fair_asks, FairAll}
 use Rattle.plan_expr.specs.Leaves.{Name, leaves}
-use Rattle.plan_narrowing.specs.Pruned.{asked_with, kept, added_names, stacked_names, asks, asks_plans}
+use Rattle.plan_narrowing.specs.Pruned.{asked_with, kept, added_names, stacked_names, mapped_names, asks, asks_plans}
 use Rattle.plan_schema.specs.Stored.{stored_all}
 use Rattle.plan_schema.proofs.StoredLemmas.{stored-schemas}
 
@@ -69,6 +70,11 @@ pub selected_asks : (es : List Named) (o : Option Name) (l : List Name) → asks
 selected_asks es o [] = refl
 selected_asks es o (a ∷ l) = refl
 
+-- what a function asks
+pub function_asks : (f : FunctionIR) (l : List Name) (s : Columns) → asks_function f (set_of l) s ≡ set_of (mapped_names l f s)
+function_asks f [] s = refl
+function_asks f (a ∷ l) s = refl
+
 -- the same asked of each input of a union
 alike_each : (a : Asked) (ts : Roses (Unit {0}) Op) → asks_alike a (schemas ts) ≡ each_asked a ts
 alike_each a no_roses = refl
@@ -108,6 +114,11 @@ asks-each l (distinct options) (more (rose m op us) no_roses) opens good v =
     ap (λ (x : Asked). x ∷ []) (more-is l (names_or options.subset (names_of (first_schema (schemas t)))) ∙ ap (λ (ss : List Columns). set_of (asked_with l (names_or options.subset (names_of (first_schema ss))))) (sym (stored-schemas t v)))
 asks-each l (distinct options) (more (rose m op us) (more (rose k q vs) rest)) opens good v = cc
 asks-each l (distinct options) no_roses opens good v = cc
+asks-each l (map_function function) (more (rose m op us) no_roses) opens good v =
+    let t = more (rose m op us) no_roses in
+    ap (λ (x : Asked). x ∷ []) (function_asks function l (first_schema (schemas t)) ∙ ap (λ (ss : List Columns). set_of (mapped_names l function (first_schema ss))) (sym (stored-schemas t v)))
+asks-each l (map_function function) (more (rose m op us) (more (rose k q vs) rest)) opens good v = cc
+asks-each l (map_function function) no_roses opens good v = cc
 asks-each l (sink payload) (more (rose m op us) no_roses) opens good v = refl
 asks-each l (sink payload) (more (rose m op us) (more (rose k q vs) rest)) opens good v = cc
 asks-each l (sink payload) no_roses opens good v = cc

@@ -1,7 +1,7 @@
 -- Below a cache everything is asked as cached: all that is there is read and made.
 use Rattle.std.proofs.Common.{◌≡◌, ◌≤◌, List, [], ◌∷◌, ◌++◌, length, refl, sym, ap, subst, arith, append_assoc}
 use Rattle.plan_tree.specs.Rose.{Roses, rose, no_roses, more}
-use Rattle.plan_ir.specs.Plans.{Op, slice, filter, scan, frame_scan, simple_projection, select, hstack, sort, distinct, sink, union, cache, invalid}
+use Rattle.plan_ir.specs.Plans.{Op, slice, filter, scan, frame_scan, simple_projection, select, hstack, sort, distinct, map_function, sink, union, cache, invalid}
 use Rattle.plan_meaning.specs.Typing.{schemas, checks, AllHold, AllValid}
 use Rattle.plan_meaning.specs.Relating.{Asked, cached}
 use Rattle.plan_meaning.specs.Scans.{own_scan, scans_in}
@@ -20,6 +20,7 @@ asks-cached (select es stored options) (more (rose n o us) no_roses) good = refl
 asks-cached (hstack es stored options) (more (rose n o us) no_roses) good = refl
 asks-cached (sort keys part options) (more (rose n o us) no_roses) good = refl
 asks-cached (distinct options) (more (rose n o us) no_roses) good = refl
+asks-cached (map_function function) (more (rose n o us) no_roses) good = refl
 asks-cached (sink payload) (more (rose n o us) no_roses) good = refl
 asks-cached (cache id hits) (more (rose n o us) no_roses) good = refl
 asks-cached (scan sources info predicate output kind options) no_roses good = refl
@@ -49,6 +50,7 @@ own_reads (select es stored options) = tt
 own_reads (hstack es stored options) = tt
 own_reads (sort keys part options) = tt
 own_reads (distinct options) = tt
+own_reads (map_function function) = tt
 own_reads (sink payload) = tt
 own_reads (union options) = tt
 own_reads (cache id hits) = tt
@@ -76,6 +78,7 @@ own_makes (filter p) = omega arith
 own_makes (simple_projection cs) = omega arith
 own_makes (sort keys part options) = omega arith
 own_makes (distinct options) = omega arith
+own_makes (map_function function) = omega arith
 own_makes (sink payload) = omega arith
 own_makes (union options) = omega arith
 own_makes (cache id hits) = omega arith

@@ -7,6 +7,10 @@ mod ProjectionNarrows
 mod ScanNarrows
 mod MadeNarrows
 mod OrderNarrows
+mod FunctionParts
+mod IndexNarrows
+mod RenameNarrows
+mod FunctionNarrows
 mod SelectNarrows
 mod StackNarrows
 mod FrameNarrows

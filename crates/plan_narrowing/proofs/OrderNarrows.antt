@@ -129,7 +129,7 @@ alike_same l m f g sets same = fun_ext (λ (i : ℕ). fun_ext (λ (j : ℕ).
     (alike_from m l g f i j (λ a k. sym (sets a) ∙ k) (λ a k. sym (same a (sym (sets a) ∙ k))))))
 
 -- the names of a frame's columns
-names-are : (h : ℕ) (cs : List Column) (s : Columns) → HaveTypes h cs s → column_names cs ≡ names_of s
+pub names-are : (h : ℕ) (cs : List Column) (s : Columns) → HaveTypes h cs s → column_names cs ≡ names_of s
 names-are h [] [] k = refl
 names-are h (c ∷ cs) (s ∷ ss) k = ap₂ (λ (a : Name) (l : List Name). a ∷ l) k.0 (names-are h cs ss k.3)
 names-are h [] (s ∷ ss) k = absurd k

@@ -12,8 +12,10 @@ use Rattle.plan_ir.specs.declared.scan.FileInfo.{FileInfo}
 use Rattle.plan_ir.specs.declared.scan.FileScan.{FileScan}
 use Rattle.plan_ir.specs.declared.scan.ScanSources.{ScanSources}
 use Rattle.plan_expr.specs.Exprs.{Named}
-use Rattle.plan_ir.specs.Plans.{Op, slice, filter, scan, frame_scan, simple_projection, select, hstack, sort, distinct, sink, union, cache, invalid, Plan}
+use Rattle.plan_ir.specs.declared.functions.FunctionIR.{FunctionIR}
+use Rattle.plan_ir.specs.Plans.{Op, slice, filter, scan, frame_scan, simple_projection, select, hstack, sort, distinct, map_function, sink, union, cache, invalid, Plan}
 use Rattle.plan_meaning.specs.Typing.{columns_or, file_columns, first_schema, names_or, out_names, made_schema, schema_by, schema, schemas, checks, AllHold, AllValid}
+use Rattle.plan_meaning.specs.Functions.{function_schema}
 use Rattle.plan_meaning.specs.Steps.{made, IsValid}
 use Rattle.plan_meaning.specs.Relating.{Refines, Asked, all, names, NarrowColumns, AgreeOn, Narrows}
 use Rattle.plan_meaning.specs.Asked.{set_of, kept_exprs, selected_exprs, needed_names, all_leaves, asks_added, Fair, IsFair}
@@ -25,14 +27,15 @@ use Rattle.plan_meaning.proofs.Related.{SchemasRelated, AllRelate, relates_node,
 use Rattle.plan_meaning.proofs.Fairness.{FairAll}
 use Rattle.plan_meaning.proofs.KeptExprs.{selected-all}
 use Rattle.plan_expr.specs.Leaves.{Name}
-use Rattle.plan_narrowing.specs.Pruned.{asked_with, kept, pruned_output, typed_names, reading, projected, stacked_names, pruned_select, stacked, pruned_hstack, asks, asks_plans, left_below, rebuilt, top_below, top_after, pruned, pruned_all}
+use Rattle.plan_narrowing.specs.Pruned.{asked_with, kept, pruned_output, typed_names, reading, projected, stacked_names, mapped_names, pruned_select, stacked, pruned_hstack, asks, asks_plans, left_below, rebuilt, top_below, top_after, pruned, pruned_all}
 use Rattle.plan_schema.specs.Stored.{stored_all}
-use Rattle.plan_narrowing.proofs.AskedNames.{set_some, kept-is, more-is, filter_asks, stacked_asks, each_asked, fair_each}
+use Rattle.plan_narrowing.proofs.AskedNames.{set_some, kept-is, more-is, filter_asks, stacked_asks, function_asks, each_asked, fair_each}
 use Rattle.plan_narrowing.proofs.NarrowLemmas.{Local, same_one, same_none, local_filter, local_slice}
 use Rattle.plan_narrowing.proofs.MadeNarrows.{SameLeaves, none_selected, needed_types, needed_frames}
 use Rattle.plan_narrowing.proofs.CoverNarrows.{narrows_self, covered_narrows}
 use Rattle.plan_narrowing.proofs.UnionNarrows.{union_narrows}
 use Rattle.plan_narrowing.proofs.OrderNarrows.{local_sort, local_distinct, local_sink}
+use Rattle.plan_narrowing.proofs.FunctionNarrows.{local_function}
 use Rattle.plan_narrowing.proofs.SelectNarrows.{local_selected, whole_selected}
 use Rattle.plan_narrowing.proofs.StackNarrows.{dropped_holds, dropped_agrees, local_added}
 use Rattle.plan_schema.proofs.StoredLemmas.{stored-schemas}
@@ -149,6 +152,17 @@ distinct_narrows options l rs t s is v h =
 sink_narrows : (payload : SinkType) (l : List Name) (rs : Roses (Unit {0}) Op) (t : Plan) (s : Columns) → schemas (more t no_roses) ≡ s ∷ [] → IsValid (rose tt (sink payload) (more t no_roses)) → AllNarrow (set_of l ∷ []) rs (more t no_roses) → Narrows (rose tt (sink payload) rs) (rose tt (sink payload) (more t no_roses)) (set_of l)
 sink_narrows payload l rs t s is v h = one_narrows (sink payload) (sink payload) (set_of l) (set_of l) rs t s is v h (λ r q. local_sink payload (set_of l) r s q)
 
+-- functions
+
+function_narrows : (f : FunctionIR) (l : List Name) (rs : Roses (Unit {0}) Op) (t : Plan) (s : Columns) → schemas (more t no_roses) ≡ s ∷ [] → IsValid (rose tt (map_function f) (more t no_roses)) → IsFair (set_of l) (function_schema f s) → AllNarrow (set_of (mapped_names l f s) ∷ []) rs (more t no_roses) → Narrows (rose tt (map_function f) rs) (rose tt (map_function f) (more t no_roses)) (set_of l)
+function_narrows f l rs t s is v fair h =
+    let op = map_function f in
+    let a = set_of (mapped_names l f s) in
+    let good : AllHold (checks op (s ∷ [])) = subst (λ (ss : List Columns). AllHold (checks op ss)) is v.0 in
+    one_narrows op op a (set_of l) rs t s is v h (λ r q.
+    subst (λ (x : Asked). Local op op (x ∷ []) (set_of l) (r ∷ []) (s ∷ [])) (function_asks f l s)
+    (local_function f (set_of l) r s good fair (subst (λ (x : Asked). NarrowColumns x r s) (sym (function_asks f l s)) q)))
+
 -- selections
 
 select_narrows : (es : List Named) (stored : Columns) (options : ProjectionOptions) (o : Option Name) (l : List Name) (rs : Roses (Unit {0}) Op) (t : Plan) (s : Columns) → schemas (more t no_roses) ≡ s ∷ [] → IsValid (rose tt (select es stored options) (more t no_roses)) → IsFair (set_of l) (made_schema [] es s) → AllNarrow (set_of (needed_names es o (selected_exprs (set_of l) es)) ∷ []) rs (more t no_roses) → Narrows (pruned_select l es stored options rs) (rose tt (select es stored options) (more t no_roses)) (set_of l)
@@ -246,6 +260,11 @@ rebuilt_narrows top l (distinct options) rs (more (rose n o us) no_roses) opens 
     (subst (λ (ss : List Columns). AllNarrow (set_of (asked_with l (names_or options.subset (names_of (first_schema ss)))) ∷ []) rs (more (rose n o us) no_roses)) (stored-schemas (more (rose n o us) no_roses) v.1) h)
 rebuilt_narrows top l (distinct options) rs (more (rose n o us) (more (rose m o' us') rest)) opens v fair h = cc
 rebuilt_narrows top l (distinct options) rs no_roses opens v fair h = cc
+rebuilt_narrows top l (map_function function) rs (more (rose n o us) no_roses) opens v fair h =
+    function_narrows function l rs (rose n o us) (schema_by o (schemas us)) refl v fair
+    (subst (λ (ss : List Columns). AllNarrow (set_of (mapped_names l function (first_schema ss)) ∷ []) rs (more (rose n o us) no_roses)) (stored-schemas (more (rose n o us) no_roses) v.1) h)
+rebuilt_narrows top l (map_function function) rs (more (rose n o us) (more (rose m o' us') rest)) opens v fair h = cc
+rebuilt_narrows top l (map_function function) rs no_roses opens v fair h = cc
 rebuilt_narrows top l (sink payload) rs (more (rose n o us) no_roses) opens v fair h = sink_narrows payload l rs (rose n o us) (schema_by o (schemas us)) refl v h
 rebuilt_narrows top l (sink payload) rs (more (rose n o us) (more (rose m o' us') rest)) opens v fair h = cc
 rebuilt_narrows top l (sink payload) rs no_roses opens v fair h = cc

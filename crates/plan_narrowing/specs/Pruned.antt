@@ -10,7 +10,7 @@ use Rattle.plan_ir.specs.declared.scan.FileInfo.{FileInfo}
 use Rattle.plan_ir.specs.declared.scan.FileScan.{FileScan}
 use Rattle.plan_ir.specs.declared.scan.ScanSources.{ScanSources}
 use Rattle.plan_expr.specs.Exprs.{Named}
-use Rattle.plan_ir.specs.Plans.{Op, slice, filter, scan, frame_scan, simple_projection, select, hstack, sort, distinct, sink, union, cache, invalid, Plan}
+use Rattle.plan_ir.specs.Plans.{Op, slice, filter, scan, frame_scan, simple_projection, select, hstack, sort, distinct, map_function, sink, union, cache, invalid, Plan}
 use Rattle.plan_core.specs.declared.options.ProjectionOptions.{ProjectionOptions}
 use Rattle.plan_core.specs.Columns.{with_types}
 use Rattle.plan_expr.specs.Leaves.{Name, leaves}
@@ -18,7 +18,8 @@ use Rattle.plan_meaning.specs.Typing.{first_schema, names_or, out_names}
 use Rattle.plan_meaning.specs.PlanAt.{one_plan}
 use Rattle.plan_meaning.specs.Relating.{names as these}
 use Rattle.plan_meaning.specs.Counting.{is_closed, is_count, meets_count, stand_ins, first_stand_in}
-use Rattle.plan_meaning.specs.Asked.{set_of, kept_exprs, selected_exprs, all_leaves, needed_names}
+use Rattle.plan_ir.specs.declared.functions.FunctionIR.{FunctionIR}
+use Rattle.plan_meaning.specs.Asked.{function_names, set_of, kept_exprs, selected_exprs, all_leaves, needed_names}
 use Rattle.plan_schema.specs.Stored.{stored_all}
 
 -- the asked names with more, each last unless it is there; asked nothing, nothing
@@ -118,6 +119,11 @@ abbrev pub pruned_hstack : List Name → List Named → Columns → ProjectionOp
 pruned_hstack [] es schema options inputs = rose tt (hstack es schema options) inputs
 pruned_hstack (a ∷ asked) es schema options inputs = stacked (kept_exprs (these (a ∷ asked)) es) schema options inputs
 
+-- what a function asks: asked something, the names that it needs; asked nothing, nothing
+abbrev pub mapped_names : List Name → FunctionIR → Columns → List Name
+mapped_names [] function s = []
+mapped_names (a ∷ asked) function s = function_names function (a ∷ asked) s
+
 -- what a node that is asked names asks its inputs, by the columns that these say they have and those that stand in for their rows
 abbrev pub asks : List Name → Op → List Columns → List (Option Name) → List Name
 asks asked (slice offset len) ss os = asked
@@ -129,6 +135,7 @@ asks asked (hstack exprs schema options) ss os = stacked_names asked exprs (firs
 asks asked (simple_projection columns) ss os = with_names [] (names_of (kept asked columns))
 asks asked (sort keys part options) ss os = asked_with asked (all_leaves keys)
 asks asked (distinct options) ss os = asked_with asked (names_or options.subset (names_of (first_schema ss)))
+asks asked (map_function function) ss os = mapped_names asked function (first_schema ss)
 asks asked (sink payload) ss os = asked
 asks asked (union options) ss os = asked
 asks asked (cache id hits) ss os = []
@@ -145,6 +152,7 @@ rebuilt top asked (hstack exprs schema options) inputs = pruned_hstack asked exp
 rebuilt top asked (simple_projection columns) inputs = rose tt (simple_projection (kept asked columns)) inputs
 rebuilt top asked (sort keys part options) inputs = rose tt (sort keys part options) inputs
 rebuilt top asked (distinct options) inputs = rose tt (distinct options) inputs
+rebuilt top asked (map_function function) inputs = rose tt (map_function function) inputs
 rebuilt top asked (sink payload) inputs = rose tt (sink payload) inputs
 rebuilt top asked (union options) inputs = rose tt (union options) (covered_if (are_several inputs) asked inputs)
 rebuilt top asked (cache id hits) inputs = covered asked (rose tt (cache id hits) inputs)

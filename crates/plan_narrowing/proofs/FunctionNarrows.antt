@@ -1,0 +1,59 @@
+-- A function over an input that narrows at what it asks.
+use Rattle.std.proofs.Common.{◌≡◌, Bool, true, false, not, cond, List, [], ◌∷◌, map, Option, Some, None, is_some, unwrap_or, refl, sym, ap, ◌∙◌, subst}
+use Rattle.std.specs.Str.{bytes_eq}
+use Rattle.plan_core.specs.declared.data_type.DataType.{DataType}
+use Rattle.plan_core.specs.Columns.{Columns, names_of, type_of}
+use Rattle.plan_core.specs.Names.{has}
+use Rattle.plan_ir.specs.declared.functions.FunctionIR.{FunctionIR}
+use Rattle.plan_ir.specs.declared.functions.FunctionIR.TheVariants.{Rename, RowIndex}
+use Rattle.plan_ir.specs.Plans.{map_function}
+use Rattle.plan_expr.specs.Leaves.{Name}
+use Rattle.plan_meaning.specs.Functions.{function_schema}
+use Rattle.plan_meaning.specs.Mapped.{mapped}
+use Rattle.plan_meaning.specs.Typing.{function_checks, AllHold}
+use Rattle.plan_meaning.specs.Frames.{Frame, HasSchema, Agree}
+use Rattle.plan_meaning.specs.Relating.{Asked, all, names as these, cached, Holding, NarrowColumns, AgreeOn}
+use Rattle.plan_meaning.specs.Asked.{set_of, function_names, asks_function, Fair, IsFair}
+use Rattle.plan_narrowing.proofs.NarrowLemmas.{Local, one_step, same_one, same_cached}
+use Rattle.plan_narrowing.proofs.ProjectionNarrows.{some_is}
+use Rattle.plan_narrowing.proofs.FunctionParts.{FunctionKept}
+use Rattle.plan_narrowing.proofs.RenameNarrows.{rename_kept}
+use Rattle.plan_narrowing.proofs.IndexNarrows.{index_kept}
+
+-- columns hold what can be asked of them
+self_holds : (wanted : List Name) (s : Columns) → Fair wanted s → Holding wanted s s
+self_holds wanted s fair = record {
+  held = λ a i. let t = some_is (type_of s a) (fair.known a i) in (t.0, t.1, t.1);
+  within = λ a e. e;
+}
+
+-- per function
+kept_by : (f : FunctionIR) (wanted : List Name) (r s : Columns) → AllHold (function_checks f s) → Fair wanted (function_schema f s) → Holding (function_names f wanted s) r s → FunctionKept f wanted r s
+kept_by (Rename existing new swapping) wanted r s good fair h = rename_kept existing new swapping wanted r s good fair h
+kept_by (RowIndex name offset) wanted r s good fair h = index_kept name offset wanted r s good fair h
+
+-- where it needs names, those are kept; where it needs none, everything is
+local_named : (f : FunctionIR) (wanted : List Name) (r s : Columns) → AllHold (function_checks f s) → Fair wanted (function_schema f s) → (needed : List Name) → function_names f wanted s ≡ needed → NarrowColumns (set_of needed) r s → Local (map_function f) (map_function f) (set_of needed ∷ []) (these wanted) (r ∷ []) (s ∷ [])
+local_named f wanted r s good fair [] is h =
+    subst (λ (x : Columns). Local (map_function f) (map_function f) (all ∷ []) (these wanted) (x ∷ []) (s ∷ [])) (sym h) (record {
+      good = good;
+      schema = self_holds wanted (function_schema f s) fair;
+      fits = λ c k. k;
+      step = λ c fs gs g k hr has ag st. one_step c (map_function f) (map_function f) all (these wanted) s s
+          (λ f0 g0 g hr hs e t. (mapped f g0, refl, subst (λ (x : Frame). Agree wanted x (mapped f g0)) (sym (t ∙ ap (mapped f) e)) (record { height = refl; same = λ a i. refl }))) fs gs g hr has ag st;
+    })
+local_named f wanted r s good fair (n ∷ needed) is h =
+    let kept = kept_by f wanted r s good fair (subst (λ (l : List Name). Holding l r s) (sym is) h) in
+    record {
+      good = kept.good;
+      schema = kept.schema;
+      fits = λ c k. k;
+      step = λ c fs gs g k hr has ag st. one_step c (map_function f) (map_function f) (these (n ∷ needed)) (these wanted) r s
+          (λ f0 g0 g hr hs ag t. (mapped f g0, refl, subst (λ (x : Frame). Agree wanted x (mapped f g0)) (sym t) (kept.agrees f0 g0 hr hs (subst (λ (l : List Name). Agree l f0 g0) (sym is) ag)))) fs gs g hr has ag st;
+    }
+
+-- a function over an input that narrows at what it asks narrows at what it is asked
+pub local_function : (f : FunctionIR) (a : Asked) (r s : Columns) → AllHold (function_checks f s) → IsFair a (function_schema f s) → NarrowColumns (asks_function f a s) r s → Local (map_function f) (map_function f) (asks_function f a s ∷ []) a (r ∷ []) (s ∷ [])
+local_function f all r s good fair h = subst (λ (x : Columns). Local (map_function f) (map_function f) (all ∷ []) all (x ∷ []) (s ∷ [])) (sym h) (same_one (map_function f) s good)
+local_function f (these wanted) r s good fair h = local_named f wanted r s good fair (function_names f wanted s) refl h
+local_function f cached r s good fair h = subst (λ (x : Columns). Local (map_function f) (map_function f) (cached ∷ []) cached (x ∷ []) (s ∷ [])) (sym h) (same_cached (map_function f) s good)

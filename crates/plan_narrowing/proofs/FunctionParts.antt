@@ -1,0 +1,17 @@
+-- What has to be shown of a function over an input that narrows at the names that it needs.
+use Rattle.std.proofs.Common.{List}
+use Rattle.plan_core.specs.Columns.{Columns}
+use Rattle.plan_ir.specs.declared.functions.FunctionIR.{FunctionIR}
+use Rattle.plan_expr.specs.Leaves.{Name}
+use Rattle.plan_meaning.specs.Functions.{function_schema}
+use Rattle.plan_meaning.specs.Mapped.{mapped}
+use Rattle.plan_meaning.specs.Typing.{function_checks, AllHold}
+use Rattle.plan_meaning.specs.Frames.{Frame, HasSchema, Agree}
+use Rattle.plan_meaning.specs.Relating.{Holding}
+use Rattle.plan_meaning.specs.Asked.{function_names}
+
+-- its checks hold, its columns narrow at what is asked, and frames that agree on what it needs become such that agree on that
+pub record FunctionKept (f : FunctionIR) (wanted : List Name) (r s : Columns) : Type 0 where
+  pub good : AllHold (function_checks f r)
+  pub schema : Holding wanted (function_schema f r) (function_schema f s)
+  pub agrees : (f0 g0 : Frame) → HasSchema f0 r → HasSchema g0 s → Agree (function_names f wanted s) f0 g0 → Agree wanted (mapped f f0) (mapped f g0)
