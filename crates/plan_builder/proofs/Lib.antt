@@ -1,5 +1,6 @@
 -- The lemmas of this crate.
 mod Faults
 pub mod Follow
+mod Standing
 mod PickLemmas
 mod TestLemmas

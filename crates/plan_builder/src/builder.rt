@@ -1,12 +1,11 @@
 //! The builder: the arenas of a plan, and the number at which the plan stands.
-ghost use Rattle.std.specs.Prelude.{◌≡◌, IfOk, None, Ok, OnErr, OnOk, slice_get, slice_set, Some};
+ghost use Rattle.std.specs.Prelude.{◌≡◌, IfOk, Ok, OnErr, OnOk, slice_get, slice_set, Some};
 ghost use Rattle.std.specs.Borrow.{sem};
 ghost use Rattle.plan_ir.specs.declared.ir.IR.TheVariants.{Invalid};
-ghost use Rattle.plan_meaning.specs.TreeFaults.{tree_fault};
 ghost use Rattle.plan_meaning.specs.Typed.{typed};
 ghost use Rattle.plan_builder.specs.Builds.{Adds, columns_at, IsBuilt, MayFollow, Stays};
 
-use plan_core::{Arena, Node, Schema, TryClone};
+use plan_core::{Arena, Node, Schema};
 use plan_expr::AExpr;
 use plan_ir::IR;
 use plan_schema::stored_schema;
@@ -94,9 +93,8 @@ impl<'a> IRBuilder<'a> {
     pub fn schema(&self, alloc: Global) -> Result<Schema, AllocError>
         requires { IsBuilt self.now.lp_arena.now self.now.expr_arena.now self.now.root }
         ensures columns { IfOk result (λ columns. columns ≡ columns_at self.now.lp_arena.now self.now.expr_arena.now self.now.root) }
-        ensures typed { IfOk result (λ columns. tree_fault self.now.lp_arena.now self.now.expr_arena.now self.now.root ≡ None → typed self.now.lp_arena.now self.now.expr_arena.now self.now.root ≡ Ok columns) }
+        ensures typed { IfOk result (λ columns. typed self.now.lp_arena.now self.now.expr_arena.now self.now.root ≡ Ok columns) }
     {
-        let none = Schema::new(alloc);
-        stored_schema(self.root, self.lp_arena, &none).try_clone(alloc)
+        stored_schema(alloc, self.root, self.lp_arena)?.into_schema(alloc)
     }
 }

@@ -2,6 +2,7 @@
 #![tactic(auto)]
 
 mod builder;
+mod functions;
 pub mod laws;
 mod made;
 mod simple;

@@ -8,7 +8,6 @@ use plan_core::{Arena, Items, Node, ProjectionOptions, Schema, TryClone};
 use plan_expr::{AExpr, ExprIR};
 use plan_ir::IR;
 use plan_meaning::made_schema;
-use plan_schema::stored_schema;
 use std::alloc::{AllocError, Global};
 
 /// The expressions at these numbers, each under the name that it gives itself. Refuses where memory is short and where one of
@@ -48,10 +47,9 @@ impl IRBuilder<'_> {
         if expr.len() == 0 {
             return Ok(());
         }
-        let none = Schema::new(alloc);
-        let columns = stored_schema(self.root, self.lp_arena, &none);
+        let columns = self.schema(alloc)?;
         let base = Schema::new(alloc);
-        let schema = made_schema(alloc, base, expr.as_slice(), self.expr_arena, columns)?;
+        let schema = made_schema(alloc, base, expr.as_slice(), self.expr_arena, &columns)?;
         self.add_alp(IR::Select {
             input: self.root,
             expr,
@@ -75,10 +73,9 @@ impl IRBuilder<'_> {
         ensures refused { OnErr result (Stays self.old.lp_arena.now self.new.lp_arena.now self.old.root self.new.root) }
         ensures same_reference { self.new.lp_arena.ghost_name ≡ self.old.lp_arena.ghost_name }
     {
-        let none = Schema::new(alloc);
-        let columns = stored_schema(self.root, self.lp_arena, &none);
+        let columns = self.schema(alloc)?;
         let base = columns.try_clone(alloc)?;
-        let schema = made_schema(alloc, base, exprs.as_slice(), self.expr_arena, columns)?;
+        let schema = made_schema(alloc, base, exprs.as_slice(), self.expr_arena, &columns)?;
         self.add_alp(IR::HStack {
             input: self.root,
             exprs,

@@ -14,7 +14,6 @@ use plan_core::{
 };
 use plan_expr::{AExpr, column_node_to_name};
 use plan_ir::IR;
-use plan_schema::stored_schema;
 use std::alloc::{AllocError, Global};
 
 /// The item of this number, for a fault outside plans. A number above 4294967295 is given as 4294967295.
@@ -103,9 +102,8 @@ impl IRBuilder<'_> {
         if names.is_empty() {
             return Ok(());
         }
-        let none = Schema::new(alloc);
-        let schema = stored_schema(self.root, self.lp_arena, &none);
-        let columns = columns_of(alloc, schema, names)?;
+        let schema = self.schema(alloc)?;
+        let columns = columns_of(alloc, &schema, names)?;
         self.root = self.lp_arena.add(IR::SimpleProjection {
             input: self.root,
             columns,

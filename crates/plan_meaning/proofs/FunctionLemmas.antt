@@ -79,7 +79,7 @@ none_is x (y ∷ ys) e = (left (bytes_eq x y) (has ys x) e, none_is x ys (right 
     right true b q = cc
     right false b q = q
 
-formers_apart : (now : Name → Name) (names wanted : List Name) → AreDistinct wanted → AreDistinct (filter_map (former now names) wanted)
+pub formers_apart : (now : Name → Name) (names wanted : List Name) → AreDistinct wanted → AreDistinct (filter_map (former now names) wanted)
 unfolding IsDistinct
 formers_apart now names [] d = tt
 formers_apart now names (a ∷ wanted) d = at (former now names a) refl (formers_apart now names wanted d.1)

@@ -1,5 +1,5 @@
 -- Names under a renaming, as a map of new names by old ones has them, and lists of names that it keeps apart.
-use Rattle.std.proofs.Common.{◌≡◌, ℕ, zero, suc, ◌≤◌, ◌<◌, ◌+◌, ◌==◌, Bool, true, false, not, cond, ◌&&◌, ◌||◌, List, [], ◌∷◌, ◌++◌, map, drop, length, Option, Some, None, is_some, unwrap_or, option_map, get_or, refl, sym, ap, ap₂, ◌∙◌, subst, arith, ⊎_elim, append_assoc, one-add, Bor}
+use Rattle.std.proofs.Common.{◌≡◌, ℕ, zero, suc, ◌≤◌, ◌<◌, ◌+◌, ◌==◌, Bool, true, false, not, cond, ◌&&◌, ◌||◌, List, [], ◌∷◌, ◌++◌, map, drop, length, Option, Some, None, is_some, unwrap_or, option_map, get_or, refl, sym, ap, ap₂, ◌∙◌, subst, arith, ⊎_elim, append_assoc, one-add, Bor, ◌⊎◌, inl, inr}
 use Rattle.std.specs.List.{list_any, slice_get}
 use Rattle.std.specs.Str.{bytes_eq}
 use Rattle.std.specs.Map.{lookup}
@@ -70,8 +70,13 @@ name_in-insert (e ∷ es) k v a = at (bytes_eq (string_bytes k) (string_bytes e.
 
 -- new names, from a place on
 
-pub new_name-end : (existing new : List Name) (i : ℕ) (a : Name) → length existing ≤ i → new_name (drop i existing) (drop i new) a ≡ None
-new_name-end existing new i a h = ap (λ (l : List Name). new_name l (drop i new) a) (drop-end existing i h)
+new_name-none : (existing : List Name) (a : Name) → new_name existing [] a ≡ None
+new_name-none [] a = refl
+new_name-none (e ∷ existing) a = refl
+
+pub new_name-end : (existing new : List Name) (i : ℕ) (a : Name) → (length existing ≤ i) ⊎ (length new ≤ i) → new_name (drop i existing) (drop i new) a ≡ None
+new_name-end existing new i a (inl h) = ap (λ (l : List Name). new_name l (drop i new) a) (drop-end existing i h)
+new_name-end existing new i a (inr h) = ap (λ (l : List Name). new_name (drop i existing) l a) (drop-end new i h) ∙ new_name-none (drop i existing) a
 
 pub new_name-at : (existing new : List Name) (i : ℕ) (e n a : Name) → slice_get existing i ≡ Some e → slice_get new i ≡ Some n → new_name (drop i existing) (drop i new) a ≡ cond (bytes_eq a e) (Some n) (new_name (drop (suc i) existing) (drop (suc i) new) a)
 new_name-at existing new i e n a p q = ap₂ (λ (x y : List Name). new_name x y a) (drop-at existing i e p) (drop-at new i n q)

@@ -1,5 +1,5 @@
 //! The new names that a renaming gives.
-ghost use Rattle.std.specs.Prelude.{◌≡◌, List, ℕ, None, Some, IfNone, IfOk, IfSome, is_some, length};
+ghost use Rattle.std.specs.Prelude.{◌≡◌, List, ℕ, None, Some, IfNone, IfOk, IfSome, is_some};
 ghost use Rattle.plan_core.specs.Columns.{names_of};
 ghost use Rattle.plan_meaning.specs.Functions.{former, name_in, names_now, new_name, renamed_columns, stay_apart};
 
@@ -24,17 +24,20 @@ impl Model for Renaming {
 
 impl Renaming {
     /// The renaming that gives each of some names the new name at its place; of a name that comes twice the first place
-    /// counts. Refuses for want of memory alone.
+    /// counts, and one without a partner is left out. Refuses for want of memory alone.
     pub fn new(
         alloc: Global,
         existing: &[PlSmallStr],
         new: &[PlSmallStr],
     ) -> Result<Self, AllocError>
-        requires { length existing.now ≡ length new.now }
         ensures { IfOk result (λ names. (a : List ℕ) → name_in names a ≡ new_name existing.now new.now a) }
     {
         let mut names = IndexMap::new(alloc);
-        let mut left = existing.len();
+        let mut left = if existing.len() < new.len() {
+            existing.len()
+        } else {
+            new.len()
+        };
         while left > 0 {
             left -= 1;
             let name = String::from_str(alloc, existing[left].as_str())?;

@@ -1,5 +1,6 @@
 -- The lemmas of this crate.
 pub mod ListSteps
+mod NameSteps
 mod AddedNames
 mod NarrowLemmas
 mod AskedNames

@@ -1,9 +1,8 @@
 -- What walks over expressions find, one after another: their names, the first that isn't scalar, and the columns that they make.
 use Rattle.std.proofs.Common.{◌≡◌, ℕ, zero, suc, ◌+◌, Bool, true, false, cond, List, [], ◌∷◌, ◌++◌, take, Option, Some, None, option_map, refl, sym, ap, ◌∙◌, add-one, append-nil}
-use Rattle.std.specs.List.{slice_get, filter, cons_option}
-use Rattle.std.proofs.lemmas.List.Elements.{filter-append}
+use Rattle.std.specs.List.{slice_get, cons_option}
 use Rattle.plan_core.specs.Columns.{Columns, type_of, with_type, with_types}
-use Rattle.plan_core.specs.Names.{AreDistinct, with_name, with_names}
+use Rattle.plan_core.specs.Names.{with_names}
 use Rattle.plan_core.specs.declared.data_type.DataType.{DataType}
 use Rattle.plan_expr.specs.declared.aexpr.AExpr.{AExpr}
 use Rattle.plan_expr.specs.declared.expr_ir.ExprIR.{ExprIR}
@@ -13,7 +12,7 @@ use Rattle.plan_expr.specs.Naming.{name_of}
 use Rattle.plan_expr.specs.Scalars.{is_scalar}
 use Rattle.plan_meaning.specs.Asked.{all_leaves}
 use Rattle.plan_narrowing.specs.Pruned.{typed_names}
-use Rattle.plan_narrowing.proofs.ListSteps.{Differs, before_differ, with_name-last, with_names-append, take-next}
+use Rattle.plan_narrowing.proofs.ListSteps.{with_names-append, take-next}
 use Rattle.plan_prune.specs.Kept.{many_at, names_at, with_typed}
 
 -- expressions one after another
@@ -90,28 +89,3 @@ lacks_suc base (x ∷ es) s (suc i) e k is = go (type_of s (name_of x.output_nam
 
 pub made-skip : (base : Columns) (es : List ExprIR) (s : Columns) (i : ℕ) (e : ExprIR) → slice_get es i ≡ Some e → type_of s (name_of e.output_name) ≡ None → with_typed base (names_at (take i es)) s ≡ with_typed base (names_at (take (i + 1) es)) s
 made-skip base es s i e k is = lacks_suc base es s i e k is ∙ ap (λ (n : ℕ). with_typed base (names_at (take n es)) s) (sym (add-one i))
-
--- names that pass a test, one after another
-differs_where : (p : Name → Bool) (names : List Name) (a : Name) → Differs a names → Differs a (filter p names)
-differs_where p [] a h = tt
-differs_where p (b ∷ names) a h = go (p b) (differs_where p names a h.1)
-  where
-    go : (t : Bool) → Differs a (filter p names) → Differs a (cond t (b ∷ filter p names) (filter p names))
-    go true rest = (h.0, rest)
-    go false rest = rest
-
-pub where-next : (p : Name → Bool) (names : List Name) (i : ℕ) (a : Name) → AreDistinct names → slice_get names i ≡ Some a → p a ≡ true → with_name (filter p (take i names)) a ≡ filter p (take (i + 1) names)
-where-next p names i a h e good =
-    let one : filter p (a ∷ []) ≡ a ∷ [] = rw good refl in
-    with_name-last (filter p (take i names)) a (differs_where p (take i names) a (before_differ names i a h e))
-    ∙ ap (λ (l : List Name). filter p (take i names) ++ l) (sym one)
-    ∙ sym (filter-append p (take i names) (a ∷ []))
-    ∙ ap (filter p) (sym (take-next names i a e))
-
-pub where-skip : (p : Name → Bool) (names : List Name) (i : ℕ) (a : Name) → slice_get names i ≡ Some a → p a ≡ false → filter p (take i names) ≡ filter p (take (i + 1) names)
-where-skip p names i a e bad =
-    let one : filter p (a ∷ []) ≡ [] = rw bad refl in
-    sym (append-nil (filter p (take i names)))
-    ∙ ap (λ (l : List Name). filter p (take i names) ++ l) (sym one)
-    ∙ sym (filter-append p (take i names) (a ∷ []))
-    ∙ ap (filter p) (sym (take-next names i a e))

@@ -10,7 +10,7 @@ use Rattle.plan_tree.proofs.Frames.{front, StandsOnce-set}
 use Rattle.plan_tree.proofs.TreeLemmas.{opened}
 use Rattle.plan_expr.specs.declared.aexpr.AExpr.{AExpr}
 use Rattle.plan_ir.specs.declared.ir.IR.{IR}
-use Rattle.plan_ir.specs.declared.ir.IR.TheVariants.{Slice, Filter, Scan, DataFrameScan, SimpleProjection, Select, HStack, Sort, Distinct, Sink, Union, Cache, Invalid}
+use Rattle.plan_ir.specs.declared.ir.IR.TheVariants.{Slice, Filter, Scan, DataFrameScan, SimpleProjection, Select, HStack, Sort, Distinct, MapFunction, Sink, Union, Cache, Invalid}
 use Rattle.plan_ir.specs.Parts.{plan_shape, inputs_of, IsPlan}
 use Rattle.plan_expr.specs.Exprs.{Named, all_named_at}
 use Rattle.plan_ir.specs.Plans.{bare, op_at, plans_at, plans_of}
@@ -19,7 +19,7 @@ use Rattle.plan_core.specs.Columns.{Columns, names_of}
 use Rattle.plan_meaning.specs.Typing.{names_or}
 use Rattle.plan_meaning.specs.Counting.{is_closed, is_count, meet_count}
 use Rattle.plan_meaning.specs.Asked.{needed_names, selected_exprs, set_of}
-use Rattle.plan_narrowing.specs.Pruned.{asked_columns, asked_with, kept, pruned_output, top_below}
+use Rattle.plan_narrowing.specs.Pruned.{asked_columns, asked_with, kept, mapped_names, pruned_output, top_below}
 use Rattle.plan_prune.specs.declared.push_down.step.Step.TheVariants.{Leaf, Over, Closed, Each}
 use Rattle.plan_prune.specs.Kept.{is_some_name, names_at, selected_at, stacked_at, stored_after}
 use Rattle.plan_prune.specs.Prunes.{MarksAt, Prunes, PrunesAt}
@@ -60,6 +60,7 @@ is_over lp ex asked names (Select j es schema options) q i e = made_over i j nam
 is_over lp ex asked names (HStack j es schema options) q i e = made_over i j names _ (HStack j es schema options) q _ (λ ex. refl) refl refl e
 is_over lp ex asked names (Sort j keys part options) q i e = made_over i j names _ (Sort j keys part options) q _ (λ ex. refl) refl refl e
 is_over lp ex asked names (Distinct j options) q i e = made_over i j names _ (Distinct j options) q _ (λ ex. refl) refl refl e
+is_over lp ex asked names (MapFunction j function) q i e = made_over i j names _ (MapFunction j function) q _ (λ ex. refl) refl refl e
 is_over lp ex asked names (Sink j payload) q i e = made_over i j names _ (Sink j payload) q _ (λ ex. refl) refl refl e
 is_over lp ex asked names (Union inputs options) q i e = cc
 is_over lp ex asked names (Cache j id cache_hits) q i e = cc
@@ -77,6 +78,7 @@ kept_alone (a ∷ asked) (Select j es schema options) e = e
 kept_alone (a ∷ asked) (HStack j es schema options) e = e
 kept_alone (a ∷ asked) (Sort j keys part options) e = e
 kept_alone (a ∷ asked) (Distinct j options) e = e
+kept_alone (a ∷ asked) (MapFunction j function) e = e
 kept_alone (a ∷ asked) (Sink j payload) e = e
 kept_alone (a ∷ asked) (Union inputs options) e = e
 kept_alone (a ∷ asked) (Cache j id cache_hits) e = e
@@ -92,6 +94,7 @@ is_leaf lp ex asked (Select j es schema options) q e = cc
 is_leaf lp ex asked (HStack j es schema options) q e = cc
 is_leaf lp ex asked (Sort j keys part options) q e = cc
 is_leaf lp ex asked (Distinct j options) q e = cc
+is_leaf lp ex asked (MapFunction j function) q e = cc
 is_leaf lp ex asked (Sink j payload) q e = cc
 is_leaf lp ex asked (Union inputs options) q e = cc
 is_leaf lp ex asked (Cache j id cache_hits) q e = cc
@@ -108,6 +111,7 @@ leaf_alone lp ex asked (Select j es schema options) q e = cc
 leaf_alone lp ex asked (HStack j es schema options) q e = cc
 leaf_alone lp ex asked (Sort j keys part options) q e = cc
 leaf_alone lp ex asked (Distinct j options) q e = cc
+leaf_alone lp ex asked (MapFunction j function) q e = cc
 leaf_alone lp ex asked (Sink j payload) q e = cc
 leaf_alone lp ex asked (Union inputs options) q e = cc
 leaf_alone lp ex asked (Cache j id cache_hits) q e = cc
@@ -144,6 +148,7 @@ module _ (top : Bool) (asked : List Name) (a b z : List IR) (ex : List AExpr) (n
   leaf_pruned (HStack j es schema options) e is = cc
   leaf_pruned (Sort j keys part options) e is = cc
   leaf_pruned (Distinct j options) e is = cc
+  leaf_pruned (MapFunction j function) e is = cc
   leaf_pruned (Sink j payload) e is = cc
   leaf_pruned (Union inputs options) e is = cc
   leaf_pruned (Cache j id cache_hits) e is = cc
@@ -188,6 +193,9 @@ module _ (top low : Bool) (asked names : List Name) (a b c z : List IR) (ex : Li
   over_pruned (Distinct j options) e low_is is =
       rw (put_over _ _ _ is) (finish top low asked names a b c ex n i (Distinct j options) (Distinct j options) d t h e taken (one _ _ _ is) refl refl (λ before after x. x) refl low_is
       (named _ _ _ is ∙ ap (λ (k : Node). asked_with asked (names_or options.subset (names_of (columns_at b ex k)))) (sym (over_parts i j names _ q _ is).0)) refl below)
+  over_pruned (MapFunction j function) e low_is is =
+      rw (put_over _ _ _ is) (finish top low asked names a b c ex n i (MapFunction j function) (MapFunction j function) d t h e taken (one _ _ _ is) refl refl (λ before after x. x) refl low_is
+      (named _ _ _ is ∙ ap (λ (k : Node). mapped_names asked function (columns_at b ex k)) (sym (over_parts i j names _ q _ is).0)) refl below)
   over_pruned (Sink j payload) e low_is is =
       rw (put_over _ _ _ is) (finish top low asked names a b c ex n i (Sink j payload) (Sink j payload) d t h e taken (one _ _ _ is) refl refl (λ before after x. x) refl low_is (named _ _ _ is) refl below)
   over_pruned (Scan sources info predicate output kind options) e low_is is = cc
@@ -261,6 +269,7 @@ is_closed_step b ex asked (Select j es schema options) q columns e = cc
 is_closed_step b ex asked (HStack j es schema options) q columns e = cc
 is_closed_step b ex asked (Sort j keys part options) q columns e = cc
 is_closed_step b ex asked (Distinct j options) q columns e = cc
+is_closed_step b ex asked (MapFunction j function) q columns e = cc
 is_closed_step b ex asked (Sink j payload) q columns e = cc
 is_closed_step b ex asked (Union inputs options) q columns e = cc
 is_closed_step b ex asked Invalid q columns e = cc
@@ -288,6 +297,7 @@ is_each_step b ex asked names inputs (Select j es schema options) q e = cc
 is_each_step b ex asked names inputs (HStack j es schema options) q e = cc
 is_each_step b ex asked names inputs (Sort j keys part options) q e = cc
 is_each_step b ex asked names inputs (Distinct j options) q e = cc
+is_each_step b ex asked names inputs (MapFunction j function) q e = cc
 is_each_step b ex asked names inputs (Sink j payload) q e = cc
 is_each_step b ex asked names inputs (Cache j id hits) q e = cc
 is_each_step b ex asked names inputs Invalid q e = cc

@@ -7,7 +7,7 @@ use Rattle.plan_core.specs.Names.{with_names}
 use Rattle.plan_expr.specs.declared.aexpr.AExpr.{AExpr}
 use Rattle.plan_expr.specs.declared.expr_ir.ExprIR.{ExprIR}
 use Rattle.plan_ir.specs.declared.ir.IR.{IR}
-use Rattle.plan_ir.specs.declared.ir.IR.TheVariants.{Slice, Filter, Scan, DataFrameScan, SimpleProjection, Select, HStack, Sort, Distinct, Sink, Union, Cache, Invalid}
+use Rattle.plan_ir.specs.declared.ir.IR.TheVariants.{Slice, Filter, Scan, DataFrameScan, SimpleProjection, Select, HStack, Sort, Distinct, MapFunction, Sink, Union, Cache, Invalid}
 use Rattle.plan_expr.specs.Exprs.{expr_at, all_named_at}
 use Rattle.plan_ir.specs.Plans.{bare, plans_at}
 use Rattle.plan_expr.specs.Leaves.{Name, leaves}
@@ -15,7 +15,7 @@ use Rattle.plan_meaning.specs.Typing.{first_schema, names_or}
 use Rattle.plan_meaning.specs.Counting.{stand_ins, first_stand_in}
 use Rattle.plan_meaning.specs.Asked.{all_leaves, needed_names}
 use Rattle.plan_schema.specs.Stored.{stored_all}
-use Rattle.plan_narrowing.specs.Pruned.{asked_columns, asked_with, kept, pruned_output}
+use Rattle.plan_narrowing.specs.Pruned.{asked_columns, asked_with, kept, mapped_names, pruned_output}
 use Rattle.plan_prune.specs.declared.push_down.step.Step.{Step}
 use Rattle.plan_prune.specs.declared.push_down.step.Step.TheVariants.{Leaf, Over, Closed, Each}
 use Rattle.plan_prune.specs.Kept.{selected_at, stacked_at, is_some_name, names_at, stored_after, asks_after, with_stacked}
@@ -52,6 +52,7 @@ step_of lp ex asked (Select i es schema options) = selected_step ex asked i es s
 step_of lp ex asked (HStack i es schema options) = stacked_step ex asked i es schema options (columns_at lp ex i)
 step_of lp ex asked (Sort i keys part options) = Over i (asked_with asked (all_leaves (all_named_at ex keys))) (Sort i keys part options)
 step_of lp ex asked (Distinct i options) = Over i (asked_with asked (names_or options.subset (names_of (columns_at lp ex i)))) (Distinct i options)
+step_of lp ex asked (MapFunction i function) = Over i (mapped_names asked function (columns_at lp ex i)) (MapFunction i function)
 step_of lp ex asked (Sink i payload) = Over i asked (Sink i payload)
 step_of lp ex asked (Union inputs options) = Each inputs asked (Union inputs options)
 step_of lp ex asked (Cache i id cache_hits) = Closed (asked_columns asked (columns_at lp ex i)) (Cache i id cache_hits)
@@ -68,6 +69,7 @@ put_back top some lp ex n (SimpleProjection i columns) = slice_set lp n.0 (Simpl
 put_back top some lp ex n (Select i es schema options) = slice_set lp n.0 (Select i es schema options)
 put_back top some lp ex n (Sort i keys part options) = slice_set lp n.0 (Sort i keys part options)
 put_back top some lp ex n (Distinct i options) = slice_set lp n.0 (Distinct i options)
+put_back top some lp ex n (MapFunction i function) = slice_set lp n.0 (MapFunction i function)
 put_back top some lp ex n (Sink i payload) = slice_set lp n.0 (Sink i payload)
 put_back top some lp ex n (Union inputs options) = slice_set lp n.0 (Union inputs options)
 put_back top some lp ex n (Cache i id cache_hits) = slice_set lp n.0 (Cache i id cache_hits)

@@ -21,6 +21,7 @@ mod distinct;
 mod exprs;
 mod filter;
 mod frame_scan;
+mod function;
 mod hstack;
 mod projection;
 mod scan;

@@ -11,7 +11,7 @@ ghost use Rattle.plan_prune.specs.declared.push_down.step.Step.TheVariants.{Clos
 ghost use Rattle.plan_prune.specs.Steps.{columns_at};
 
 use crate::push_down::step::Step;
-use plan_core::{Arena, Names, Node, Schema};
+use plan_core::{Arena, Names, Node};
 use plan_ir::IR;
 use plan_narrowing::asked_columns;
 use plan_schema::stored_schema;
@@ -29,8 +29,7 @@ pub fn prepare(
     requires { (t : Trees IR) × StandsOnce plan_shape lp.now (input ∷ []) t }
     ensures { IfOk result (λ step. (ex : List AExpr) → step ≡ Closed (asked_of asked.now (columns_at lp.now ex input)) (Cache input id cache_hits)) }
 {
-    let none = Schema::new(alloc);
-    let columns = asked_columns(alloc, asked, stored_schema(input, lp, &none))?;
+    let columns = asked_columns(alloc, asked, stored_schema(alloc, input, lp)?.columns())?;
     Ok(Step::Closed {
         columns,
         entry: IR::Cache {

@@ -60,8 +60,8 @@ pub fn cover(alloc: Global, node: Node, asked: &Names, lp: &mut Arena<IR>) -> Re
     ensures placed { OnOk result ((ex : List AExpr) → lp.new ≡ covered_at (asked_of asked.now (columns_at lp.old ex node)) lp.old node) }
     ensures grows { length lp.old ≤ length lp.new }
 {
-    let none = Schema::new(alloc);
-    match asked_columns(alloc, asked, stored_schema(node, lp, &none))? {
+    let columns = asked_columns(alloc, asked, stored_schema(alloc, node, lp)?.columns())?;
+    match columns {
         Some(columns) => {
             let entry = lp.take(node);
             put_under(node, entry, columns, lp)

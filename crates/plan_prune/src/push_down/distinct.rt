@@ -52,8 +52,8 @@ pub fn prepare(
     requires { (t : Trees IR) × StandsOnce plan_shape lp.now (input ∷ []) t }
     ensures { IfOk result (λ step. (ex : List AExpr) → step ≡ Over input (asked_with asked (names_or options.subset (names_of (columns_at lp.now ex input)))) (Distinct input options)) }
 {
-    let none = Schema::new(alloc);
-    let asked = asks(asked, &options.subset, stored_schema(input, lp, &none))?;
+    let stored = stored_schema(alloc, input, lp)?;
+    let asked = asks(asked, &options.subset, stored.columns())?;
     Ok(Step::Over {
         input,
         asked,

@@ -2,9 +2,7 @@
 //! It stores the columns of its pruned input, and those of the kept expressions beside them.
 //! It asks its input the asked names that this has, and then the names that the kept expressions read; keeping none it asks
 //! what it is asked. Asked nothing, it stays as it is and asks nothing.
-ghost use Rattle.std.specs.Prelude.{◌≡◌, ◌<◌, ◌≤◌, All, List, [], ◌∷◌, IfOk, OnOk, filter as filter_list, length, map};
-ghost use Rattle.plan_core.specs.Columns.{names_of};
-ghost use Rattle.plan_core.specs.Names.{has};
+ghost use Rattle.std.specs.Prelude.{◌≡◌, ◌<◌, ◌≤◌, All, List, [], ◌∷◌, IfOk, OnOk, length, map};
 ghost use Rattle.plan_tree.specs.Stands.{Trees, StandsOnce};
 ghost use Rattle.plan_expr.specs.declared.aexpr.AExpr.{AExpr};
 ghost use Rattle.plan_ir.specs.declared.ir.IR.{IR};
@@ -20,9 +18,10 @@ ghost use Rattle.plan_prune.specs.Steps.{stacked_step};
 
 use crate::push_down::exprs::{add_all_names, asked_exprs, with_typed};
 use crate::push_down::step::Step;
-use plan_core::{Arena, Items, Names, Node, ProjectionOptions, Schema, TryClone};
+use plan_core::{Arena, Items, Names, Node, ProjectionOptions, Schema};
 use plan_expr::{AExpr, ExprIR};
 use plan_ir::IR;
+use plan_narrowing::known_names;
 use plan_schema::stored_schema;
 use std::alloc::{AllocError, Global};
 
@@ -34,21 +33,6 @@ fn keep(alloc: Global, exprs: Items<ExprIR>, asked: &Names) -> Result<Items<Expr
         return Ok(exprs);
     }
     Ok(asked_exprs(alloc, exprs.as_slice(), asked)?)
-}
-
-/// The names that are columns, in their order.
-fn known(alloc: Global, names: &Names, columns: &Schema) -> Result<Names, AllocError>
-    ensures { IfOk result (λ known. known ≡ filter_list (has (names_of columns.now)) names.now) }
-{
-    let mut known = Names::new(alloc);
-    for i in 0..names.len() {
-        if let Some(name) = names.get_at_index(i) {
-            if columns.get(name).is_some() {
-                let _ = known.add(name)?;
-            }
-        }
-    }
-    Ok(known)
 }
 
 /// What an addition asks that keeps these expressions, over an input of these columns.
@@ -68,7 +52,7 @@ fn asks(
     if exprs.len() == 0 {
         return Ok(asked);
     }
-    let mut names = known(alloc, &asked, columns)?;
+    let mut names = known_names(alloc, &asked, columns)?;
     add_all_names(&mut names, exprs, ex)?;
     Ok(names)
 }
@@ -89,9 +73,8 @@ pub fn prepare(
     ensures { IfOk result (λ step. step ≡ stacked_step ex.now asked input exprs schema options (first_schema (stored_all (bare (plans_at lp.now ex.now (input ∷ [])))))) }
 {
     let exprs = keep(alloc, exprs, &asked)?;
-    let none = Schema::new(alloc);
-    let columns = stored_schema(input, lp, &none);
-    let asked = asks(alloc, asked, exprs.as_slice(), columns, ex)?;
+    let stored = stored_schema(alloc, input, lp)?;
+    let asked = asks(alloc, asked, exprs.as_slice(), stored.columns(), ex)?;
     Ok(Step::Over {
         input,
         asked,
@@ -139,8 +122,7 @@ pub fn put(
         lp.put(node, entry);
         return Ok(());
     }
-    let none = Schema::new(alloc);
-    let base = stored_schema(input, lp, &none).try_clone(alloc)?;
+    let base = stored_schema(alloc, input, lp)?.into_schema(alloc)?;
     let schema = with_typed(alloc, base, exprs.as_slice(), &schema)?;
     lp.put(
         node,

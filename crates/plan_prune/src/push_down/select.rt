@@ -89,9 +89,8 @@ fn asks(
         add_all_names(&mut names, exprs, ex)?;
         return Ok(names);
     }
-    let none = Schema::new(alloc);
-    if let Some(name) = stand_in(input, lp, ex, &none) {
-        let _ = names.add(name)?;
+    if let Some(name) = stand_in(alloc, input, lp, ex)? {
+        let _ = names.add(name.as_str())?;
     }
     Ok(names)
 }

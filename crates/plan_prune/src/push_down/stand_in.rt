@@ -1,6 +1,6 @@
 //! The column that stands in for the rows of a plan where they are counted: of a selection or an addition the first that
 //! isn't scalar, else the last that the plan says it has.
-ghost use Rattle.std.specs.Prelude.{◌≡◌, List, [], ◌∷◌, All, IfNone, IfSome};
+ghost use Rattle.std.specs.Prelude.{◌≡◌, List, [], ◌∷◌, All, IfNone, IfOk, IfSome};
 ghost use Rattle.plan_tree.specs.Stands.{Trees, StandsOnce};
 ghost use Rattle.plan_expr.specs.declared.aexpr.AExpr.{AExpr};
 ghost use Rattle.plan_expr.specs.Operands.{IsExpr};
@@ -10,10 +10,11 @@ ghost use Rattle.plan_meaning.specs.Counting.{last_name as last_of};
 ghost use Rattle.plan_prune.specs.Kept.{made_by as exprs_by, many_at};
 ghost use Rattle.plan_prune.specs.Steps.{stand_in_at};
 
-use plan_core::{Arena, Node, Schema};
+use plan_core::{Arena, Node, PlSmallStr, Schema};
 use plan_expr::{AExpr, ExprIR, is_scalar, output_name};
 use plan_ir::IR;
 use plan_schema::stored_schema;
+use std::alloc::{AllocError, Global};
 
 /// The first expression that isn't scalar, if there is one.
 pub fn first_many<'a>(exprs: &'a [ExprIR], ex: &Arena<AExpr>) -> Option<&'a ExprIR>
@@ -54,20 +55,23 @@ fn made_by(node: &IR) -> &[ExprIR]
     }
 }
 
-/// The name of the column that stands in for the rows of the plan at a number, if it has a column; `none` are no columns.
-pub fn stand_in<'a>(
+/// The name of the column that stands in for the rows of the plan at a number, if it has a column. Refuses for want of memory
+/// alone.
+pub fn stand_in(
+    alloc: Global,
     node: Node,
-    lp: &'a Arena<IR>,
+    lp: &Arena<IR>,
     ex: &Arena<AExpr>,
-    none: &'a Schema,
-) -> Option<&'a str>
-    requires plan { IsPlan lp.now ex.now node }
-    requires none { none.now ≡ [] }
-    ensures some { IfSome result (λ a. stand_in_at lp.now ex.now node ≡ Some a.now) }
-    ensures none { IfNone result (stand_in_at lp.now ex.now node ≡ None) }
+) -> Result<Option<PlSmallStr>, AllocError>
+    requires { IsPlan lp.now ex.now node }
+    ensures { IfOk result (λ name. name ≡ stand_in_at lp.now ex.now node) }
 {
-    match first_many(made_by(lp.get(node)), ex) {
-        Some(expr) => Some(output_name(&expr.output_name)),
-        None => last_name(stored_schema(node, lp, none)),
+    if let Some(expr) = first_many(made_by(lp.get(node)), ex) {
+        return Ok(Some(PlSmallStr::new(alloc, output_name(&expr.output_name))?));
+    }
+    let stored = stored_schema(alloc, node, lp)?;
+    match last_name(stored.columns()) {
+        Some(name) => Ok(Some(PlSmallStr::new(alloc, name)?)),
+        None => Ok(None),
     }
 }

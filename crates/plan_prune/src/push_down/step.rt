@@ -9,7 +9,8 @@ ghost use Rattle.plan_prune.specs.Prunes.{StandExprs};
 ghost use Rattle.plan_prune.specs.Steps.{put_back, step_of};
 
 use crate::push_down::{
-    cache, distinct, filter, frame_scan, hstack, projection, scan, select, sink, slice, sort, union,
+    cache, distinct, filter, frame_scan, function, hstack, projection, scan, select, sink, slice,
+    sort, union,
 };
 use plan_core::{Arena, Items, Names, Node, Schema};
 use plan_expr::AExpr;
@@ -95,6 +96,7 @@ pub fn prepare(
             sort_options,
         } => sort::prepare(input, by_column, slice, sort_options, asked, ex),
         IR::Distinct { input, options } => distinct::prepare(alloc, input, options, asked, lp),
+        IR::MapFunction { input, function } => function::prepare(alloc, input, function, asked, lp),
         IR::Sink { input, payload } => Ok(sink::prepare(input, payload, asked)),
         IR::Union { inputs, options } => union::prepare(alloc, inputs, options, asked),
         IR::Cache {

@@ -21,9 +21,9 @@ add_alp-requires c =
     let some : c.args.expr ≡ [] → ⊥ = λ none. let z : length c.args.expr ≡ 0 = ap length none in omega (arith, z, c.len.ensures, c.if-len-eq0.false) in
     let is : c.in_ok-schema.schema ≡ made_schema [] (all_named_at ex c.args.expr) (columns_at c.args.self.now.lp_arena.now ex c.args.self.now.root) =
     c.in_ok-schema.ensures
-    ∙ ap (λ (b : Columns). made_schema b (all_named_at ex c.as_slice.result.now) c.stored_schema-columns.result.now) c.new-base.ensures
-    ∙ ap (λ (l : List ExprIR). made_schema [] (all_named_at ex l) c.stored_schema-columns.result.now) c.as_slice.ensures
-    ∙ ap (made_schema [] (all_named_at ex c.args.expr)) (c.stored_schema-columns.ensures.valid ex c.requires.built.plan c.requires.built.valid)
+    ∙ ap (λ (b : Columns). made_schema b (all_named_at ex c.as_slice.result.now) c.in_ok-columns.columns) c.new-base.ensures
+    ∙ ap (λ (l : List ExprIR). made_schema [] (all_named_at ex l) c.in_ok-columns.columns) c.as_slice.ensures
+    ∙ ap (made_schema [] (all_named_at ex c.args.expr)) (c.in_ok-columns.ensures.columns)
     in
     subst (λ (s : Columns). MayFollow c.args.self.now.lp_arena.now ex (Select c.args.self.now.root c.args.expr s c.args.options)) (sym is) (c.requires.follows some)
 
@@ -32,8 +32,8 @@ returns-clause-added c = λ some.
     let ex = c.args.self.now.expr_arena.now in
     let is : c.in_ok-schema.schema ≡ made_schema [] (all_named_at ex c.args.expr) (columns_at c.args.self.now.lp_arena.now ex c.args.self.now.root) =
     c.in_ok-schema.ensures
-    ∙ ap (λ (b : Columns). made_schema b (all_named_at ex c.as_slice.result.now) c.stored_schema-columns.result.now) c.new-base.ensures
-    ∙ ap (λ (l : List ExprIR). made_schema [] (all_named_at ex l) c.stored_schema-columns.result.now) c.as_slice.ensures
-    ∙ ap (made_schema [] (all_named_at ex c.args.expr)) (c.stored_schema-columns.ensures.valid ex c.requires.built.plan c.requires.built.valid)
+    ∙ ap (λ (b : Columns). made_schema b (all_named_at ex c.as_slice.result.now) c.in_ok-columns.columns) c.new-base.ensures
+    ∙ ap (λ (l : List ExprIR). made_schema [] (all_named_at ex l) c.in_ok-columns.columns) c.as_slice.ensures
+    ∙ ap (made_schema [] (all_named_at ex c.args.expr)) (c.in_ok-columns.ensures.columns)
     in
     subst (λ (s : Columns). OnOk c.add_alp.result (Adds c.args.self.now.lp_arena.now c.add_alp.new.self.lp_arena.now c.add_alp.new.self.root (Select c.args.self.now.root c.args.expr s c.args.options))) is c.add_alp.ensures.added

@@ -18,11 +18,11 @@ pub add_alp-requires : goal.add_alp-requires
 add_alp-requires c =
     let ex = c.args.self.now.expr_arena.now in
     let columns : Columns = columns_at c.args.self.now.lp_arena.now ex c.args.self.now.root in
-    let stored : c.stored_schema-columns.result.now ≡ columns = c.stored_schema-columns.ensures.valid ex c.requires.built.plan c.requires.built.valid in
+    let stored : c.in_ok-columns.columns ≡ columns = c.in_ok-columns.ensures.columns in
     let is : c.in_ok-schema.schema ≡ made_schema columns (all_named_at ex c.args.exprs) columns =
     c.in_ok-schema.ensures
-    ∙ ap (λ (b : Columns). made_schema b (all_named_at ex c.as_slice.result.now) c.stored_schema-columns.result.now) (c.in_ok-base.ensures ∙ stored)
-    ∙ ap (λ (l : List ExprIR). made_schema columns (all_named_at ex l) c.stored_schema-columns.result.now) c.as_slice.ensures
+    ∙ ap (λ (b : Columns). made_schema b (all_named_at ex c.as_slice.result.now) c.in_ok-columns.columns) (c.in_ok-base.ensures ∙ stored)
+    ∙ ap (λ (l : List ExprIR). made_schema columns (all_named_at ex l) c.in_ok-columns.columns) c.as_slice.ensures
     ∙ ap (made_schema columns (all_named_at ex c.args.exprs)) stored
     in
     subst (λ (s : Columns). MayFollow c.args.self.now.lp_arena.now ex (HStack c.args.self.now.root c.args.exprs s c.args.options)) (sym is) c.requires.follows
@@ -31,11 +31,11 @@ pub returns-clause-added : goal.returns-clause-added
 returns-clause-added c =
     let ex = c.args.self.now.expr_arena.now in
     let columns : Columns = columns_at c.args.self.now.lp_arena.now ex c.args.self.now.root in
-    let stored : c.stored_schema-columns.result.now ≡ columns = c.stored_schema-columns.ensures.valid ex c.requires.built.plan c.requires.built.valid in
+    let stored : c.in_ok-columns.columns ≡ columns = c.in_ok-columns.ensures.columns in
     let is : c.in_ok-schema.schema ≡ made_schema columns (all_named_at ex c.args.exprs) columns =
     c.in_ok-schema.ensures
-    ∙ ap (λ (b : Columns). made_schema b (all_named_at ex c.as_slice.result.now) c.stored_schema-columns.result.now) (c.in_ok-base.ensures ∙ stored)
-    ∙ ap (λ (l : List ExprIR). made_schema columns (all_named_at ex l) c.stored_schema-columns.result.now) c.as_slice.ensures
+    ∙ ap (λ (b : Columns). made_schema b (all_named_at ex c.as_slice.result.now) c.in_ok-columns.columns) (c.in_ok-base.ensures ∙ stored)
+    ∙ ap (λ (l : List ExprIR). made_schema columns (all_named_at ex l) c.in_ok-columns.columns) c.as_slice.ensures
     ∙ ap (made_schema columns (all_named_at ex c.args.exprs)) stored
     in
     subst (λ (s : Columns). OnOk c.add_alp.result (Adds c.args.self.now.lp_arena.now c.add_alp.new.self.lp_arena.now c.add_alp.new.self.root (HStack c.args.self.now.root c.args.exprs s c.args.options))) is c.add_alp.ensures.added

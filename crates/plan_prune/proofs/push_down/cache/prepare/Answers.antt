@@ -7,4 +7,4 @@ use Rattle.plan_prune.proofs.push_down.cache.prepare.Goals as goal
 
 pub returns : goal.returns
 returns c = λ ex.
-    ap (λ (o : Option Columns). Closed o (Cache c.args.input c.args.id c.args.cache_hits)) (c.in_ok-columns.ensures ∙ ap (asked_columns c.args.asked.now) (c.stored_schema.ensures.stored ex))
+    ap (λ (o : Option Columns). Closed o (Cache c.args.input c.args.id c.args.cache_hits)) (c.in_ok-columns.ensures ∙ ap (asked_columns c.args.asked.now) (c.columns.ensures ∙ c.in_ok-stored_schema.ensures.stored ex))

@@ -10,4 +10,4 @@ use Rattle.plan_prune.proofs.push_down.distinct.prepare.Goals as goal
 pub returns : goal.returns
 returns c = λ ex.
     ap (λ (l : List Name). Over c.args.input l (Distinct c.args.input c.args.options))
-    (c.in_ok-asked.ensures ∙ ap (λ (s : Columns). asked_with c.args.asked (names_or c.args.options.subset (names_of s))) (c.stored_schema.ensures.stored ex))
+    (c.in_ok-asked.ensures ∙ ap (λ (s : Columns). asked_with c.args.asked (names_or c.args.options.subset (names_of s))) (c.columns.ensures ∙ c.in_ok-stored.ensures.stored ex))

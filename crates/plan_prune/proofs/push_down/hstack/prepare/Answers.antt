@@ -18,6 +18,6 @@ pub returns : goal.returns
 returns c =
     ap₂ (λ (l : List Name) (ks : List ExprIR). Over c.args.input l (HStack c.args.input ks c.args.schema c.args.options))
     (c.in_ok-asked.ensures
-    ∙ ap (λ (l : List ExprIR). asks_after c.args.asked (all_named_at c.args.ex.now l) c.stored_schema-columns.result.now) (c.as_slice.ensures ∙ c.in_ok-exprs.ensures)
-    ∙ ap (asks_after c.args.asked (all_named_at c.args.ex.now (stacked_at c.args.asked c.args.exprs))) (c.stored_schema-columns.ensures.stored c.args.ex.now))
+    ∙ ap (λ (l : List ExprIR). asks_after c.args.asked (all_named_at c.args.ex.now l) c.columns.result.now) (c.as_slice.ensures ∙ c.in_ok-exprs.ensures)
+    ∙ ap (asks_after c.args.asked (all_named_at c.args.ex.now (stacked_at c.args.asked c.args.exprs))) (c.columns.ensures ∙ c.in_ok-stored.ensures.stored c.args.ex.now))
     c.in_ok-exprs.ensures

@@ -14,5 +14,5 @@ returns-clause-placed c = λ ex.
     c.put-2.ensures
     ∙ stacked_put c.args.is_asked c.args.lp.now c.args.node c.args.input c.args.exprs c.args.schema c.in_ok-schema.schema s c.args.options c.if-not-is_asked.false (λ z. omega (arith, z, c.len.ensures, c.if-len-eq0.false))
     (c.in_ok-schema.ensures
-    ∙ ap (λ (t : Columns). with_typed t (names_at c.as_slice.result.now) c.args.schema) (c.in_ok-base.ensures ∙ c.stored_schema.ensures.stored ex)
+    ∙ ap (λ (t : Columns). with_typed t (names_at c.as_slice.result.now) c.args.schema) (c.in_ok-base.ensures ∙ c.in_ok-stored_schema.ensures.stored ex)
     ∙ ap (λ (l : List ExprIR). with_typed s (names_at l) c.args.schema) c.as_slice.ensures)

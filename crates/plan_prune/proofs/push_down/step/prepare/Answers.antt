@@ -12,5 +12,8 @@ prepare-requires-in-Select-clause-input c = c.requires.plans 0 c.in-Select.input
 pub returns-in-Distinct : goal.returns-in-Distinct
 returns-in-Distinct c = IfOk-weaker c.prepare-in-Distinct.result _ _ (λ step same. same c.args.ex.now ∙ ap (step_of c.args.lp.now c.args.ex.now c.args.asked) (sym c.in-Distinct.is)) c.prepare-in-Distinct.ensures
 
+pub returns-in-MapFunction : goal.returns-in-MapFunction
+returns-in-MapFunction c = IfOk-weaker c.prepare-in-MapFunction.result _ _ (λ step same. same c.args.ex.now ∙ ap (step_of c.args.lp.now c.args.ex.now c.args.asked) (sym c.in-MapFunction.is)) c.prepare-in-MapFunction.ensures
+
 pub returns-in-Cache : goal.returns-in-Cache
 returns-in-Cache c = IfOk-weaker c.prepare-in-Cache.result _ _ (λ step same. same c.args.ex.now ∙ ap (step_of c.args.lp.now c.args.ex.now c.args.asked) (sym c.in-Cache.is)) c.prepare-in-Cache.ensures

@@ -4,9 +4,9 @@ use Rattle.plan_core.specs.Names.{has, with_name}
 use Rattle.plan_expr.specs.Leaves.{Name}
 use Rattle.plan_meaning.proofs.NameSets.{some-type_of}
 use Rattle.plan_narrowing.proofs.ListSteps.{not_past}
-use Rattle.plan_prune.proofs.ExprWalks.{where-next, where-skip}
-use Rattle.plan_prune.proofs.push_down.hstack.known.Goals.{in-Some+then-is_some+in_ok-add, in-Some+else-is_some, in_default}
-use Rattle.plan_prune.proofs.push_down.hstack.known.Goals as goal
+use Rattle.plan_narrowing.proofs.NameSteps.{where-next, where-skip}
+use Rattle.plan_narrowing.proofs.functions.known_names.Goals.{in-Some+then-is_some+in_ok-add, in-Some+else-is_some, in_default}
+use Rattle.plan_narrowing.proofs.functions.known_names.Goals as goal
 
 pub loop-i-preserved : goal.loop-i-preserved
 loop-i-preserved c =
