@@ -4,6 +4,32 @@ ghost use Rattle.std.specs.Prelude.{◌≡◌, IfOk};
 use plan_core::{Items, PlSmallStr, TryClone};
 use std::alloc::{AllocError, Global};
 
+/// Which columns an unpivot makes one of, and how what it gives is named.
+#[derive(Drop, PartialEq, Eq, Debug)]
+pub struct UnpivotArgsIR {
+    /// The columns whose values come one after another, in order; where there are none, all columns outside `index`.
+    pub on: Items<PlSmallStr>,
+    /// The columns that are repeated beside each of them, in order.
+    pub index: Items<PlSmallStr>,
+    /// The name of the column with the names of those columns; `variable` where it is absent.
+    pub variable_name: Option<PlSmallStr>,
+    /// The name of the column with their values; `value` where it is absent.
+    pub value_name: Option<PlSmallStr>,
+}
+
+impl TryClone for UnpivotArgsIR {
+    fn try_clone(&self, alloc: Global) -> Result<Self, AllocError>
+        ensures { IfOk result (λ r. r ≡ self.now) }
+    {
+        Ok(UnpivotArgsIR {
+            on: self.on.try_clone(alloc)?,
+            index: self.index.try_clone(alloc)?,
+            variable_name: self.variable_name.try_clone(alloc)?,
+            value_name: self.value_name.try_clone(alloc)?,
+        })
+    }
+}
+
 /// What a node makes of the whole frame of its input.
 #[derive(Drop, PartialEq, Eq, Debug)]
 pub enum FunctionIR {
@@ -22,6 +48,11 @@ pub enum FunctionIR {
         name: PlSmallStr,
         /// The number of the first row; 0 where it is absent.
         offset: Option<u32>,
+    },
+    /// The values of several columns in one column, one after another, each beside its column's name.
+    Unpivot {
+        /// Which columns, and how what is given is named.
+        args: UnpivotArgsIR,
     },
 }
 
@@ -42,6 +73,9 @@ impl TryClone for FunctionIR {
             FunctionIR::RowIndex { name, offset } => Ok(FunctionIR::RowIndex {
                 name: name.try_clone(alloc)?,
                 offset: *offset,
+            }),
+            FunctionIR::Unpivot { args } => Ok(FunctionIR::Unpivot {
+                args: args.try_clone(alloc)?,
             }),
         }
     }

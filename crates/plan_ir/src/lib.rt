@@ -14,7 +14,7 @@ mod scan;
 
 pub use copy::{PlanCopy, renumbered};
 pub use depth::{expr_depth, expr_roots, plan_depth};
-pub use functions::FunctionIR;
+pub use functions::{FunctionIR, UnpivotArgsIR};
 pub use ir::IR;
 pub use iterator::{AlpIter, ArenaLpIter};
 pub use moving::into_renumbered;

@@ -1,25 +1,25 @@
 -- Functions of whole frames: what they give has its columns, and what they ask can be asked of their input.
-use Rattle.std.proofs.Common.{◌≡◌, ℕ, ◌+◌, Bool, true, false, not, cond, ◌||◌, List, [], ◌∷◌, map, length, Option, Some, None, is_some, unwrap_or, refl, sym, ap, ◌∙◌, subst, ⊎_elim, pos}
+use Rattle.std.proofs.Common.{◌≡◌, ℕ, Bool, true, false, cond, ◌||◌, List, [], ◌∷◌, map, Option, Some, None, unwrap_or, refl, sym, ap, ◌∙◌, subst, ⊎_elim, pos}
 use Rattle.std.specs.List.{AllByRecursion, IsDistinct, filter as only_where, filter_map, cons_option, range_with_len}
 use Rattle.std.specs.Int.{w64, int_wrap}
 use Rattle.std.specs.Str.{bytes_eq}
-use Rattle.std.proofs.lemmas.Bool.{not-true}
 use Rattle.std.proofs.lemmas.List.FromFn.{length-map-range_with_len}
 use Rattle.plan_core.specs.declared.data_type.DataType.TheVariants.{Int64}
-use Rattle.plan_core.specs.Columns.{Columns, names_of, type_of}
+use Rattle.plan_core.specs.Columns.{Columns, names_of}
 use Rattle.plan_core.specs.Names.{has, AreDistinct}
 use Rattle.plan_ir.specs.declared.functions.FunctionIR.{FunctionIR}
-use Rattle.plan_ir.specs.declared.functions.FunctionIR.TheVariants.{Rename, RowIndex}
+use Rattle.plan_ir.specs.declared.functions.FunctionIR.TheVariants.{Rename, RowIndex, Unpivot}
 use Rattle.plan_expr.specs.Leaves.{Name}
-use Rattle.plan_meaning.specs.Functions.{new_name, renamed, former, renamed_columns, function_schema}
+use Rattle.plan_meaning.specs.Functions.{renamed, former, renamed_columns, function_schema}
 use Rattle.plan_meaning.specs.Typing.{function_checks, AllHold}
-use Rattle.plan_meaning.specs.Values.{Value, whole, AllOf}
+use Rattle.plan_meaning.specs.Values.{whole, AllOf}
 use Rattle.plan_meaning.specs.Frames.{Frame, Column, HaveTypes, HasSchema}
-use Rattle.plan_meaning.specs.Mapped.{with_renamed, row_numbers, mapped}
+use Rattle.plan_meaning.specs.Mapped.{mapped}
 use Rattle.plan_meaning.specs.Relating.{Asked, all, names as these, cached}
-use Rattle.plan_meaning.specs.Asked.{set_of, function_names, asks_function, Fair, IsFair}
-use Rattle.plan_meaning.proofs.NameSets.{named, same_named, has_cons, has_first, has_later, some-type_of, distinct_cons}
+use Rattle.plan_meaning.specs.Asked.{set_of, unpivot_names, asks_function, IsFair}
+use Rattle.plan_meaning.proofs.NameSets.{named, has_cons, has_first, has_later, some-type_of, distinct_cons}
 use Rattle.plan_meaning.proofs.KeptExprs.{where_has, distinct_where}
+use Rattle.plan_meaning.proofs.UnpivotLemmas.{unpivoted_has, unpivot_apart, unpivot_known}
 
 -- frames
 
@@ -34,11 +34,12 @@ whole_numbers [] = tt
 whole_numbers (n ∷ ns) = (tt, whole_numbers ns)
 
 -- what a function makes of a frame has its columns
-pub mapped_has : (f : FunctionIR) (s : Columns) (g : Frame) → HasSchema g s → HasSchema (mapped f g) (function_schema f s)
-mapped_has (Rename existing new swapping) s g h = renamed_have (renamed existing new) g.height g.columns s h
-mapped_has (RowIndex name offset) s g h =
+pub mapped_has : (f : FunctionIR) (s : Columns) (g : Frame) → AllHold (function_checks f s) → HasSchema g s → HasSchema (mapped f g) (function_schema f s)
+mapped_has (Rename existing new swapping) s g good h = renamed_have (renamed existing new) g.height g.columns s h
+mapped_has (RowIndex name offset) s g good h =
     let first : ℕ = unwrap_or offset 0 in
     (refl, length-map-range_with_len (λ (i : ℕ). whole (int_wrap w64 (pos i))) first g.height, whole_numbers (range_with_len first g.height), h)
+mapped_has (Unpivot args) s g good h = unpivoted_has args s g good h
 
 -- the names that become others
 
@@ -100,11 +101,13 @@ fair_names : (wanted : List Name) (s : Columns) → AreDistinct wanted → ((a :
 fair_names [] s once known = tt
 fair_names (a ∷ wanted) s once known = record { some = refl; once = once; known = λ b i. some-type_of s b ∙ known b i }
 
-pub fair_function : (f : FunctionIR) (a : Asked) (s : Columns) → IsFair a (function_schema f s) → IsFair (asks_function f a s) s
-fair_function f all s h = tt
-fair_function f cached s h = tt
-fair_function (Rename existing new swapping) (these wanted) s h =
+pub fair_function : (f : FunctionIR) (a : Asked) (s : Columns) → AllHold (function_checks f s) → IsFair a (function_schema f s) → IsFair (asks_function f a s) s
+fair_function f all s good h = tt
+fair_function f cached s good h = tt
+fair_function (Rename existing new swapping) (these wanted) s good h =
     let now : Name → Name = renamed existing new in
     fair_names (filter_map (former now (names_of s)) wanted) s (formers_apart now (names_of s) wanted h.once) (λ b i. (formers_are now (names_of s) wanted b i).0)
-fair_function (RowIndex name offset) (these wanted) s h =
+fair_function (RowIndex name offset) (these wanted) s good h =
     fair_names (only_where (has (names_of s)) wanted) s (distinct_where (has (names_of s)) wanted h.once) (λ b i. (where_has (has (names_of s)) wanted b i).1)
+fair_function (Unpivot args) (these wanted) s good h =
+    fair_names (unpivot_names args) s (unpivot_apart args) (λ b i. unpivot_known args s good b i)

@@ -22,6 +22,7 @@ pub mod KeptRows
 pub mod UnionLemmas
 pub mod MadeColumns
 pub mod KeptExprs
+pub mod UnpivotLemmas
 pub mod FunctionLemmas
 pub mod Runs
 pub mod Refining

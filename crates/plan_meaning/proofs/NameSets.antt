@@ -143,3 +143,13 @@ differ x (y ∷ ys) h = rw (h.0) (differ x ys h.1)
 pub distinct_cons : (x : Name) (xs : List Name) → AreDistinct (x ∷ xs) → (has xs x ≡ false) × AreDistinct xs
 unfolding IsDistinct
 distinct_cons x xs h = (differ x xs h.0, h.1)
+
+-- each name once, and no other
+pub has-once : (names : List Name) (a : Name) → has (with_names [] names) a ≡ has names a
+has-once names a = at (has (with_names [] names) a) (has names a) refl refl
+  where
+    at : (t u : Bool) → has (with_names [] names) a ≡ t → has names a ≡ u → t ≡ u
+    at true true p q = refl
+    at false false p q = refl
+    at false true p q = sym p ∙ adds_names [] names a q
+    at true false p q = ⊎_elim (λ e. sym e) (λ e. sym e ∙ q) (from_names [] names a p)

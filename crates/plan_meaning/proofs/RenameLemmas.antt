@@ -221,7 +221,7 @@ to_renamed now (c ∷ names) b i = ⊎_elim
     (has_cons c names b i)
 
 -- a new column goes last
-with_new : (cs : Columns) (a : Name) (d : DataType) → type_of cs a ≡ None → with_type cs a d ≡ cs ++ (a, d) ∷ []
+pub with_new : (cs : Columns) (a : Name) (d : DataType) → type_of cs a ≡ None → with_type cs a d ≡ cs ++ (a, d) ∷ []
 with_new [] a d e = refl
 with_new (c ∷ cs) a d e = at (bytes_eq a c.0) e (λ k. with_new cs a d k)
   where
@@ -242,7 +242,7 @@ behind (c ∷ names) a rest h =
         let x : has (names ++ a ∷ rest) c ≡ true = ap (has (names ++ a ∷ rest)) (sym (named a c q)) ∙ has_back names (a ∷ rest) a (has_first a rest) in
         cc
 
-names-append : (s t : Columns) → names_of (s ++ t) ≡ names_of s ++ names_of t
+pub names-append : (s t : Columns) → names_of (s ++ t) ≡ names_of s ++ names_of t
 names-append s t = map-append (λ (c : Name × DataType). c.0) s t
 
 -- what is renamed so far: the columns that are done, of which none got the name of another

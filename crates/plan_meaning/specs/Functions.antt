@@ -1,12 +1,14 @@
 -- Functions of whole frames: how they name columns, and the columns that they give.
-use Rattle.std.specs.Prelude.{Bool, true, not, ◌&&◌, List, [], ◌∷◌, map, Option, None, Some, unwrap_or, if◌then◌else◌}
-use Rattle.std.specs.List.{list_any}
+use Rattle.std.specs.Prelude.{Bool, true, not, ◌&&◌, List, [], ◌∷◌, ◌++◌, map, Option, None, Some, unwrap_or, codes, if◌then◌else◌}
+use Rattle.std.specs.List.{filter as only_where, list_any}
 use Rattle.std.specs.Str.{bytes_eq}
 use Rattle.plan_core.specs.declared.data_type.DataType.{DataType}
-use Rattle.plan_core.specs.declared.data_type.DataType.TheVariants.{Int64}
-use Rattle.plan_core.specs.Columns.{Columns}
+use Rattle.plan_core.specs.declared.data_type.DataType.TheVariants.{Int64, String}
+use Rattle.plan_core.specs.Columns.{Columns, names_of, type_of}
+use Rattle.plan_core.specs.Names.{has}
 use Rattle.plan_ir.specs.declared.functions.FunctionIR.{FunctionIR}
-use Rattle.plan_ir.specs.declared.functions.FunctionIR.TheVariants.{Rename, RowIndex}
+use Rattle.plan_ir.specs.declared.functions.FunctionIR.TheVariants.{Rename, RowIndex, Unpivot}
+use Rattle.plan_ir.specs.declared.functions.UnpivotArgsIR.{UnpivotArgsIR}
 use Rattle.plan_expr.specs.Leaves.{Name}
 
 -- the new name at the place of the first of some names that is this one, if one is
@@ -45,7 +47,51 @@ stay_apart now (a ∷ names) = not (list_any (become_one now a) names) && stay_a
 abbrev pub renamed_columns : (Name → Name) → Columns → Columns
 renamed_columns now s = map (λ (c : Name × DataType). (now c.0, c.1)) s
 
--- the columns that a function gives, from those of its input: a renaming the same under their new names, a numbering of the rows its own before them
+-- the names that are told where some are, else the others
+abbrev pub told_names : (told others : List Name) → List Name
+told_names [] others = others
+told_names (a ∷ told) others = a ∷ told
+
+-- the columns of an input that an unpivot makes one of: those that are told, else all that it doesn't repeat, in order
+abbrev pub value_names : UnpivotArgsIR → List Name → List Name
+value_names args names = told_names args.on (only_where (λ (a : Name). not (has args.index a)) names)
+
+-- the name of the column with the names of those columns
+abbrev pub variable_name : UnpivotArgsIR → Name
+variable_name args = unwrap_or args.variable_name (codes "variable")
+
+-- the name of the column with their values
+abbrev pub value_name : UnpivotArgsIR → Name
+value_name args = unwrap_or args.value_name (codes "value")
+
+-- the names of the columns that an unpivot gives: those that it repeats, and then its own two
+abbrev pub unpivoted_names : UnpivotArgsIR → List Name
+unpivoted_names args = args.index ++ variable_name args ∷ value_name args ∷ []
+
+-- no name stands twice
+abbrev pub all_differ : List Name → Bool
+all_differ [] = true
+all_differ (a ∷ names) = not (has names a) && all_differ names
+
+-- the type of a column, that of whole numbers where there is none
+abbrev pub type_or : Columns → Name → DataType
+type_or s a = unwrap_or (type_of s a) Int64
+
+-- the columns of these names, in order
+abbrev pub columns_at : Columns → List Name → Columns
+columns_at s names = map (λ (a : Name). (a, type_or s a)) names
+
+-- the type of the first of these columns, that of whole numbers where there is none
+abbrev pub first_type : Columns → List Name → DataType
+first_type s [] = Int64
+first_type s (a ∷ names) = type_or s a
+
+-- the columns of an unpivot: those that it repeats, the names of its value columns, and then their values
+abbrev pub unpivoted_columns : UnpivotArgsIR → Columns → Columns
+unpivoted_columns args s = columns_at s args.index ++ (variable_name args, String) ∷ (value_name args, first_type s (value_names args (names_of s))) ∷ []
+
+-- the columns that a function gives, from those of its input: a renaming the same under their new names, a numbering of the rows its own before them, an unpivot those that it repeats and its own two
 abbrev pub function_schema : FunctionIR → Columns → Columns
 function_schema (Rename existing new swapping) s = renamed_columns (renamed existing new) s
 function_schema (RowIndex name offset) s = (name, Int64) ∷ s
+function_schema (Unpivot args) s = unpivoted_columns args s

@@ -1,5 +1,6 @@
 -- Which plans are valid: the schema of a plan, and the checks on its nodes in the order in which faults are told.
 use Rattle.std.specs.Prelude.{◌≡◌, ℕ, ℤ, suc, ◌==◌, min, Bool, true, false, not, ◌&&◌, ◌||◌, List, [], ◌∷◌, ◌++◌, map, length, Option, Some, None, is_some, unwrap_or, if◌then◌else◌, Result, Ok, Err}
+use Rattle.std.specs.List.{list_all}
 use Rattle.plan_core.specs.declared.arena.Node.{Node}
 use Rattle.plan_core.specs.declared.error.At.{At}
 use Rattle.plan_core.specs.declared.error.PolarsError.{PolarsError}
@@ -13,7 +14,8 @@ use Rattle.plan_core.specs.Columns.{Columns, names_of, type_of, with_types, same
 use Rattle.plan_core.specs.Names.{has}
 use Rattle.plan_tree.specs.Rose.{Rose, Roses, rose, no_roses, more}
 use Rattle.plan_ir.specs.declared.functions.FunctionIR.{FunctionIR}
-use Rattle.plan_ir.specs.declared.functions.FunctionIR.TheVariants.{Rename, RowIndex}
+use Rattle.plan_ir.specs.declared.functions.FunctionIR.TheVariants.{Rename, RowIndex, Unpivot}
+use Rattle.plan_ir.specs.declared.functions.UnpivotArgsIR.{UnpivotArgsIR}
 use Rattle.plan_ir.specs.declared.scan.FileInfo.{FileInfo}
 use Rattle.plan_expr.specs.Exprs.{Named}
 use Rattle.plan_expr.specs.Forms.{has_form}
@@ -21,7 +23,7 @@ use Rattle.plan_expr.specs.Types.{is_plain}
 use Rattle.plan_ir.specs.Plans.{Op, slice, filter, scan, frame_scan, simple_projection, select, hstack, sort, distinct, map_function, sink, union, cache, invalid}
 use Rattle.plan_expr.specs.Leaves.{Name, leaves}
 use Rattle.plan_expr.specs.Naming.{naming, may_be_named, name_of}
-use Rattle.plan_meaning.specs.Functions.{renamed, stay_apart, function_schema}
+use Rattle.plan_meaning.specs.Functions.{renamed, stay_apart, value_names, unpivoted_names, all_differ, first_type, function_schema}
 use Rattle.plan_meaning.specs.Exprs.{all_known, expr_type, is_type}
 use Rattle.plan_core.specs.declared.data_type.DataType.TheVariants as types
 
@@ -275,10 +277,32 @@ rename_checks existing new s =
 unfoldable pub row_index_checks : Name → Columns → List Check
 row_index_checks name s = check Duplicate 0 (not (has (names_of s) name)) ∷ []
 
+-- what an unpivot tells, and then what it repeats, are columns of the input
+unfoldable pub unpivot_name_checks : (on index : List Name) → Columns → List Check
+unpivot_name_checks on index s =
+    each SchemaFieldNotFound 1 (is_known s) on
+    ++ each SchemaFieldNotFound (suc (length on)) (is_known s) index
+
+-- what an unpivot tells has this type, and so have all its value columns where it tells none
+unfoldable pub unpivot_type_checks : (on names : List Name) → DataType → Columns → List Check
+unpivot_type_checks on names t s =
+    each SchemaMismatch 1 (λ (a : Name). is_column s (a, t)) on
+    ++ check SchemaMismatch 0 (list_all (λ (a : Name). is_column s (a, t)) names) ∷ []
+
+-- an unpivot has value columns, what it names are columns of the input, its value columns have the type of the first, and no two columns that it gives have one name
+unfoldable pub unpivot_checks : UnpivotArgsIR → Columns → List Check
+unpivot_checks args s =
+    let names = value_names args (names_of s) in
+    check InvalidOperation 0 (not (is_empty names))
+    ∷ (unpivot_name_checks args.on args.index s
+    ++ (unpivot_type_checks args.on names (first_type s names) s
+    ++ check Duplicate 0 (all_differ (unpivoted_names args)) ∷ []))
+
 -- the checks on a function over the columns of its input
 abbrev pub function_checks : FunctionIR → Columns → List Check
 function_checks (Rename existing new swapping) s = rename_checks existing new s
 function_checks (RowIndex name offset) s = row_index_checks name s
+function_checks (Unpivot args) s = unpivot_checks args s
 
 -- whether a union has a form that is built: some inputs, and no slice
 unfoldable pub is_built_union : UnionOptions → List Columns → Bool

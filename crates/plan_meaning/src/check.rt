@@ -10,7 +10,9 @@ mod projection;
 mod scan;
 mod sort;
 mod union;
+mod unpivot;
 
+pub use columns::set_of;
 pub use distinct::distinct_schema;
 pub use filter::{check_filter, filter_schema};
 pub use frame_scan::{check_frame_scan, frame_scan_schema};

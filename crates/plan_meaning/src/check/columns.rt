@@ -9,7 +9,7 @@ use plan_core::{DataType, Names, Node, PlSmallStr, PolarsError, PolarsResult, Sc
 use std::alloc::{AllocError, Global};
 
 /// Whether the schema has the column, with that type.
-fn is_column(schema: &Schema, name: &str, dtype: DataType) -> bool
+pub fn is_column(schema: &Schema, name: &str, dtype: DataType) -> bool
     ensures { result ≡ is_one schema.now (name.now, dtype) }
 {
     schema.get(name).copied() == Some(dtype)
@@ -92,6 +92,23 @@ pub fn check_names_known(
     for (i, name) in names.iter().enumerate() {
         if schema.get(name.as_str()).is_none() {
             return Err(PolarsError::SchemaFieldNotFound(at(node, place.saturating_add(i))));
+        }
+    }
+    Ok(())
+}
+
+/// Each name is a column of the schema, with that type, else `SchemaMismatch` at the name; the first one is at place 1.
+pub fn check_names_typed(
+    node: Node,
+    names: &[PlSmallStr],
+    dtype: DataType,
+    schema: &Schema,
+) -> PolarsResult<()>
+    ensures { Says result (first_fault node (each SchemaMismatch 1 (λ a. is_one schema.now (a, dtype)) names.now)) }
+{
+    for (i, name) in names.iter().enumerate() {
+        if !is_column(schema, name.as_str(), dtype) {
+            return Err(PolarsError::SchemaMismatch(at(node, 1 + i)));
         }
     }
     Ok(())

@@ -1,5 +1,5 @@
 //! Functions of whole frames: a renaming has new names for old ones, none twice, and gives no two columns one name; a numbering
-//! of the rows adds a name.
+//! of the rows adds a name; an unpivot has a file of its own.
 ghost use Rattle.std.specs.Prelude.{◌≡◌, Bool, Option, ℕ, [], ◌∷◌};
 ghost use Rattle.plan_ir.specs.declared.functions.FunctionIR.TheVariants.{Rename, RowIndex};
 ghost use Rattle.plan_ir.specs.Plans.{map_function};
@@ -8,6 +8,7 @@ ghost use Rattle.plan_meaning.specs.Typed.{IsNodeTyped};
 
 use crate::check::columns::check_names_new;
 use crate::check::place::at;
+use crate::check::unpivot::unpivot_schema;
 use crate::renaming::Renaming;
 use plan_core::{DataType, Node, PlSmallStr, PolarsError, PolarsResult, Schema, TryClone};
 use plan_ir::FunctionIR;
@@ -70,5 +71,6 @@ pub fn function_schema(
             rename_schema(alloc, node, existing.as_slice(), new.as_slice(), schema)
         }
         FunctionIR::RowIndex { name, .. } => row_index_schema(alloc, node, name, schema),
+        FunctionIR::Unpivot { args } => unpivot_schema(alloc, node, args, &schema),
     }
 }
