@@ -71,6 +71,6 @@ pub fn function_schema(
             rename_schema(alloc, node, existing.as_slice(), new.as_slice(), schema)
         }
         FunctionIR::RowIndex { name, .. } => row_index_schema(alloc, node, name, schema),
-        FunctionIR::Unpivot { args } => unpivot_schema(alloc, node, args, &schema),
+        FunctionIR::Unpivot { args } => unpivot_schema(alloc, node, args, schema),
     }
 }
