@@ -8,3 +8,4 @@ mod PlanLemmas
 mod PartLemmas
 mod DistinctLemmas
 mod SortLemmas
+mod FunctionLemmas

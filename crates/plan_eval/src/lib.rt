@@ -4,6 +4,7 @@
 mod distinct;
 mod filter;
 mod frame_scan;
+mod function;
 mod hstack;
 mod made;
 mod plan;

@@ -20,6 +20,7 @@ ghost use Rattle.plan_fit.specs.Sources.{contents_of};
 use crate::distinct::distinct;
 use crate::filter::filter;
 use crate::frame_scan::frame_scan;
+use crate::function::mapped;
 use crate::hstack::hstack;
 use crate::projection::projection;
 use crate::scan::scan;
@@ -82,6 +83,7 @@ fn one_input_table(
             ..
         } => sort(alloc, table, by_column.as_slice(), sort_options, ex),
         IR::Distinct { options, .. } => distinct(alloc, table, options),
+        IR::MapFunction { function, .. } => mapped(alloc, table, function),
         IR::Sink { .. } | IR::Cache { .. } => unchanged(alloc, table),
         IR::Union { .. } | IR::Scan { .. } | IR::DataFrameScan { .. } | IR::Invalid => {
             unreachable!()
@@ -124,6 +126,7 @@ fn node_table(
         | IR::HStack { .. }
         | IR::Sort { .. }
         | IR::Distinct { .. }
+        | IR::MapFunction { .. }
         | IR::Sink { .. }
         | IR::Cache { .. } => one_input_table(alloc, node, only(inputs), ex),
         IR::Invalid => unreachable!(),

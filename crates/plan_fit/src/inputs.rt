@@ -18,6 +18,7 @@ pub fn inputs(node: &IR) -> &[Node]
         | IR::HStack { input, .. }
         | IR::Sort { input, .. }
         | IR::Distinct { input, .. }
+        | IR::MapFunction { input, .. }
         | IR::Sink { input, .. }
         | IR::Cache { input, .. } => from_ref(input),
         IR::Union { inputs, .. } => inputs.as_slice(),

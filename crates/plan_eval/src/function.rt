@@ -1,0 +1,129 @@
+//! A function of the whole input gives its columns under other names, or behind one that numbers the rows.
+ghost use Rattle.std.specs.Prelude.{◌≡◌, ◌+◌, List, [], ◌∷◌, IfOk, false, map, pos, true};
+ghost use Rattle.std.specs.Int.{int_wrap, w64};
+ghost use Rattle.plan_core.specs.Columns.{names_of};
+ghost use Rattle.plan_core.specs.Names.{has};
+ghost use Rattle.plan_core.specs.declared.data_type.DataType.TheVariants.{Int64};
+ghost use Rattle.plan_ir.specs.Plans.{map_function};
+ghost use Rattle.plan_meaning.specs.Functions.{names_now, renamed as renamed_of, renamed_columns, stay_apart};
+ghost use Rattle.plan_meaning.specs.Mapped.{row_numbers as row_numbers_of, with_numbers, with_renamed};
+ghost use Rattle.plan_meaning.specs.Typing.{AllHold, function_checks};
+ghost use Rattle.plan_table.specs.declared.source_key.SourceKey.{SourceKey};
+ghost use Rattle.plan_table.specs.declared.table.Table.{Table as TableType};
+ghost use Rattle.plan_table.specs.Tables.{types_of};
+ghost use Rattle.plan_eval.specs.Function.{under};
+ghost use Rattle.plan_eval.specs.Given.{Gives};
+ghost use Rattle.plan_value.specs.Shown.{frame_of, schema_of, values_of};
+
+use plan_core::{DataType, Items, PlSmallStr, TryClone};
+use plan_ir::FunctionIR;
+use plan_meaning::Renaming;
+use plan_table::{AnyValue, Column, Columns, Table};
+use std::alloc::{AllocError, Global};
+
+/// A column under the name that its own gets.
+fn column_renamed(alloc: Global, column: &Column, names: &Renaming) -> Result<Column, AllocError>
+    ensures { IfOk result (λ c. c ≡ under (names_now names.now) column.now) }
+{
+    Ok(Column {
+        name: PlSmallStr::new(alloc, names.now(column.name.as_str()))?,
+        dtype: column.dtype,
+        values: column.values.try_clone(alloc)?,
+    })
+}
+
+/// The columns under the names that theirs get, of which no two are one.
+fn all_renamed(alloc: Global, columns: &Columns, names: &Renaming) -> Result<Columns, AllocError>
+    requires { stay_apart (names_now names.now) (names_of (types_of columns.now)) ≡ true }
+    ensures { IfOk result (λ made. made ≡ map (under (names_now names.now)) columns.now) }
+{
+    let mut made = Columns::new(alloc);
+    for column in columns.iter() {
+        made.with_column(column_renamed(alloc, column, names)?)?;
+    }
+    Ok(made)
+}
+
+/// The table of a renaming, all at once, that gives no two columns one name.
+fn renamed(
+    alloc: Global,
+    table: &Table,
+    existing: &[PlSmallStr],
+    new: &[PlSmallStr],
+) -> Result<Table, AllocError>
+    requires { stay_apart (renamed_of existing.now new.now) (names_of (schema_of table.now)) ≡ true }
+    ensures frame { IfOk result (λ t. frame_of t ≡ with_renamed (renamed_of existing.now new.now) (frame_of table.now)) }
+    ensures types { IfOk result (λ t. schema_of t ≡ renamed_columns (renamed_of existing.now new.now) (schema_of table.now)) }
+{
+    let names = Renaming::new(alloc, existing, new)?;
+    Ok(Table {
+        height: table.height,
+        columns: all_renamed(alloc, &table.columns, &names)?,
+    })
+}
+
+/// The number of a row where the first has this one; whole numbers wrap at 64 bits.
+fn row_number(first: u32, row: usize) -> i64
+    ensures { result ≡ int_wrap w64 (pos (first + row)) }
+{
+    (first as u64).wrapping_add(row as u64).cast_signed()
+}
+
+/// The numbers of so many rows from a first one on.
+fn row_numbers(alloc: Global, first: u32, height: usize) -> Result<Items<AnyValue>, AllocError>
+    ensures { IfOk result (λ numbers. values_of numbers ≡ row_numbers_of first height) }
+{
+    let mut numbers = Items::new(alloc);
+    for row in 0..height {
+        numbers.push(AnyValue::Int64(row_number(first, row)))?;
+    }
+    Ok(numbers)
+}
+
+/// The columns behind one of a new name.
+fn behind(alloc: Global, first: Column, columns: &Columns) -> Result<Columns, AllocError>
+    requires { has (names_of (types_of columns.now)) first.name ≡ false }
+    ensures { IfOk result (λ made. made ≡ first ∷ columns.now) }
+{
+    let mut made = Columns::new(alloc);
+    made.with_column(first)?;
+    for column in columns.iter() {
+        made.with_column(column.try_clone(alloc)?)?;
+    }
+    Ok(made)
+}
+
+/// The table behind a column of a new name that numbers its rows from a first number on.
+fn numbered(
+    alloc: Global,
+    table: &Table,
+    name: &PlSmallStr,
+    first: u32,
+) -> Result<Table, AllocError>
+    requires { has (names_of (schema_of table.now)) name.now ≡ false }
+    ensures frame { IfOk result (λ t. frame_of t ≡ with_numbers name.now first (frame_of table.now)) }
+    ensures types { IfOk result (λ t. schema_of t ≡ (name.now, Int64) ∷ schema_of table.now) }
+{
+    let numbers = Column {
+        name: name.try_clone(alloc)?,
+        dtype: DataType::Int64,
+        values: row_numbers(alloc, first, table.height)?,
+    };
+    Ok(Table {
+        height: table.height,
+        columns: behind(alloc, numbers, &table.columns)?,
+    })
+}
+
+/// The table that a function makes of its input.
+pub fn mapped(alloc: Global, table: &Table, function: &FunctionIR) -> Result<Table, AllocError>
+    requires { AllHold (function_checks function.now (schema_of table.now)) }
+    ensures { (ts : List (SourceKey × TableType)) → IfOk result (Gives ts (map_function function.now) (table.now ∷ [])) }
+{
+    match function {
+        FunctionIR::Rename { existing, new, .. } => {
+            renamed(alloc, table, existing.as_slice(), new.as_slice())
+        }
+        FunctionIR::RowIndex { name, offset } => numbered(alloc, table, name, offset.unwrap_or(0)),
+    }
+}

@@ -1,0 +1,89 @@
+//! Functions of whole frames over a file with three rows.
+
+use crate::plans::{files, given_by, scan};
+use plan_core::{Arena, Items, Node, PlSmallStr};
+use plan_ir::{FunctionIR, IR};
+use std::alloc::{AllocError, Global};
+use std::test::Fail;
+
+/// What a function makes of a node.
+fn made(
+    alloc: Global,
+    input: Node,
+    function: FunctionIR,
+    lp: &mut Arena<IR>,
+) -> Result<String, AllocError> {
+    let node = IR::MapFunction { input, function };
+    given_by(alloc, node, lp, &Arena::new(alloc), &files(alloc)?)
+}
+
+/// Names.
+fn names(alloc: Global, names: &[&str]) -> Result<Items<PlSmallStr>, AllocError> {
+    let mut items = Items::new(alloc);
+    for name in names {
+        items.push(PlSmallStr::new(alloc, *name)?)?;
+    }
+    Ok(items)
+}
+
+/// What a renaming of the scan gives.
+fn renamed(alloc: Global, existing: &[&str], new: &[&str]) -> Result<String, AllocError> {
+    let mut lp = Arena::new(alloc);
+    let input = scan(alloc, &mut lp)?;
+    let function = FunctionIR::Rename {
+        existing: names(alloc, existing)?,
+        new: names(alloc, new)?,
+        swapping: false,
+    };
+    made(alloc, input, function, &mut lp)
+}
+
+#[test]
+fn names_are_replaced_all_at_once(rt: HostRuntime) -> Result<(), Fail> {
+    let alloc = rt.alloc();
+    let swapped = renamed(alloc, &["a", "b"], &["b", "a"])?;
+    assert_eq!(rt; swapped.as_str(), "3; b 1 2 3; a 2 1 5; c x y z");
+    let moved = renamed(alloc, &["a", "b"], &["b", "d"])?;
+    assert_eq!(rt; moved.as_str(), "3; b 1 2 3; d 2 1 5; c x y z");
+    let absent = renamed(alloc, &["d", "c"], &["a", "e"])?;
+    assert_eq!(rt; absent.as_str(), "3; a 1 2 3; b 2 1 5; e x y z");
+    let taken = renamed(alloc, &["a"], &["b"])?;
+    assert_eq!(rt; taken.as_str(), "invalid");
+    Ok(())
+}
+
+/// What a numbering of the rows gives, of as many rows of the scan.
+fn numbered(
+    alloc: Global,
+    name: &str,
+    offset: Option<u32>,
+    len: u32,
+) -> Result<String, AllocError> {
+    let mut lp = Arena::new(alloc);
+    let input = scan(alloc, &mut lp)?;
+    let input = lp.add(IR::Slice {
+        input,
+        offset: 0,
+        len,
+    })?;
+    let name = PlSmallStr::new(alloc, name)?;
+    let function = FunctionIR::RowIndex { name, offset };
+    made(alloc, input, function, &mut lp)
+}
+
+#[test]
+fn rows_are_numbered_from_an_offset(rt: HostRuntime) -> Result<(), Fail> {
+    let alloc = rt.alloc();
+    let five = numbered(alloc, "i", Some(5), 3)?;
+    assert_eq!(rt; five.as_str(), "3; i 5 6 7; a 1 2 3; b 2 1 5; c x y z");
+    let none = numbered(alloc, "i", Some(5), 0)?;
+    assert_eq!(rt; none.as_str(), "0; i; a; b; c");
+    let zero = numbered(alloc, "i", None, 2)?;
+    assert_eq!(rt; zero.as_str(), "2; i 0 1; a 1 2; b 2 1; c x y");
+    let last = numbered(alloc, "i", Some(4294967295), 2)?;
+    let wanted = "2; i 4294967295 4294967296; a 1 2; b 2 1; c x y";
+    assert_eq!(rt; last.as_str(), wanted);
+    let taken = numbered(alloc, "b", None, 3)?;
+    assert_eq!(rt; taken.as_str(), "invalid");
+    Ok(())
+}
