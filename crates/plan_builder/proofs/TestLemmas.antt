@@ -1,8 +1,9 @@
 -- Nodes over a scan of a frame that read one of its columns.
-use Rattle.std.proofs.Common.{◌≡◌, ◌∙◌, ◌++◌, true, List, [], ◌∷◌, Some, None, refl, sym, ap, subst, unwrap_or}
+use Rattle.std.proofs.Common.{◌≡◌, ◌∙◌, ◌++◌, true, List, [], ◌∷◌, Some, None, codes, refl, sym, ap, subst, unwrap_or}
 use Rattle.std.specs.List.{slice_get}
 use Rattle.plan_core.specs.declared.arena.Node.{Node}
 use Rattle.plan_core.specs.declared.data_type.DataType.{DataType}
+use Rattle.plan_core.specs.declared.data_type.DataType.TheVariants.{Int64, String}
 use Rattle.plan_core.specs.declared.options.ProjectionOptions.{ProjectionOptions}
 use Rattle.plan_core.specs.Columns.{Columns, type_of}
 use Rattle.plan_tree.specs.Rose.{rose, no_roses, more}
@@ -19,11 +20,13 @@ use Rattle.plan_expr.specs.Leaves.{Name}
 use Rattle.plan_expr.specs.Naming.{by_column, may_be_named, naming, own_output_name}
 use Rattle.plan_expr.specs.Operands.{expr_shape}
 use Rattle.plan_ir.specs.declared.ir.IR.{IR}
-use Rattle.plan_ir.specs.declared.ir.IR.TheVariants.{DataFrameScan}
+use Rattle.plan_ir.specs.declared.ir.IR.TheVariants.{DataFrameScan, MapFunction}
+use Rattle.plan_ir.specs.declared.functions.FunctionIR.{FunctionIR}
+use Rattle.plan_ir.specs.declared.functions.FunctionIR.TheVariants.{RowIndex, Unpivot}
 use Rattle.plan_ir.specs.Parts.{plan_shape, roots_in}
 use Rattle.plan_ir.specs.Plans.{bare, frame_scan, plans_of}
 use Rattle.plan_meaning.specs.PlanAt.{one_plan}
-use Rattle.plan_meaning.specs.Typing.{AllHold, checks, frame_checks, made_checks, made_schema, number_checks, schema}
+use Rattle.plan_meaning.specs.Typing.{AllHold, checks, function_checks, row_index_checks, unpivot_checks, unpivot_name_checks, unpivot_type_checks, frame_checks, made_checks, made_schema, number_checks, schema}
 use Rattle.plan_meaning.proofs.CheckParts.{good_made, is_same}
 use Rattle.plan_builder.specs.Builds.{addition, Adds, columns_at, IsBuilt, MayFollow, own_expr, selection}
 use Rattle.plan_builder.proofs.Follow.{alone_follow, over_follow}
@@ -134,3 +137,19 @@ pub own_column : (arena' : List AExpr) (a : Name) (n : Node) → arena' ≡ Colu
 own_column arena' a n is first =
     ap (λ (x : List AExpr). own_expr x n) is
     ∙ ap (λ (x : Expr). let e : ExprIR = record { node = n; output_name = unwrap_or (own_output_name (naming x)) Unnamed } in e) (column_is a n first)
+
+-- a function whose checks hold over the frame may follow it
+pub function_follows : (before lp : List IR) (ex : List AExpr) (root : Node) (s : Columns) (f : FunctionIR) → Adds before lp root (DataFrameScan (Some 0) s None) → IsBuilt lp ex root → AllHold (function_checks f s) → MayFollow lp ex (MapFunction root f)
+function_follows before lp ex root s f adds b good =
+    over_follow lp ex root b (MapFunction root f) refl refl b.plan.exprs b.plan.stands.exprs (subst (λ (c : Columns). AllHold (function_checks f c)) (sym (frame_columns before lp ex root s adds b)) good)
+
+abbrev pub three : Columns
+three = (codes "a", Int64) ∷ (codes "b", Int64) ∷ (codes "c", String) ∷ []
+
+pub numbers_good : AllHold (function_checks (RowIndex (codes "i") None) three)
+unfolding row_index_checks
+numbers_good = (refl, tt)
+
+pub unpivot_good : AllHold (function_checks (Unpivot (record { on = codes "b" ∷ []; index = codes "a" ∷ []; variable_name = None; value_name = None })) three)
+unfolding unpivot_checks unpivot_name_checks unpivot_type_checks
+unpivot_good = (refl, (refl, (refl, (refl, (refl, (refl, tt))))))

@@ -11,14 +11,14 @@ use plan_core::{
     Schema,
 };
 use plan_expr::{AExpr, ExprIR, OutputName};
-use plan_ir::IR;
+use plan_ir::{IR, UnpivotArgsIR};
 use plan_meaning::check_plan;
 use std::alloc::{AllocError, Global};
 use std::test::Fail;
 
 /// The frame.
 fn frame(alloc: Global) -> Result<IR, AllocError>
-    ensures { IfOk result (λ p. (columns : Columns) × (p ≡ DataFrameScan (Some 0) columns None) × (type_of columns (codes "a") ≡ Some Int64) × (type_of columns (codes "c") ≡ Some String)) }
+    ensures { IfOk result (λ p. (columns : Columns) × (p ≡ DataFrameScan (Some 0) columns None) × (type_of columns (codes "a") ≡ Some Int64) × (type_of columns (codes "c") ≡ Some String) × (columns ≡ (codes "a", Int64) ∷ (codes "b", Int64) ∷ (codes "c", String) ∷ [])) }
 {
     let mut schema = Schema::new(alloc);
     let _ = schema.with_column(PlSmallStr::new(alloc, "a")?, DataType::Int64)?;
@@ -38,6 +38,27 @@ fn under(alloc: Global, node: Node, name: &str) -> Result<Items<ExprIR>, AllocEr
     let mut exprs = Items::new(alloc);
     exprs.push(ExprIR::new(node, OutputName::Alias(PlSmallStr::new(alloc, name)?)))?;
     Ok(exprs)
+}
+
+/// A name alone.
+fn single(alloc: Global, name: &str) -> Result<Items<PlSmallStr>, AllocError>
+    ensures { IfOk result (λ names. names ≡ name.now ∷ []) }
+{
+    let mut names = Items::new(alloc);
+    names.push(PlSmallStr::new(alloc, name)?)?;
+    Ok(names)
+}
+
+/// The unpivot of b beside a, with the names that are given by default.
+fn unpivot_of_b(alloc: Global) -> Result<UnpivotArgsIR, AllocError>
+    ensures { IfOk result (λ args. args ≡ record { on = codes "b" ∷ []; index = codes "a" ∷ []; variable_name = None; value_name = None }) }
+{
+    Ok(UnpivotArgsIR {
+        on: single(alloc, "b")?,
+        index: single(alloc, "a")?,
+        variable_name: None,
+        value_name: None,
+    })
 }
 
 /// The names.
@@ -164,5 +185,32 @@ fn an_addition_names_a_column_by_itself(rt: HostRuntime) -> Result<(), Fail> {
     let schema = builder.schema(alloc)?;
     assert_eq!(rt; named(alloc, &schema)?.as_str(), "a b c ");
     assert_eq!(rt; schema.get("c"), Some(&DataType::String));
+    Ok(())
+}
+
+#[test]
+fn rows_are_numbered(rt: HostRuntime) -> Result<(), Fail> {
+    let alloc = rt.alloc();
+    let ex = Arena::new(alloc);
+    let mut lp = Arena::new(alloc);
+    let mut builder = IRBuilder::from_lp(&mut lp, &ex, frame(alloc)?)?;
+    builder.row_index(PlSmallStr::new(alloc, "i")?, None)?;
+    let schema = builder.schema(alloc)?;
+    assert_eq!(rt; named(alloc, &schema)?.as_str(), "i a b c ");
+    assert_eq!(rt; schema.get("i"), Some(&DataType::Int64));
+    Ok(())
+}
+
+#[test]
+fn a_column_is_unpivoted(rt: HostRuntime) -> Result<(), Fail> {
+    let alloc = rt.alloc();
+    let ex = Arena::new(alloc);
+    let mut lp = Arena::new(alloc);
+    let mut builder = IRBuilder::from_lp(&mut lp, &ex, frame(alloc)?)?;
+    builder.unpivot(unpivot_of_b(alloc)?)?;
+    let schema = builder.schema(alloc)?;
+    assert_eq!(rt; named(alloc, &schema)?.as_str(), "a variable value ");
+    assert_eq!(rt; schema.get("variable"), Some(&DataType::String));
+    assert_eq!(rt; schema.get("value"), Some(&DataType::Int64));
     Ok(())
 }
