@@ -5,7 +5,7 @@ use Rattle.plan_core.specs.declared.data_type.DataType.{DataType}
 use Rattle.plan_core.specs.Columns.{Columns, names_of, type_of}
 use Rattle.plan_core.specs.Names.{has, with_names}
 use Rattle.plan_ir.specs.declared.functions.FunctionIR.{FunctionIR}
-use Rattle.plan_ir.specs.declared.functions.FunctionIR.TheVariants.{Rename, RowIndex, Unpivot}
+use Rattle.plan_ir.specs.declared.functions.FunctionIR.TheVariants.{Rename, RowIndex, Unpivot, Explode}
 use Rattle.plan_ir.specs.Plans.{map_function}
 use Rattle.plan_expr.specs.Leaves.{Name}
 use Rattle.plan_meaning.specs.Functions.{function_schema}
@@ -18,12 +18,14 @@ use Rattle.plan_narrowing.proofs.NarrowLemmas.{Local, one_step, same_one, same_c
 use Rattle.plan_narrowing.proofs.FunctionParts.{FunctionKept, self_holds}
 use Rattle.plan_narrowing.proofs.RenameNarrows.{rename_kept}
 use Rattle.plan_narrowing.proofs.UnpivotNarrows.{unpivot_kept}
+use Rattle.plan_narrowing.proofs.ExplodeNarrows.{explode_kept}
 use Rattle.plan_narrowing.proofs.IndexNarrows.{index_kept}
 
 -- per function
 kept_by : (f : FunctionIR) (wanted : List Name) (r s : Columns) → AllHold (function_checks f s) → Fair wanted (function_schema f s) → is_empty (function_names f wanted s) ≡ false → Holding (function_names f wanted s) r s → FunctionKept f wanted r s
 kept_by (Rename existing new swapping) wanted r s good fair some h = rename_kept existing new swapping wanted r s good fair h
 kept_by (RowIndex name offset) wanted r s good fair some h = index_kept name offset wanted r s good fair h
+kept_by (Explode columns) wanted r s good fair some h = explode_kept columns wanted r s good h
 kept_by (Unpivot args) wanted r s good fair some h = unpivot_kept args wanted r s (is_told (is_empty args.on) some) good fair h
   where
     is_told : (b : Bool) → is_empty (cond b [] (with_names [] (args.index ++ args.on))) ≡ false → b ≡ false

@@ -12,6 +12,7 @@ mod FunctionParts
 mod IndexNarrows
 mod RenameNarrows
 mod UnpivotNarrows
+mod ExplodeNarrows
 mod FunctionNarrows
 mod SelectNarrows
 mod StackNarrows

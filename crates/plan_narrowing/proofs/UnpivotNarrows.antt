@@ -34,7 +34,7 @@ value-is args names e = at args.on e
 
 -- the same for each of some names
 
-each_same : (fault : At → PolarsError) (k : ℕ) (p q : Name → Bool) (names : List Name) → ((a : Name) → has names a ≡ true → p a ≡ q a) → each fault k p names ≡ each fault k q names
+pub each_same : (fault : At → PolarsError) (k : ℕ) (p q : Name → Bool) (names : List Name) → ((a : Name) → has names a ≡ true → p a ≡ q a) → each fault k p names ≡ each fault k q names
 each_same fault k p q [] by = refl
 each_same fault k p q (a ∷ names) by = ap₂ (λ (b : Bool) (cs : List Check). check fault k b ∷ cs) (by a (has_first a names)) (each_same fault (suc k) p q names (λ b i. by b (has_later a names b i)))
 
@@ -42,7 +42,7 @@ all_same : (p q : Name → Bool) (names : List Name) → ((a : Name) → has nam
 all_same p q [] by = refl
 all_same p q (a ∷ names) by = ap₂ (λ (x y : Bool). x && y) (by a (has_first a names)) (all_same p q names (λ b i. by b (has_later a names b i)))
 
-map_same : {X : Type 0} (f g : Name → X) (names : List Name) → ((a : Name) → has names a ≡ true → f a ≡ g a) → map f names ≡ map g names
+pub map_same : {X : Type 0} (f g : Name → X) (names : List Name) → ((a : Name) → has names a ≡ true → f a ≡ g a) → map f names ≡ map g names
 map_same f g [] by = refl
 map_same {X} f g (a ∷ names) by = ap₂ (λ (x : X) (xs : List X). x ∷ xs) (by a (has_first a names)) (map_same f g names (λ b i. by b (has_later a names b i)))
 

@@ -6,7 +6,7 @@ ghost use Rattle.plan_core.specs.Names.{has};
 ghost use Rattle.plan_meaning.specs.Asked.{function_names, unpivot_names as names_unpivoted};
 ghost use Rattle.plan_meaning.specs.Functions.{former, renamed};
 
-use crate::names::add_listed;
+use crate::names::{add_listed, copied_names};
 use plan_core::{Names, PlSmallStr, Schema};
 use plan_ir::{FunctionIR, UnpivotArgsIR};
 use plan_meaning::Renaming;
@@ -65,7 +65,7 @@ fn unpivot_names(alloc: Global, args: &UnpivotArgsIR) -> Result<Names, AllocErro
 
 /// The names that a function of which these are asked needs of its input, which has these columns: a renaming those that become
 /// the asked names, a numbering of the rows the asked names that are columns, in the order of the asked names; an unpivot what it names, where it
-/// tells value columns. Refuses for want of memory alone.
+/// tells value columns; an explode the asked names, and then its columns. Refuses for want of memory alone.
 pub fn needed_names(
     alloc: Global,
     function: &FunctionIR,
@@ -80,5 +80,10 @@ pub fn needed_names(
         }
         FunctionIR::RowIndex { .. } => known_names(alloc, asked, columns),
         FunctionIR::Unpivot { args } => unpivot_names(alloc, args),
+        FunctionIR::Explode { columns } => {
+            let mut names = copied_names(alloc, asked)?;
+            add_listed(&mut names, columns.as_slice())?;
+            Ok(names)
+        }
     }
 }
