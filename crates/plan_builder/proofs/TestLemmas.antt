@@ -3,7 +3,8 @@ use Rattle.std.proofs.Common.{◌≡◌, ◌∙◌, ◌++◌, true, List, [], �
 use Rattle.std.specs.List.{slice_get}
 use Rattle.plan_core.specs.declared.arena.Node.{Node}
 use Rattle.plan_core.specs.declared.data_type.DataType.{DataType}
-use Rattle.plan_core.specs.declared.data_type.DataType.TheVariants.{Int64, String}
+use Rattle.plan_core.specs.declared.data_type.DataType.TheVariants.{Int64, List as ListOf, String}
+use Rattle.plan_core.specs.declared.data_type.PlainType.TheVariants.{Int64 as Whole}
 use Rattle.plan_core.specs.declared.options.ProjectionOptions.{ProjectionOptions}
 use Rattle.plan_core.specs.Columns.{Columns, type_of}
 use Rattle.plan_tree.specs.Rose.{rose, no_roses, more}
@@ -22,11 +23,11 @@ use Rattle.plan_expr.specs.Operands.{expr_shape}
 use Rattle.plan_ir.specs.declared.ir.IR.{IR}
 use Rattle.plan_ir.specs.declared.ir.IR.TheVariants.{DataFrameScan, MapFunction}
 use Rattle.plan_ir.specs.declared.functions.FunctionIR.{FunctionIR}
-use Rattle.plan_ir.specs.declared.functions.FunctionIR.TheVariants.{RowIndex, Unpivot}
+use Rattle.plan_ir.specs.declared.functions.FunctionIR.TheVariants.{Explode, RowIndex, Unpivot}
 use Rattle.plan_ir.specs.Parts.{plan_shape, roots_in}
 use Rattle.plan_ir.specs.Plans.{bare, frame_scan, plans_of}
 use Rattle.plan_meaning.specs.PlanAt.{one_plan}
-use Rattle.plan_meaning.specs.Typing.{AllHold, checks, function_checks, row_index_checks, unpivot_checks, unpivot_name_checks, unpivot_type_checks, frame_checks, made_checks, made_schema, number_checks, schema}
+use Rattle.plan_meaning.specs.Typing.{AllHold, checks, function_checks, explode_checks, row_index_checks, unpivot_checks, unpivot_name_checks, unpivot_type_checks, frame_checks, made_checks, made_schema, number_checks, schema}
 use Rattle.plan_meaning.proofs.CheckParts.{good_made, is_same}
 use Rattle.plan_builder.specs.Builds.{addition, Adds, columns_at, IsBuilt, MayFollow, own_expr, selection}
 use Rattle.plan_builder.proofs.Follow.{alone_follow, over_follow}
@@ -153,3 +154,10 @@ numbers_good = (refl, tt)
 pub unpivot_good : AllHold (function_checks (Unpivot (record { on = codes "b" ∷ []; index = codes "a" ∷ []; variable_name = None; value_name = None })) three)
 unfolding unpivot_checks unpivot_name_checks unpivot_type_checks
 unpivot_good = (refl, (refl, (refl, (refl, (refl, (refl, tt))))))
+
+abbrev pub lists : Columns
+lists = (codes "l", ListOf Whole) ∷ []
+
+pub explode_good : AllHold (function_checks (Explode (codes "l" ∷ [])) lists)
+unfolding explode_checks
+explode_good = (refl, (refl, tt))

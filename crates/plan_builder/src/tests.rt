@@ -1,14 +1,15 @@
 //! What is built on the frame with the columns a and b of whole numbers and c of texts.
 ghost use Rattle.std.specs.Prelude.{◌≡◌, [], ◌∷◌, codes, IfOk, None, Some};
-ghost use Rattle.plan_core.specs.declared.data_type.DataType.TheVariants.{Int64, String};
+ghost use Rattle.plan_core.specs.declared.data_type.DataType.TheVariants.{Int64, List as ListOf, String};
+ghost use Rattle.plan_core.specs.declared.data_type.PlainType.TheVariants.{Int64 as Whole};
 ghost use Rattle.plan_core.specs.Columns.{Columns, type_of};
 ghost use Rattle.plan_expr.specs.declared.expr_ir.OutputName.TheVariants.{Alias};
 ghost use Rattle.plan_ir.specs.declared.ir.IR.TheVariants.{DataFrameScan};
 
 use crate::IRBuilder;
 use plan_core::{
-    Arena, At, DataType, Items, Node, PlSmallStr, PolarsError, PolarsResult, ProjectionOptions,
-    Schema,
+    Arena, At, DataType, Items, Node, PlSmallStr, PlainType, PolarsError, PolarsResult,
+    ProjectionOptions, Schema,
 };
 use plan_expr::{AExpr, ExprIR, OutputName};
 use plan_ir::{IR, UnpivotArgsIR};
@@ -24,6 +25,22 @@ fn frame(alloc: Global) -> Result<IR, AllocError>
     let _ = schema.with_column(PlSmallStr::new(alloc, "a")?, DataType::Int64)?;
     let _ = schema.with_column(PlSmallStr::new(alloc, "b")?, DataType::Int64)?;
     let _ = schema.with_column(PlSmallStr::new(alloc, "c")?, DataType::String)?;
+    Ok(IR::DataFrameScan {
+        df: Some(0),
+        schema,
+        output_schema: None,
+    })
+}
+
+/// The frame with a column of lists of whole numbers.
+fn frame_of_lists(alloc: Global) -> Result<IR, AllocError>
+    ensures { IfOk result (λ p. (columns : Columns) × (p ≡ DataFrameScan (Some 0) columns None) × (columns ≡ (codes "l", ListOf Whole) ∷ [])) }
+{
+    let mut schema = Schema::new(alloc);
+    let _ = schema.with_column(
+        PlSmallStr::new(alloc, "l")?,
+        DataType::List(PlainType::Int64),
+    )?;
     Ok(IR::DataFrameScan {
         df: Some(0),
         schema,
@@ -212,5 +229,18 @@ fn a_column_is_unpivoted(rt: HostRuntime) -> Result<(), Fail> {
     assert_eq!(rt; named(alloc, &schema)?.as_str(), "a variable value ");
     assert_eq!(rt; schema.get("variable"), Some(&DataType::String));
     assert_eq!(rt; schema.get("value"), Some(&DataType::Int64));
+    Ok(())
+}
+
+#[test]
+fn lists_are_taken_apart(rt: HostRuntime) -> Result<(), Fail> {
+    let alloc = rt.alloc();
+    let ex = Arena::new(alloc);
+    let mut lp = Arena::new(alloc);
+    let mut builder = IRBuilder::from_lp(&mut lp, &ex, frame_of_lists(alloc)?)?;
+    builder.explode(single(alloc, "l")?)?;
+    let schema = builder.schema(alloc)?;
+    assert_eq!(rt; named(alloc, &schema)?.as_str(), "l ");
+    assert_eq!(rt; schema.get("l"), Some(&DataType::Int64));
     Ok(())
 }
