@@ -2,11 +2,11 @@
 ghost use Rattle.std.specs.Prelude.{◌≡◌};
 ghost use Rattle.serde_json.specs.View.{view};
 ghost use Rattle.plan_doc.specs.Gives.{Gives};
-ghost use Rattle.plan_doc.specs.Parts.{number_of, names_of, nullable, columns_of, output_of, slice_of};
+ghost use Rattle.plan_doc.specs.Parts.{number_of, name_of, names_of, nullable, columns_of, output_of, slice_of};
 ghost use Rattle.plan_doc.specs.Tables.{tables_of};
 
 use crate::fault::Fault;
-use crate::parts::{columns, names, number, output, slice};
+use crate::parts::{columns, name, names, number, output, slice};
 use crate::tables::tables;
 use plan_core::{Items, PlSmallStr, Schema};
 use plan_expr::ExprIR;
@@ -23,6 +23,17 @@ pub fn optional_number(value: &Value) -> Result<Option<u32>, Fault>
         return Ok(None);
     }
     Ok(Some(number(value)?))
+}
+
+/// Null, or a name.
+#[tactic(auto, using(crate::proofs::NullLemmas::nullable_null, crate::proofs::NullLemmas::nullable_other))]
+pub fn optional_name(alloc: Global, value: &Value) -> Result<Option<PlSmallStr>, Fault>
+    ensures { Gives result (nullable name_of (view value.now)) }
+{
+    if value.is_null() {
+        return Ok(None);
+    }
+    Ok(Some(name(alloc, value)?))
 }
 
 /// Null, or the first row and how many rows.

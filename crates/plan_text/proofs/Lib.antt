@@ -4,3 +4,4 @@ pub mod ObjectLemmas
 pub mod FloatLemmas
 pub mod DepthLemmas
 pub mod TextLemmas
+mod TokenLemmas
