@@ -4,6 +4,7 @@ pub mod Each
 pub mod Parts
 pub mod Built
 pub mod Exprs
+pub mod Functions
 pub mod Nodes
 pub mod Tables
 pub mod Document

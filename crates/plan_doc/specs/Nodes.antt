@@ -23,6 +23,7 @@ use Rattle.plan_options.specs.declared.union.UnionOptions.{UnionOptions}
 use Rattle.plan_options.specs.Union.{default_union}
 use Rattle.plan_doc.specs.Parts.{◌>>=◌, object_of, nullable, name_of, number_of, link_of, links_of, integer_of, truth_of, truths_of, names_of, columns_of, output_of, outputs_of, slice_of, options_of}
 use Rattle.plan_doc.specs.Built.{one_path, null_fields}
+use Rattle.plan_doc.specs.Functions.{frame_function_of}
 
 -- some rows of the input, one after another
 unfoldable pub slice_node_of : Data → Option IR
@@ -156,6 +157,16 @@ distinct_of d = do
   i ← link_of input
   options ← distinct_options_of o
   Some (nodes.Distinct i options)
+
+-- what a function makes of the whole input
+unfoldable pub map_function_of : Data → Option IR
+map_function_of d = do
+  o ← object_of (codes "function" ∷ codes "input" ∷ codes "op" ∷ []) d
+  input ← get (codes "input") o
+  i ← link_of input
+  function ← get (codes "function") o
+  f ← frame_function_of function
+  Some (nodes.MapFunction i f)
 
 -- the input, whose rows are kept in memory
 unfoldable pub sink_of : Data → Option IR
@@ -299,7 +310,8 @@ node_of d = do
       if bytes_eq s (codes "HStack") then hstack_of d else (
       if bytes_eq s (codes "Sort") then sort_of d else (
       if bytes_eq s (codes "Distinct") then distinct_of d else (
+      if bytes_eq s (codes "MapFunction") then map_function_of d else (
       if bytes_eq s (codes "Sink") then sink_of d else (
       if bytes_eq s (codes "Union") then union_of d else (
       if bytes_eq s (codes "Cache") then cache_of d else (
-      if bytes_eq s (codes "Invalid") then invalid_of d else None))))))))))))
+      if bytes_eq s (codes "Invalid") then invalid_of d else None)))))))))))))

@@ -6,6 +6,7 @@ mod built;
 mod document;
 mod exprs;
 mod fault;
+mod functions;
 mod nodes;
 mod optional;
 mod parts;

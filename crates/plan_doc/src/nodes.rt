@@ -3,10 +3,11 @@ ghost use Rattle.std.specs.Prelude.{◌≡◌};
 ghost use Rattle.serde_json.specs.View.{view};
 ghost use Rattle.plan_doc.specs.Gives.{Gives, Shows};
 ghost use Rattle.plan_doc.specs.Parts.{object_of};
-ghost use Rattle.plan_doc.specs.Nodes.{slice_node_of, filter_of, simple_projection_of, made_keys, made_of, select_of, hstack_of, sort_keys, sort_options_of, sort_of, keep_of, distinct_keys, distinct_options_of, distinct_of, sink_of, union_keys, union_options_of, union_of, cache_of, frame_scan_of, invalid_of, kind_of, sources_of, files_of, file_info_of, file_options_of, scan_keys, scan_of, node_of};
+ghost use Rattle.plan_doc.specs.Nodes.{slice_node_of, filter_of, simple_projection_of, made_keys, made_of, select_of, hstack_of, sort_keys, sort_options_of, sort_of, keep_of, distinct_keys, distinct_options_of, distinct_of, map_function_of, sink_of, union_keys, union_options_of, union_of, cache_of, frame_scan_of, invalid_of, kind_of, sources_of, files_of, file_info_of, file_options_of, scan_keys, scan_of, node_of};
 
 use crate::built::{null_fields, one_path};
 use crate::fault::Fault;
+use crate::functions::frame_function;
 use crate::optional::{
     optional_columns, optional_names, optional_number, optional_output, optional_slice,
 };
@@ -213,6 +214,17 @@ fn distinct(alloc: Global, value: &Value) -> Result<IR, Fault>
     let input = link(field(object, "input")?)?;
     let options = distinct_options(alloc, object)?;
     Ok(IR::Distinct { input, options })
+}
+
+/// The function of the whole input of an entry.
+#[tactic(auto, unfolding(crate::specs::Nodes::map_function_of))]
+fn map_function(alloc: Global, value: &Value) -> Result<IR, Fault>
+    ensures { Gives result (map_function_of (view value.now)) }
+{
+    let object = object(value, &["function", "input", "op"])?;
+    let input = link(field(object, "input")?)?;
+    let function = frame_function(alloc, field(object, "function")?)?;
+    Ok(IR::MapFunction { input, function })
 }
 
 /// The sink of an entry; its rows are kept in memory.
@@ -442,6 +454,7 @@ pub fn node(alloc: Global, value: &Value) -> Result<IR, Fault>
         "HStack" => hstack(alloc, value),
         "Sort" => sort(alloc, value),
         "Distinct" => distinct(alloc, value),
+        "MapFunction" => map_function(alloc, value),
         "Sink" => sink(value),
         "Union" => union(alloc, value),
         "Cache" => cache(value),
