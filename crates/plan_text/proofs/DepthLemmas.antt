@@ -12,6 +12,8 @@ use Rattle.plan_expr.specs.declared.aexpr.AExpr.TheVariants as exprs
 use Rattle.plan_expr.specs.declared.expr_ir.ExprIR.{ExprIR}
 use Rattle.plan_expr.specs.declared.literal.LiteralValue.{LiteralValue}
 use Rattle.plan_expr.specs.declared.literal.LiteralValue.TheVariants as literals
+use Rattle.plan_ir.specs.declared.functions.FunctionIR.{FunctionIR}
+use Rattle.plan_ir.specs.declared.functions.FunctionIR.TheVariants as functions
 use Rattle.plan_ir.specs.declared.ir.IR.{IR}
 use Rattle.plan_ir.specs.declared.ir.IR.TheVariants as nodes
 use Rattle.plan_ir.specs.declared.scan.FileInfo.{FileInfo}
@@ -21,7 +23,7 @@ use Rattle.plan_ir.specs.declared.scan.ScanSources.TheVariants as sources
 use Rattle.plan_options.specs.declared.distinct.DistinctOptionsIR.{DistinctOptionsIR}
 use Rattle.plan_options.specs.declared.sort.SortMultipleOptions.{SortMultipleOptions}
 use Rattle.plan_options.specs.declared.union.UnionOptions.{UnionOptions}
-use Rattle.plan_text.specs.Written.{link_data, list_data, nullable_data, number_data, field_data, columns_data, names_data, truths_data, output_data, outputs_data, options_data, slice_data, row_index_data, sources_data, literal_data, expr_data, slice_node_data, scan_data, frame_scan_data, made_data, sort_data, distinct_data, union_data, cache_data, node_data, plan_data}
+use Rattle.plan_text.specs.Written.{link_data, list_data, nullable_data, number_data, field_data, columns_data, names_data, truths_data, output_data, outputs_data, options_data, slice_data, row_index_data, sources_data, literal_data, expr_data, slice_node_data, scan_data, frame_scan_data, made_data, sort_data, distinct_data, rename_data, numbering_data, frame_function_data, map_function_data, union_data, cache_data, node_data, plan_data}
 
 both : (a b k : ℕ) → a ≤ k → b ≤ k → max a b ≤ k
 both a b k p q = omega arith
@@ -41,8 +43,8 @@ nullable_deep f k (Some x) each = each x
 flat : (d : Data) (k : ℕ) → depth d ≡ 0 → depth d ≤ k
 flat d k e = omega (arith, e)
 
-names_deep : (ns : List (List ℕ)) → depth (names_data ns) ≤ 2
-names_deep ns = let below = list_deep string 0 ns (λ n. flat (string n) 0 refl) in omega arith
+names_deep : (ns : List (List ℕ)) → depth (names_data ns) ≤ 1
+names_deep ns = list_deep string 0 ns (λ n. flat (string n) 0 refl)
 
 truths_deep : (bs : List Bool) → depth (truths_data bs) ≤ 1
 truths_deep bs = list_deep boolean 0 bs (λ b. flat (boolean b) 0 refl)
@@ -67,7 +69,7 @@ sources_deep (sources.Paths ps) = let below = names_deep ps in omega arith
 scan_deep : (from : ScanSources) (info : FileInfo) (predicate : Option ExprIR) (output : Option Columns) (format : FileScan) (options : FileScanOptions) → depth (scan_data from info predicate output format options) ≤ 4
 unfolding scan_data
 scan_deep from info predicate output format options =
-    let read = nullable_deep names_data 2 options.with_columns names_deep in
+    let read = nullable_deep names_data 1 options.with_columns names_deep in
     let put_out = nullable_deep columns_data 2 output columns_deep in
     let path = nullable_deep string 0 options.include_file_paths (λ n. flat (string n) 0 refl) in
     let kept = nullable_deep output_data 2 predicate output_deep in
@@ -111,8 +113,30 @@ distinct_deep : (input : Node) (options : DistinctOptionsIR) → depth (distinct
 unfolding distinct_data
 distinct_deep input options =
     let some = nullable_deep slice_data 1 options.slice (λ r. omega arith) in
-    let told = nullable_deep names_data 2 options.subset names_deep in
+    let told = nullable_deep names_data 1 options.subset names_deep in
     omega arith
+
+rename_deep : (existing new : List (List ℕ)) (swapping : Bool) → depth (rename_data existing new swapping) ≤ 2
+unfolding rename_data
+rename_deep existing new swapping =
+    let given = names_deep existing in
+    let made = names_deep new in
+    omega arith
+
+numbering_deep : (name : List ℕ) (offset : Option ℕ) → depth (numbering_data name offset) ≤ 2
+unfolding numbering_data
+numbering_deep name offset =
+    let first = nullable_deep number_data 0 offset (λ n. flat (number_data n) 0 refl) in
+    omega arith
+
+frame_function_deep : (f : FunctionIR) → depth (frame_function_data f) ≤ 3
+unfolding frame_function_data
+frame_function_deep (functions.Rename existing new swapping) = let told = rename_deep existing new swapping in omega arith
+frame_function_deep (functions.RowIndex name offset) = let told = numbering_deep name offset in omega arith
+
+map_function_deep : (input : Node) (function : FunctionIR) → depth (map_function_data input function) ≤ 4
+unfolding map_function_data
+map_function_deep input function = let told = frame_function_deep function in omega arith
 
 literal_deep : (v : LiteralValue) → depth (literal_data v) ≤ 0
 literal_deep (literals.Null t) = omega arith
@@ -157,6 +181,7 @@ node_deep (nodes.Select input expr schema options) = made_deep _ input expr sche
 node_deep (nodes.HStack input exprs schema options) = made_deep _ input exprs schema options
 node_deep (nodes.Sort input keys slice options) = sort_deep input keys slice options
 node_deep (nodes.Distinct input options) = distinct_deep input options
+node_deep (nodes.MapFunction input function) = map_function_deep input function
 node_deep (nodes.Sink input payload) = omega arith
 node_deep (nodes.Union inputs options) = union_deep inputs options
 node_deep (nodes.Cache input id hits) = cache_deep input id hits

@@ -12,6 +12,8 @@ use Rattle.plan_expr.specs.declared.aexpr.AExpr.TheVariants as exprs
 use Rattle.plan_expr.specs.declared.expr_ir.ExprIR.{ExprIR}
 use Rattle.plan_expr.specs.declared.literal.LiteralValue.{LiteralValue}
 use Rattle.plan_expr.specs.declared.literal.LiteralValue.TheVariants as literals
+use Rattle.plan_ir.specs.declared.functions.FunctionIR.{FunctionIR}
+use Rattle.plan_ir.specs.declared.functions.FunctionIR.TheVariants as functions
 use Rattle.plan_ir.specs.declared.ir.IR.{IR}
 use Rattle.plan_ir.specs.declared.ir.IR.TheVariants as nodes
 use Rattle.plan_ir.specs.declared.scan.FileInfo.{FileInfo}
@@ -22,7 +24,7 @@ use Rattle.plan_options.specs.declared.distinct.DistinctOptionsIR.{DistinctOptio
 use Rattle.plan_options.specs.declared.sort.SortMultipleOptions.{SortMultipleOptions}
 use Rattle.plan_options.specs.declared.union.UnionOptions.{UnionOptions}
 use Rattle.plan_text.specs.Kinds.{place_of}
-use Rattle.plan_text.specs.Written.{link_data, integer_data, number_data, list_data, nullable_data, field_data, columns_data, names_data, truths_data, output_data, outputs_data, options_data, slice_data, row_index_data, sources_data, literal_data, expr_data, slice_node_data, scan_data, frame_scan_data, made_data, sort_data, distinct_data, union_data, cache_data, node_data, plan_data, fault_data}
+use Rattle.plan_text.specs.Written.{link_data, integer_data, number_data, list_data, nullable_data, field_data, columns_data, names_data, truths_data, output_data, outputs_data, options_data, slice_data, row_index_data, sources_data, literal_data, expr_data, slice_node_data, scan_data, frame_scan_data, made_data, sort_data, distinct_data, rename_data, numbering_data, frame_function_data, map_function_data, union_data, cache_data, node_data, plan_data, fault_data}
 
 -- the value has no float
 abbrev IsPlain : Data → Type 0
@@ -124,6 +126,23 @@ distinct_plain : (input : Node) (options : DistinctOptionsIR) → IsPlain (disti
 unfolding distinct_data
 distinct_plain input options = rw (nullable_plain slice_data options.slice slice_plain, nullable_plain names_data options.subset names_plain) refl
 
+rename_plain : (existing new : List (List ℕ)) (swapping : Bool) → IsPlain (rename_data existing new swapping)
+unfolding rename_data
+rename_plain existing new swapping = rw (names_plain existing, names_plain new) refl
+
+numbering_plain : (name : List ℕ) (offset : Option ℕ) → IsPlain (numbering_data name offset)
+unfolding numbering_data
+numbering_plain name offset = rw (nullable_plain number_data offset (λ n. refl)) refl
+
+frame_function_plain : (f : FunctionIR) → IsPlain (frame_function_data f)
+unfolding frame_function_data
+frame_function_plain (functions.Rename existing new swapping) = rw (rename_plain existing new swapping) refl
+frame_function_plain (functions.RowIndex name offset) = rw (numbering_plain name offset) refl
+
+map_function_plain : (input : Node) (function : FunctionIR) → IsPlain (map_function_data input function)
+unfolding map_function_data
+map_function_plain input function = rw (frame_function_plain function) refl
+
 union_plain : (inputs : List Node) (options : UnionOptions) → IsPlain (union_data inputs options)
 unfolding union_data
 union_plain inputs options = rw (links_plain inputs, nullable_plain slice_data options.slice slice_plain) refl
@@ -143,6 +162,7 @@ node_plain (nodes.Select input expr schema options) = made_plain _ input expr sc
 node_plain (nodes.HStack input exprs schema options) = made_plain _ input exprs schema options
 node_plain (nodes.Sort input keys slice options) = sort_plain input keys slice options
 node_plain (nodes.Distinct input options) = distinct_plain input options
+node_plain (nodes.MapFunction input function) = map_function_plain input function
 node_plain (nodes.Sink input payload) = refl
 node_plain (nodes.Union inputs options) = union_plain inputs options
 node_plain (nodes.Cache input id hits) = cache_plain input id hits

@@ -20,6 +20,8 @@ use Rattle.plan_expr.specs.declared.literal.LiteralValue.{LiteralValue}
 use Rattle.plan_expr.specs.declared.literal.LiteralValue.TheVariants as literals
 use Rattle.plan_expr.specs.declared.expr_ir.OutputName.{OutputName}
 use Rattle.plan_expr.specs.declared.expr_ir.OutputName.TheVariants as names
+use Rattle.plan_ir.specs.declared.functions.FunctionIR.{FunctionIR}
+use Rattle.plan_ir.specs.declared.functions.FunctionIR.TheVariants as functions
 use Rattle.plan_ir.specs.declared.ir.IR.{IR}
 use Rattle.plan_ir.specs.declared.ir.IR.TheVariants as nodes
 use Rattle.plan_ir.specs.declared.scan.FileInfo.{FileInfo}
@@ -202,6 +204,35 @@ distinct_data input options = object (
     member (codes "slice") (nullable_data slice_data options.slice) (
     member (codes "subset") (nullable_data names_data options.subset) no_members))))))
 
+-- columns under other names
+unfoldable pub rename_data : List (List ℕ) → List (List ℕ) → Bool → Data
+rename_data existing new swapping = object (
+    member (codes "existing") (names_data existing) (
+    member (codes "new") (names_data new) (
+    member (codes "swapping") (boolean swapping) no_members)))
+
+-- columns behind one that numbers the rows
+unfoldable pub numbering_data : List ℕ → Option ℕ → Data
+numbering_data name offset = object (
+    member (codes "name") (string name) (
+    member (codes "offset") (nullable_data number_data offset) no_members))
+
+-- the object of one key
+abbrev pub only_data : List ℕ → Data → Data
+only_data k d = object (member k d no_members)
+
+-- a function of whole frames, under its name
+unfoldable pub frame_function_data : FunctionIR → Data
+frame_function_data (functions.Rename existing new swapping) = only_data (codes "Rename") (rename_data existing new swapping)
+frame_function_data (functions.RowIndex name offset) = only_data (codes "RowIndex") (numbering_data name offset)
+
+-- what a function makes of the whole input
+unfoldable pub map_function_data : Node → FunctionIR → Data
+map_function_data input function = object (
+    member (codes "function") (frame_function_data function) (
+    member (codes "input") (link_data input) (
+    member (codes "op") (string (codes "MapFunction")) no_members)))
+
 -- the rows of the inputs, those of one after those of another
 unfoldable pub union_data : List Node → UnionOptions → Data
 union_data inputs options = object (
@@ -232,6 +263,7 @@ node_data (nodes.Select input expr schema options) = made_data (codes "Select") 
 node_data (nodes.HStack input exprs schema options) = made_data (codes "HStack") input exprs schema options
 node_data (nodes.Sort input keys slice options) = sort_data input keys slice options
 node_data (nodes.Distinct input options) = distinct_data input options
+node_data (nodes.MapFunction input function) = map_function_data input function
 node_data (nodes.Sink input payload) = object (member (codes "input") (link_data input) (member (codes "op") (string (codes "Sink")) no_members))
 node_data (nodes.Union inputs options) = union_data inputs options
 node_data (nodes.Cache input id hits) = cache_data input id hits

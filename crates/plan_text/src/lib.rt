@@ -2,6 +2,7 @@
 #![tactic(auto)]
 
 mod exprs;
+mod functions;
 mod kinds;
 mod listing;
 mod lists;

@@ -2,7 +2,7 @@
 ghost use Rattle.std.specs.Prelude.{IfOk};
 ghost use Rattle.plan_ir.specs.declared.ir.IR.TheVariants.{Filter, SimpleProjection};
 ghost use Rattle.plan_text.specs.Pieces.{Tells};
-ghost use Rattle.plan_text.specs.Written.{cache_data, distinct_data, frame_scan_data, made_data, node_data, scan_data, slice_node_data, sort_data, union_data};
+ghost use Rattle.plan_text.specs.Written.{cache_data, distinct_data, frame_scan_data, made_data, map_function_data, node_data, scan_data, slice_node_data, sort_data, union_data};
 
 use crate::kinds::{format_name, keep_name};
 use crate::pieces::{
@@ -11,7 +11,7 @@ use crate::pieces::{
 };
 use plan_core::{FileScanOptions, Items, Node, ProjectionOptions, Schema};
 use plan_expr::ExprIR;
-use plan_ir::{FileInfo, FileScan, IR, ScanSources};
+use plan_ir::{FileInfo, FileScan, FunctionIR, IR, ScanSources};
 use plan_options::{DistinctOptionsIR, SortMultipleOptions, UnionOptions};
 use std::alloc::{AllocError, Global};
 
@@ -171,6 +171,22 @@ fn distinct<'a>(
     ]?)
 }
 
+/// The entries of what a function makes of the whole input.
+#[tactic(auto, unfolding(crate::specs::Written::map_function_data))]
+fn map_function<'a>(
+    alloc: Global,
+    input: Node,
+    function: &'a FunctionIR,
+) -> Result<Entries<'a>, AllocError>
+    ensures { IfOk result (λ es. Tells es.items (map_function_data input function.now)) }
+{
+    Ok(vec![in alloc;
+        ("function", Piece::Function(function)),
+        ("input", Piece::Number(input.0)),
+        ("op", Piece::Text("MapFunction")),
+    ]?)
+}
+
 /// The entries of a union.
 #[tactic(auto, unfolding(crate::specs::Written::union_data))]
 fn union<'a>(
@@ -225,6 +241,7 @@ pub fn node_entries(alloc: Global, node: &IR) -> Result<Entries<'_>, AllocError>
         IR::Sort { input, by_column, slice, sort_options } =>
             sort(alloc, *input, by_column, *slice, sort_options),
         IR::Distinct { input, options } => distinct(alloc, *input, options),
+        IR::MapFunction { input, function } => map_function(alloc, *input, function),
         IR::Sink { input, .. } =>
             Ok(vec![in alloc; ("input", Piece::Number(input.0)), ("op", Piece::Text("Sink"))]?),
         IR::Union { inputs, options } => union(alloc, inputs, *options),

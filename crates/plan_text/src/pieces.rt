@@ -6,7 +6,7 @@ ghost use Rattle.plan_text.specs.Written.{columns_data, names_data, nullable_dat
 
 use plan_core::{Items, Node, PlSmallStr, ProjectionOptions, RowIndex, Schema};
 use plan_expr::ExprIR;
-use plan_ir::ScanSources;
+use plan_ir::{FunctionIR, ScanSources};
 
 /// A value that is to be written.
 #[derive(Drop)]
@@ -37,6 +37,8 @@ pub enum Piece<'a> {
     Outputs(&'a [ExprIR]),
     /// The three truth values of what a node that makes columns may do.
     Options(ProjectionOptions),
+    /// The object of a function of whole frames, under its name.
+    Function(&'a FunctionIR),
     /// The name of the column that numbers the rows, and the number of the first row.
     RowIndex(&'a RowIndex),
     /// The first row, and how many rows.

@@ -5,6 +5,7 @@ ghost use Rattle.plan_text.specs.Lists.{are_ascending};
 ghost use Rattle.plan_text.specs.Pieces.{object_of, piece_data, piece_key};
 ghost use Rattle.plan_text.specs.Written.{columns_data, field_data, link_data, list_data, names_data, options_data, output_data, outputs_data, truths_data};
 
+use crate::functions::frame_function;
 use crate::kinds::type_name;
 use crate::lists::each;
 use crate::nodes::Entries;
@@ -34,7 +35,7 @@ fn columns(alloc: Global, schema: &Schema) -> Result<Value, AllocError>
 }
 
 /// The array of names, in order.
-fn names(alloc: Global, names: &[PlSmallStr]) -> Result<Value, AllocError>
+pub fn names(alloc: Global, names: &[PlSmallStr]) -> Result<Value, AllocError>
     ensures { IfOk result (λ v. view v ≡ names_data names.now) }
 {
     let written = each(alloc, names, |name| {
@@ -107,6 +108,7 @@ fn value(alloc: Global, piece: &Piece<'_>) -> Result<Value, AllocError>
         Piece::Output(expr) => output(alloc, expr),
         Piece::Outputs(exprs) => outputs(alloc, exprs),
         Piece::Options(given) => options(alloc, *given),
+        Piece::Function(function) => frame_function(alloc, function),
         Piece::RowIndex(column) => json!(in alloc; [column.name.as_str(), column.offset]),
         Piece::Slice(offset, len) => json!(in alloc; [*offset, *len]),
     }

@@ -5,6 +5,7 @@ ghost use Rattle.serde_json.specs.Written.{outline};
 ghost use Rattle.plan_text.specs.Pieces.{object_of, piece_data};
 ghost use Rattle.plan_text.specs.Written.{columns_data, field_data, link_data, list_data, names_data, options_data, output_data, outputs_data, paths_data, row_index_data, slice_data, truths_data};
 
+use crate::functions::write_frame_function;
 use crate::kinds::type_name;
 use crate::origins::{name_of, origin};
 use crate::pieces::Piece;
@@ -180,6 +181,7 @@ fn write_piece(writer: &mut Writer, piece: &Piece<'_>) -> Result<(), AllocError>
         Piece::Output(expr) => write_output(writer, expr),
         Piece::Outputs(exprs) => write_outputs(writer, exprs),
         Piece::Options(given) => write_options(writer, *given),
+        Piece::Function(function) => write_frame_function(writer, function),
         Piece::RowIndex(column) => write_row_index(writer, column),
         Piece::Slice(offset, len) => write_slice(writer, *offset, *len),
     }
