@@ -6,6 +6,8 @@ mod documents;
 #[cfg(test)]
 mod exprs;
 #[cfg(test)]
+mod functions;
+#[cfg(test)]
 mod further;
 #[cfg(test)]
 mod nodes;

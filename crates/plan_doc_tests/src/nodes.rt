@@ -34,7 +34,7 @@ const CACHE: &str = r#"{"op":"Cache","input":2,"id":7,"hits":4294967295}"#;
 
 const NEVER_HIT: &str = r#"{"op":"Cache","input":4294967295,"id":4294967295,"hits":0}"#;
 
-fn reads_as(rt: &impl Abort, alloc: Global, entry: &str, wanted: IR) -> Result<(), Fail> {
+pub fn reads_as(rt: &impl Abort, alloc: Global, entry: &str, wanted: IR) -> Result<(), Fail> {
     let text = ONE.replacen(alloc, "ENTRY", entry, 1)?;
     let lp = read_document(alloc, text.as_bytes())?.lp;
     assert_eq!(rt; lp.len(), 1);
@@ -145,7 +145,7 @@ fn caches_read(rt: HostRuntime) -> Result<(), Fail> {
     reads_as(&rt, alloc, NEVER_HIT, cache(4294967295, 4294967295, 0))
 }
 
-fn refuses(
+pub fn refuses(
     rt: &impl Abort,
     alloc: Global,
     entry: &str,
