@@ -6,7 +6,7 @@ use plan_core::{
     RowIndex, Schema,
 };
 use plan_expr::{AExpr, ExprIR, FunctionExpr, IRAggExpr, LiteralValue, Operator, OutputName};
-use plan_ir::{FileInfo, FileScan, IR, PlanCopy, ScanSources};
+use plan_ir::{FileInfo, FileScan, FunctionIR, IR, PlanCopy, ScanSources};
 use plan_made::{links, marks, names, schema};
 use plan_options::{DistinctOptionsIR, SortMultipleOptions, UnionOptions, UniqueKeepStrategy};
 use std::alloc::{AllocError, Global};
@@ -363,6 +363,36 @@ pub fn union_plan(alloc: Global) -> Result<PlanCopy, AllocError> {
     let _ = plan.lp.add(union_of_three(alloc)?)?;
     let _ = plan.lp.add(union_of_none(alloc))?;
     let _ = plan.lp.add(over::cache(2, 7, 4294967295))?;
+    Ok(plan)
+}
+
+fn renamed(alloc: Global, existing: &[&str], new: &[&str]) -> Result<IR, AllocError> {
+    Ok(IR::MapFunction {
+        input: Node(2),
+        function: FunctionIR::Rename {
+            existing: names(alloc, existing)?,
+            new: names(alloc, new)?,
+            swapping: !existing.is_empty(),
+        },
+    })
+}
+
+fn numbered(alloc: Global, column: &str, offset: Option<u32>) -> Result<IR, AllocError> {
+    let name = name(alloc, column)?;
+    Ok(IR::MapFunction {
+        input: Node(3),
+        function: FunctionIR::RowIndex { name, offset },
+    })
+}
+
+// Two renamings, one of nothing, and numberings of rows with and without a first number.
+pub fn mapped_plan(alloc: Global) -> Result<PlanCopy, AllocError> {
+    let mut plan = no_plan(alloc);
+    let _ = plan.lp.add(renamed(alloc, &["a", "b"], &["b", "c"])?)?;
+    let _ = plan.lp.add(renamed(alloc, &[], &[])?)?;
+    let _ = plan.lp.add(numbered(alloc, "i", Some(4294967295))?)?;
+    let _ = plan.lp.add(numbered(alloc, "i", Some(0))?)?;
+    let _ = plan.lp.add(numbered(alloc, "\"é\n", None)?)?;
     Ok(plan)
 }
 

@@ -1,7 +1,8 @@
 //! Whole texts, as they must be written.
 
 use crate::plans::{
-    all_kinds, all_operators, full_plan, more_plan, ordered_plan, simple_plan, union_plan,
+    all_kinds, all_operators, full_plan, mapped_plan, more_plan, ordered_plan, simple_plan,
+    union_plan,
 };
 use plan_core::{At, DataType, Node, PolarsError};
 use plan_ir::PlanCopy;
@@ -30,6 +31,9 @@ const ORDERED: &str =
 
 const UNIONS: &str =
     r#"{"exprs":[],"nodes":[{"flattened":true,"inputs":[3,1,3],"maintain_order":false,"op":"Union","parallel":true,"rechunk":false,"slice":[-3,4294967295]},{"flattened":true,"inputs":[],"maintain_order":true,"op":"Union","parallel":false,"rechunk":false,"slice":null},{"hits":4294967295,"id":7,"input":2,"op":"Cache"}],"root":0}"#;
+
+const MAPPED: &str =
+    r#"{"exprs":[],"nodes":[{"function":{"Rename":{"existing":["a","b"],"new":["b","c"],"swapping":true}},"input":2,"op":"MapFunction"},{"function":{"Rename":{"existing":[],"new":[],"swapping":false}},"input":2,"op":"MapFunction"},{"function":{"RowIndex":{"name":"i","offset":4294967295}},"input":3,"op":"MapFunction"},{"function":{"RowIndex":{"name":"i","offset":0}},"input":3,"op":"MapFunction"},{"function":{"RowIndex":{"name":"\"é\n","offset":null}},"input":3,"op":"MapFunction"}],"root":0}"#;
 
 fn is_written(
     rt: &impl Abort,
@@ -82,6 +86,17 @@ fn writes_sorts_distinct_rows_and_sinks(rt: HostRuntime) -> Result<(), AllocErro
 fn writes_unions_and_caches(rt: HostRuntime) -> Result<(), AllocError> {
     let plan = union_plan(rt.alloc())?;
     is_written(&rt, rt.alloc(), &plan, UNIONS)
+}
+
+#[test]
+fn writes_functions_of_whole_frames(rt: HostRuntime) -> Result<(), AllocError> {
+    let alloc = rt.alloc();
+    let plan = mapped_plan(alloc)?;
+    is_written(&rt, alloc, &plan, MAPPED)?;
+    let text = write_listing(alloc, &plan, &[], None)?;
+    let wanted = format!(in alloc; "{{\"plan\":{MAPPED},\"reads\":[],\"rows\":null}}\n")?;
+    assert_eq!(rt; text.as_str(), wanted.as_str());
+    Ok(())
 }
 
 #[test]
