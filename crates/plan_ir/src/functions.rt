@@ -54,6 +54,11 @@ pub enum FunctionIR {
         /// Which columns, and how what is given is named.
         args: UnpivotArgsIR,
     },
+    /// Each row as often as the longest of its lists has values, at least once, with one value of each list in each of these rows.
+    Explode {
+        /// The columns whose lists are taken apart, side by side.
+        columns: Items<PlSmallStr>,
+    },
 }
 
 impl TryClone for FunctionIR {
@@ -76,6 +81,9 @@ impl TryClone for FunctionIR {
             }),
             FunctionIR::Unpivot { args } => Ok(FunctionIR::Unpivot {
                 args: args.try_clone(alloc)?,
+            }),
+            FunctionIR::Explode { columns } => Ok(FunctionIR::Explode {
+                columns: columns.try_clone(alloc)?,
             }),
         }
     }

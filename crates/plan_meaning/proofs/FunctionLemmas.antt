@@ -6,19 +6,20 @@ use Rattle.std.specs.Str.{bytes_eq}
 use Rattle.std.proofs.lemmas.List.FromFn.{length-map-range_with_len}
 use Rattle.plan_core.specs.declared.data_type.DataType.TheVariants.{Int64}
 use Rattle.plan_core.specs.Columns.{Columns, names_of}
-use Rattle.plan_core.specs.Names.{has, AreDistinct}
+use Rattle.plan_core.specs.Names.{has, with_names, AreDistinct}
 use Rattle.plan_ir.specs.declared.functions.FunctionIR.{FunctionIR}
-use Rattle.plan_ir.specs.declared.functions.FunctionIR.TheVariants.{Rename, RowIndex, Unpivot}
+use Rattle.plan_ir.specs.declared.functions.FunctionIR.TheVariants.{Rename, RowIndex, Unpivot, Explode}
 use Rattle.plan_expr.specs.Leaves.{Name}
-use Rattle.plan_meaning.specs.Functions.{renamed, former, renamed_columns, function_schema}
+use Rattle.plan_meaning.specs.Functions.{renamed, former, renamed_columns, exploded_columns, function_schema}
 use Rattle.plan_meaning.specs.Typing.{function_checks, AllHold}
 use Rattle.plan_meaning.specs.Values.{whole, AllOf}
 use Rattle.plan_meaning.specs.Frames.{Frame, Column, HaveTypes, HasSchema}
 use Rattle.plan_meaning.specs.Mapped.{mapped}
 use Rattle.plan_meaning.specs.Relating.{Asked, all, names as these, cached}
 use Rattle.plan_meaning.specs.Asked.{set_of, unpivot_names, asks_function, IsFair}
-use Rattle.plan_meaning.proofs.NameSets.{named, has_cons, has_first, has_later, some-type_of, distinct_cons}
+use Rattle.plan_meaning.proofs.NameSets.{named, has_cons, has_first, has_later, some-type_of, distinct_cons, distinct_names}
 use Rattle.plan_meaning.proofs.KeptExprs.{where_has, distinct_where}
+use Rattle.plan_meaning.proofs.ExplodeLemmas.{exploded_has, explode_known, names-exploded}
 use Rattle.plan_meaning.proofs.UnpivotLemmas.{unpivoted_has, unpivot_apart, unpivot_known}
 
 -- frames
@@ -40,6 +41,7 @@ mapped_has (RowIndex name offset) s g good h =
     let first : ℕ = unwrap_or offset 0 in
     (refl, length-map-range_with_len (λ (i : ℕ). whole (int_wrap w64 (pos i))) first g.height, whole_numbers (range_with_len first g.height), h)
 mapped_has (Unpivot args) s g good h = unpivoted_has args s g good h
+mapped_has (Explode columns) s g good h = exploded_has columns s g h
 
 -- the names that become others
 
@@ -111,3 +113,6 @@ fair_function (RowIndex name offset) (these wanted) s good h =
     fair_names (only_where (has (names_of s)) wanted) s (distinct_where (has (names_of s)) wanted h.once) (λ b i. (where_has (has (names_of s)) wanted b i).1)
 fair_function (Unpivot args) (these wanted) s good h =
     fair_names (unpivot_names args) s (unpivot_apart args) (λ b i. unpivot_known args s good b i)
+fair_function (Explode columns) (these wanted) s good h =
+    fair_names (with_names wanted columns) s (distinct_names wanted columns h.once)
+    (explode_known columns wanted s good (λ a i. ap (λ (l : List Name). has l a) (sym (names-exploded columns s)) ∙ sym (some-type_of (exploded_columns columns s) a) ∙ h.known a i))

@@ -23,6 +23,7 @@ pub mod UnionLemmas
 pub mod MadeColumns
 pub mod KeptExprs
 pub mod UnpivotLemmas
+pub mod ExplodeLemmas
 pub mod FunctionLemmas
 pub mod Runs
 pub mod Refining

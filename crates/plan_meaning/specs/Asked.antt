@@ -11,7 +11,7 @@ use Rattle.plan_expr.specs.Leaves.{Name, leaves}
 use Rattle.plan_expr.specs.Naming.{name_of}
 use Rattle.plan_meaning.specs.Typing.{is_empty, names_or, columns_or, file_columns, first_schema, schema_by, schemas}
 use Rattle.plan_ir.specs.declared.functions.FunctionIR.{FunctionIR}
-use Rattle.plan_ir.specs.declared.functions.FunctionIR.TheVariants.{Rename, RowIndex, Unpivot}
+use Rattle.plan_ir.specs.declared.functions.FunctionIR.TheVariants.{Rename, RowIndex, Unpivot, Explode}
 use Rattle.plan_ir.specs.declared.functions.UnpivotArgsIR.{UnpivotArgsIR}
 use Rattle.plan_meaning.specs.Functions.{renamed, former}
 use Rattle.plan_meaning.specs.Steps.{all_scalar}
@@ -89,11 +89,12 @@ asks_stacked es cached s = cached
 abbrev pub unpivot_names : UnpivotArgsIR → List Name
 unpivot_names args = if is_empty args.on then [] else with_names [] (args.index ++ args.on)
 
--- the names that a function of which these are asked needs of its input: a renaming those that get them, a numbering of the rows those that the input has, an unpivot the same whatever is asked
+-- the names that a function of which these are asked needs of its input: a renaming those that get them, a numbering of the rows those that the input has, an unpivot the same whatever is asked, an explode what is asked and its columns
 abbrev pub function_names : FunctionIR → List Name → Columns → List Name
 function_names (Rename existing new swapping) wanted s = filter_map (former (renamed existing new) (names_of s)) wanted
 function_names (RowIndex name offset) wanted s = only_where (has (names_of s)) wanted
 function_names (Unpivot args) wanted s = unpivot_names args
+function_names (Explode columns) wanted s = with_names wanted columns
 
 -- a function asks for the names that it needs
 abbrev pub asks_function : FunctionIR → Asked → Columns → Asked

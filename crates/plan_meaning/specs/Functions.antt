@@ -3,11 +3,11 @@ use Rattle.std.specs.Prelude.{Bool, true, not, ◌&&◌, List, [], ◌∷◌, �
 use Rattle.std.specs.List.{filter as only_where, list_any}
 use Rattle.std.specs.Str.{bytes_eq}
 use Rattle.plan_core.specs.declared.data_type.DataType.{DataType}
-use Rattle.plan_core.specs.declared.data_type.DataType.TheVariants.{Int64, String}
-use Rattle.plan_core.specs.Columns.{Columns, names_of, type_of}
+use Rattle.plan_core.specs.declared.data_type.DataType.TheVariants.{Int64, String, Boolean, List as ListOf}
+use Rattle.plan_core.specs.Columns.{Columns, names_of, type_of, plain}
 use Rattle.plan_core.specs.Names.{has}
 use Rattle.plan_ir.specs.declared.functions.FunctionIR.{FunctionIR}
-use Rattle.plan_ir.specs.declared.functions.FunctionIR.TheVariants.{Rename, RowIndex, Unpivot}
+use Rattle.plan_ir.specs.declared.functions.FunctionIR.TheVariants.{Rename, RowIndex, Unpivot, Explode}
 use Rattle.plan_ir.specs.declared.functions.UnpivotArgsIR.{UnpivotArgsIR}
 use Rattle.plan_expr.specs.Leaves.{Name}
 
@@ -90,8 +90,20 @@ first_type s (a ∷ names) = type_or s a
 abbrev pub unpivoted_columns : UnpivotArgsIR → Columns → Columns
 unpivoted_columns args s = columns_at s args.index ++ (variable_name args, String) ∷ (value_name args, first_type s (value_names args (names_of s))) ∷ []
 
--- the columns that a function gives, from those of its input: a renaming the same under their new names, a numbering of the rows its own before them, an unpivot those that it repeats and its own two
+-- the type of the values in a column's lists, the column's own where it has no lists
+abbrev pub item_type : DataType → DataType
+item_type Int64 = Int64
+item_type String = String
+item_type Boolean = Boolean
+item_type (ListOf t) = plain t
+
+-- the columns, those of some names with the types of the values in their lists
+abbrev pub exploded_columns : List Name → Columns → Columns
+exploded_columns names s = map (λ (c : Name × DataType). (c.0, if has names c.0 then item_type c.1 else c.1)) s
+
+-- the columns that a function gives, from those of its input: a renaming the same under their new names, a numbering of the rows its own before them, an unpivot those that it repeats and its own two, an explode the same, with the types of the values in the lists that it takes apart
 abbrev pub function_schema : FunctionIR → Columns → Columns
 function_schema (Rename existing new swapping) s = renamed_columns (renamed existing new) s
 function_schema (RowIndex name offset) s = (name, Int64) ∷ s
 function_schema (Unpivot args) s = unpivoted_columns args s
+function_schema (Explode columns) s = exploded_columns columns s

@@ -14,7 +14,7 @@ use Rattle.plan_core.specs.Columns.{Columns, names_of, type_of, with_types, same
 use Rattle.plan_core.specs.Names.{has}
 use Rattle.plan_tree.specs.Rose.{Rose, Roses, rose, no_roses, more}
 use Rattle.plan_ir.specs.declared.functions.FunctionIR.{FunctionIR}
-use Rattle.plan_ir.specs.declared.functions.FunctionIR.TheVariants.{Rename, RowIndex, Unpivot}
+use Rattle.plan_ir.specs.declared.functions.FunctionIR.TheVariants.{Rename, RowIndex, Unpivot, Explode}
 use Rattle.plan_ir.specs.declared.functions.UnpivotArgsIR.{UnpivotArgsIR}
 use Rattle.plan_ir.specs.declared.scan.FileInfo.{FileInfo}
 use Rattle.plan_expr.specs.Exprs.{Named}
@@ -298,11 +298,23 @@ unpivot_checks args s =
     ++ (unpivot_type_checks args.on names (first_type s names) s
     ++ check Duplicate 0 (all_differ (unpivoted_names args)) ∷ []))
 
+-- there is a type, and it is that of lists
+abbrev pub is_list_type : Option DataType → Bool
+is_list_type None = false
+is_list_type (Some t) = not (is_plain t)
+
+-- the columns that are taken apart are the input's, and have lists
+unfoldable pub explode_checks : List Name → Columns → List Check
+explode_checks names s =
+    each SchemaFieldNotFound 1 (is_known s) names
+    ++ each SchemaMismatch 1 (λ (a : Name). is_list_type (type_of s a)) names
+
 -- the checks on a function over the columns of its input
 abbrev pub function_checks : FunctionIR → Columns → List Check
 function_checks (Rename existing new swapping) s = rename_checks existing new s
 function_checks (RowIndex name offset) s = row_index_checks name s
 function_checks (Unpivot args) s = unpivot_checks args s
+function_checks (Explode columns) s = explode_checks columns s
 
 -- whether a union has a form that is built: some inputs, and no slice
 unfoldable pub is_built_union : UnionOptions → List Columns → Bool

@@ -1,6 +1,7 @@
 //! The checks on nodes, and the columns that nodes have: a file for each family of nodes.
 mod columns;
 mod distinct;
+mod explode;
 mod filter;
 mod frame_scan;
 mod function;

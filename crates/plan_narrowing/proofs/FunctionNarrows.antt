@@ -1,36 +1,34 @@
 -- A function over an input that narrows at what it asks.
-use Rattle.std.proofs.Common.{◌≡◌, Bool, true, false, not, cond, List, [], ◌∷◌, map, Option, Some, None, is_some, unwrap_or, refl, sym, ap, ◌∙◌, subst}
+use Rattle.std.proofs.Common.{◌≡◌, Bool, true, false, not, cond, List, [], ◌∷◌, ◌++◌, map, Option, Some, None, is_some, unwrap_or, refl, sym, ap, ◌∙◌, subst}
 use Rattle.std.specs.Str.{bytes_eq}
 use Rattle.plan_core.specs.declared.data_type.DataType.{DataType}
 use Rattle.plan_core.specs.Columns.{Columns, names_of, type_of}
-use Rattle.plan_core.specs.Names.{has}
+use Rattle.plan_core.specs.Names.{has, with_names}
 use Rattle.plan_ir.specs.declared.functions.FunctionIR.{FunctionIR}
-use Rattle.plan_ir.specs.declared.functions.FunctionIR.TheVariants.{Rename, RowIndex}
+use Rattle.plan_ir.specs.declared.functions.FunctionIR.TheVariants.{Rename, RowIndex, Unpivot}
 use Rattle.plan_ir.specs.Plans.{map_function}
 use Rattle.plan_expr.specs.Leaves.{Name}
 use Rattle.plan_meaning.specs.Functions.{function_schema}
 use Rattle.plan_meaning.specs.Mapped.{mapped}
-use Rattle.plan_meaning.specs.Typing.{function_checks, AllHold}
+use Rattle.plan_meaning.specs.Typing.{is_empty, function_checks, AllHold}
 use Rattle.plan_meaning.specs.Frames.{Frame, HasSchema, Agree}
 use Rattle.plan_meaning.specs.Relating.{Asked, all, names as these, cached, Holding, NarrowColumns, AgreeOn}
 use Rattle.plan_meaning.specs.Asked.{set_of, function_names, asks_function, Fair, IsFair}
 use Rattle.plan_narrowing.proofs.NarrowLemmas.{Local, one_step, same_one, same_cached}
-use Rattle.plan_narrowing.proofs.ProjectionNarrows.{some_is}
-use Rattle.plan_narrowing.proofs.FunctionParts.{FunctionKept}
+use Rattle.plan_narrowing.proofs.FunctionParts.{FunctionKept, self_holds}
 use Rattle.plan_narrowing.proofs.RenameNarrows.{rename_kept}
+use Rattle.plan_narrowing.proofs.UnpivotNarrows.{unpivot_kept}
 use Rattle.plan_narrowing.proofs.IndexNarrows.{index_kept}
 
--- columns hold what can be asked of them
-self_holds : (wanted : List Name) (s : Columns) → Fair wanted s → Holding wanted s s
-self_holds wanted s fair = record {
-  held = λ a i. let t = some_is (type_of s a) (fair.known a i) in (t.0, t.1, t.1);
-  within = λ a e. e;
-}
-
 -- per function
-kept_by : (f : FunctionIR) (wanted : List Name) (r s : Columns) → AllHold (function_checks f s) → Fair wanted (function_schema f s) → Holding (function_names f wanted s) r s → FunctionKept f wanted r s
-kept_by (Rename existing new swapping) wanted r s good fair h = rename_kept existing new swapping wanted r s good fair h
-kept_by (RowIndex name offset) wanted r s good fair h = index_kept name offset wanted r s good fair h
+kept_by : (f : FunctionIR) (wanted : List Name) (r s : Columns) → AllHold (function_checks f s) → Fair wanted (function_schema f s) → is_empty (function_names f wanted s) ≡ false → Holding (function_names f wanted s) r s → FunctionKept f wanted r s
+kept_by (Rename existing new swapping) wanted r s good fair some h = rename_kept existing new swapping wanted r s good fair h
+kept_by (RowIndex name offset) wanted r s good fair some h = index_kept name offset wanted r s good fair h
+kept_by (Unpivot args) wanted r s good fair some h = unpivot_kept args wanted r s (is_told (is_empty args.on) some) good fair h
+  where
+    is_told : (b : Bool) → is_empty (cond b [] (with_names [] (args.index ++ args.on))) ≡ false → b ≡ false
+    is_told true e = cc
+    is_told false e = refl
 
 -- where it needs names, those are kept; where it needs none, everything is
 local_named : (f : FunctionIR) (wanted : List Name) (r s : Columns) → AllHold (function_checks f s) → Fair wanted (function_schema f s) → (needed : List Name) → function_names f wanted s ≡ needed → NarrowColumns (set_of needed) r s → Local (map_function f) (map_function f) (set_of needed ∷ []) (these wanted) (r ∷ []) (s ∷ [])
@@ -43,7 +41,7 @@ local_named f wanted r s good fair [] is h =
           (λ f0 g0 g hr hs e t. (mapped f g0, refl, subst (λ (x : Frame). Agree wanted x (mapped f g0)) (sym (t ∙ ap (mapped f) e)) (record { height = refl; same = λ a i. refl }))) fs gs g hr has ag st;
     })
 local_named f wanted r s good fair (n ∷ needed) is h =
-    let kept = kept_by f wanted r s good fair (subst (λ (l : List Name). Holding l r s) (sym is) h) in
+    let kept = kept_by f wanted r s good fair (ap is_empty is) (subst (λ (l : List Name). Holding l r s) (sym is) h) in
     record {
       good = kept.good;
       schema = kept.schema;

@@ -11,6 +11,7 @@ mod OrderNarrows
 mod FunctionParts
 mod IndexNarrows
 mod RenameNarrows
+mod UnpivotNarrows
 mod FunctionNarrows
 mod SelectNarrows
 mod StackNarrows

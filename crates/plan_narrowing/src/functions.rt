@@ -3,11 +3,12 @@ ghost use Rattle.std.specs.Prelude.{◌≡◌, IfOk, filter as filter_list};
 ghost use Rattle.std.specs.List.{filter_map};
 ghost use Rattle.plan_core.specs.Columns.{names_of};
 ghost use Rattle.plan_core.specs.Names.{has};
-ghost use Rattle.plan_meaning.specs.Asked.{function_names};
+ghost use Rattle.plan_meaning.specs.Asked.{function_names, unpivot_names as names_unpivoted};
 ghost use Rattle.plan_meaning.specs.Functions.{former, renamed};
 
+use crate::names::add_listed;
 use plan_core::{Names, PlSmallStr, Schema};
-use plan_ir::FunctionIR;
+use plan_ir::{FunctionIR, UnpivotArgsIR};
 use plan_meaning::Renaming;
 use std::alloc::{AllocError, Global};
 
@@ -48,9 +49,23 @@ fn former_names(
     Ok(formers)
 }
 
+/// The names that an unpivot needs: those of the columns that it repeats, and then those of its value columns, each once; none where it
+/// tells no value columns.
+fn unpivot_names(alloc: Global, args: &UnpivotArgsIR) -> Result<Names, AllocError>
+    ensures { IfOk result (λ names. names ≡ names_unpivoted args.now) }
+{
+    let mut names = Names::new(alloc);
+    if args.on.len() == 0 {
+        return Ok(names);
+    }
+    add_listed(&mut names, args.index.as_slice())?;
+    add_listed(&mut names, args.on.as_slice())?;
+    Ok(names)
+}
+
 /// The names that a function of which these are asked needs of its input, which has these columns: a renaming those that become
-/// the asked names, a numbering of the rows the asked names that are columns; in the order of the asked names. Refuses for want of
-/// memory alone.
+/// the asked names, a numbering of the rows the asked names that are columns, in the order of the asked names; an unpivot what it names, where it
+/// tells value columns. Refuses for want of memory alone.
 pub fn needed_names(
     alloc: Global,
     function: &FunctionIR,
@@ -64,5 +79,6 @@ pub fn needed_names(
             former_names(alloc, existing.as_slice(), new.as_slice(), asked, columns)
         }
         FunctionIR::RowIndex { .. } => known_names(alloc, asked, columns),
+        FunctionIR::Unpivot { args } => unpivot_names(alloc, args),
     }
 }

@@ -1,5 +1,5 @@
 //! Functions of whole frames: a renaming has new names for old ones, none twice, and gives no two columns one name; a numbering
-//! of the rows adds a name; an unpivot has a file of its own.
+//! of the rows adds a name; an unpivot and an explode have files of their own.
 ghost use Rattle.std.specs.Prelude.{◌≡◌, Bool, Option, ℕ, [], ◌∷◌};
 ghost use Rattle.plan_ir.specs.declared.functions.FunctionIR.TheVariants.{Rename, RowIndex};
 ghost use Rattle.plan_ir.specs.Plans.{map_function};
@@ -7,6 +7,7 @@ ghost use Rattle.plan_meaning.specs.Typing.{rename_checks, row_index_checks, fir
 ghost use Rattle.plan_meaning.specs.Typed.{IsNodeTyped};
 
 use crate::check::columns::check_names_new;
+use crate::check::explode::explode_schema;
 use crate::check::place::at;
 use crate::check::unpivot::unpivot_schema;
 use crate::renaming::Renaming;
@@ -72,5 +73,6 @@ pub fn function_schema(
         }
         FunctionIR::RowIndex { name, .. } => row_index_schema(alloc, node, name, schema),
         FunctionIR::Unpivot { args } => unpivot_schema(alloc, node, args, schema),
+        FunctionIR::Explode { columns } => explode_schema(alloc, node, columns.as_slice(), schema),
     }
 }
