@@ -67,7 +67,8 @@ under-apart now cs d e =
 
 -- a new name
 
-none-is : (a : Name) (names : List Name) → has names a ≡ false → AllByRecursion (λ (b : Name). bytes_eq a b ≡ false) names
+-- a name that isn't there is none of those that are
+pub none-is : (a : Name) (names : List Name) → has names a ≡ false → AllByRecursion (λ (b : Name). bytes_eq a b ≡ false) names
 none-is a [] e = tt
 none-is a (b ∷ names) e =
     let parts = or_false (bytes_eq a b) (has names a) e in

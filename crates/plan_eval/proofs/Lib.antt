@@ -9,3 +9,4 @@ mod PartLemmas
 mod DistinctLemmas
 mod SortLemmas
 mod FunctionLemmas
+mod UnpivotLemmas

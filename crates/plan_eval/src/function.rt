@@ -1,4 +1,5 @@
-//! A function of the whole input gives its columns under other names, or behind one that numbers the rows.
+//! A function of the whole input gives its columns under other names, or behind one that numbers the rows; an unpivot has a file
+//! of its own.
 ghost use Rattle.std.specs.Prelude.{◌≡◌, ◌+◌, List, [], ◌∷◌, IfOk, false, map, pos, true};
 ghost use Rattle.std.specs.Int.{int_wrap, w64};
 ghost use Rattle.plan_core.specs.Columns.{names_of};
@@ -15,6 +16,7 @@ ghost use Rattle.plan_eval.specs.Function.{under};
 ghost use Rattle.plan_eval.specs.Given.{Gives};
 ghost use Rattle.plan_value.specs.Shown.{frame_of, schema_of, values_of};
 
+use crate::unpivot::unpivoted;
 use plan_core::{DataType, Items, PlSmallStr, TryClone};
 use plan_ir::FunctionIR;
 use plan_meaning::Renaming;
@@ -125,5 +127,6 @@ pub fn mapped(alloc: Global, table: &Table, function: &FunctionIR) -> Result<Tab
             renamed(alloc, table, existing.as_slice(), new.as_slice())
         }
         FunctionIR::RowIndex { name, offset } => numbered(alloc, table, name, offset.unwrap_or(0)),
+        FunctionIR::Unpivot { args } => unpivoted(alloc, table, args),
     }
 }

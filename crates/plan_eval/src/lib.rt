@@ -16,5 +16,6 @@ mod sort;
 mod stack;
 mod unchanged;
 mod union;
+mod unpivot;
 
 pub use plan::evaluate;

@@ -18,7 +18,7 @@ use plan_table::{Columns, Table};
 use std::alloc::{AllocError, Global};
 
 /// The names of columns, with their types.
-fn typed(alloc: Global, columns: &Columns) -> Result<Schema, AllocError>
+pub fn typed(alloc: Global, columns: &Columns) -> Result<Schema, AllocError>
     ensures types { IfOk result (λ schema. schema ≡ types_of columns.now) }
     ensures distinct { IfOk result (λ _. HasDistinctNames (types_of columns.now)) }
 {

@@ -2,7 +2,7 @@
 
 use crate::plans::{files, given_by, scan};
 use plan_core::{Arena, Items, Node, PlSmallStr};
-use plan_ir::{FunctionIR, IR};
+use plan_ir::{FunctionIR, IR, UnpivotArgsIR};
 use std::alloc::{AllocError, Global};
 use std::test::Fail;
 
@@ -52,6 +52,16 @@ fn names_are_replaced_all_at_once(rt: HostRuntime) -> Result<(), Fail> {
     Ok(())
 }
 
+/// Adds the scan, cut to so many rows.
+fn first_rows(alloc: Global, len: u32, lp: &mut Arena<IR>) -> Result<Node, AllocError> {
+    let input = scan(alloc, lp)?;
+    Ok(lp.add(IR::Slice {
+        input,
+        offset: 0,
+        len,
+    })?)
+}
+
 /// What a numbering of the rows gives, of as many rows of the scan.
 fn numbered(
     alloc: Global,
@@ -60,12 +70,7 @@ fn numbered(
     len: u32,
 ) -> Result<String, AllocError> {
     let mut lp = Arena::new(alloc);
-    let input = scan(alloc, &mut lp)?;
-    let input = lp.add(IR::Slice {
-        input,
-        offset: 0,
-        len,
-    })?;
+    let input = first_rows(alloc, len, &mut lp)?;
     let name = PlSmallStr::new(alloc, name)?;
     let function = FunctionIR::RowIndex { name, offset };
     made(alloc, input, function, &mut lp)
@@ -85,5 +90,65 @@ fn rows_are_numbered_from_an_offset(rt: HostRuntime) -> Result<(), Fail> {
     assert_eq!(rt; last.as_str(), wanted);
     let taken = numbered(alloc, "b", None, 3)?;
     assert_eq!(rt; taken.as_str(), "invalid");
+    Ok(())
+}
+
+/// What an unpivot gives, of as many rows of the scan.
+fn unpivoted(alloc: Global, args: UnpivotArgsIR, len: u32) -> Result<String, AllocError> {
+    let mut lp = Arena::new(alloc);
+    let input = first_rows(alloc, len, &mut lp)?;
+    made(alloc, input, FunctionIR::Unpivot { args }, &mut lp)
+}
+
+/// What an unpivot of `on` beside `index` is told, where its own columns have the default names.
+fn beside(alloc: Global, on: &[&str], index: &[&str]) -> Result<UnpivotArgsIR, AllocError> {
+    Ok(UnpivotArgsIR {
+        on: names(alloc, on)?,
+        index: names(alloc, index)?,
+        variable_name: None,
+        value_name: None,
+    })
+}
+
+#[test]
+fn told_columns_come_one_after_another(rt: HostRuntime) -> Result<(), Fail> {
+    let alloc = rt.alloc();
+    let named = UnpivotArgsIR {
+        variable_name: Some(PlSmallStr::new(alloc, "k")?),
+        value_name: Some(PlSmallStr::new(alloc, "a")?),
+        ..beside(alloc, &["b", "a"], &["c"])?
+    };
+    let two = unpivoted(alloc, named, 3)?;
+    let wanted = "6; c x y z x y z; k b b b a a a; a 2 1 5 1 2 3";
+    assert_eq!(rt; two.as_str(), wanted);
+    let one = unpivoted(alloc, beside(alloc, &["b"], &["c", "a"])?, 2)?;
+    let wanted = "2; c x y; a 1 2; variable b b; value 2 1";
+    assert_eq!(rt; one.as_str(), wanted);
+    let twice = unpivoted(alloc, beside(alloc, &["c", "c"], &[])?, 2)?;
+    assert_eq!(rt; twice.as_str(), "4; variable c c c c; value x y x y");
+    Ok(())
+}
+
+#[test]
+fn all_columns_outside_the_index_come_one_after_another(rt: HostRuntime) -> Result<(), Fail> {
+    let alloc = rt.alloc();
+    let two = unpivoted(alloc, beside(alloc, &[], &["c"])?, 3)?;
+    let wanted = "6; c x y z x y z; variable a a a b b b; value 1 2 3 2 1 5";
+    assert_eq!(rt; two.as_str(), wanted);
+    let one = unpivoted(alloc, beside(alloc, &[], &["b", "a"])?, 2)?;
+    let wanted = "2; b 2 1; a 1 2; variable c c; value x y";
+    assert_eq!(rt; one.as_str(), wanted);
+    let unlike = unpivoted(alloc, beside(alloc, &[], &["a"])?, 3)?;
+    assert_eq!(rt; unlike.as_str(), "invalid");
+    Ok(())
+}
+
+#[test]
+fn of_no_rows_there_are_none_for_each_column(rt: HostRuntime) -> Result<(), Fail> {
+    let alloc = rt.alloc();
+    let told = unpivoted(alloc, beside(alloc, &["b", "a"], &["c"])?, 0)?;
+    assert_eq!(rt; told.as_str(), "0; c; variable; value");
+    let others = unpivoted(alloc, beside(alloc, &[], &["c"])?, 0)?;
+    assert_eq!(rt; others.as_str(), "0; c; variable; value");
     Ok(())
 }
