@@ -2,7 +2,7 @@
 
 use crate::nodes::{reads_as, refuses};
 use plan_core::{Node, PlSmallStr};
-use plan_ir::{FunctionIR, IR};
+use plan_ir::{FunctionIR, IR, UnpivotArgsIR};
 use plan_made::names;
 use std::alloc::{AllocError, Global};
 use std::process::Abort;
@@ -13,6 +13,12 @@ const RENAME: &str =
 
 const ROW_INDEX: &str =
     r#"{"op":"MapFunction","input":2,"function":{"RowIndex":{"name":"i","offset":7}}}"#;
+
+const UNPIVOT: &str =
+    r#"{"op":"MapFunction","input":2,"function":{"Unpivot":{"index":["a"],"on":["c","b"],"variable_name":null,"value_name":"v"}}}"#;
+
+const EXPLODE: &str =
+    r#"{"op":"MapFunction","input":2,"function":{"Explode":{"columns":["b","a"]}}}"#;
 
 fn over_two(function: FunctionIR) -> IR {
     IR::MapFunction {
@@ -37,6 +43,47 @@ fn rename(
 fn row_index(alloc: Global, offset: Option<u32>) -> Result<IR, AllocError> {
     let name = PlSmallStr::new(alloc, "i")?;
     Ok(over_two(FunctionIR::RowIndex { name, offset }))
+}
+
+fn unpivot(
+    alloc: Global,
+    on: &[&str],
+    variable_name: Option<PlSmallStr>,
+    value_name: Option<PlSmallStr>,
+) -> Result<IR, AllocError> {
+    let args = UnpivotArgsIR {
+        on: names(alloc, on)?,
+        index: names(alloc, &["a"])?,
+        variable_name,
+        value_name,
+    };
+    Ok(over_two(FunctionIR::Unpivot { args }))
+}
+
+fn explode(alloc: Global, columns: &[&str]) -> Result<IR, AllocError> {
+    let columns = names(alloc, columns)?;
+    Ok(over_two(FunctionIR::Explode { columns }))
+}
+
+#[test]
+fn unpivots_and_explodes_read(rt: HostRuntime) -> Result<(), Fail> {
+    let alloc = rt.alloc();
+    let value = PlSmallStr::new(alloc, "v")?;
+    let wanted = unpivot(alloc, &["c", "b"], None, Some(value))?;
+    reads_as(&rt, alloc, UNPIVOT, wanted)?;
+    let entry = UNPIVOT.replacen(
+        alloc,
+        r#"["c","b"],"variable_name":null,"value_name":"v""#,
+        r#"[],"variable_name":"n","value_name":null"#,
+        1,
+    )?;
+    let variable = PlSmallStr::new(alloc, "n")?;
+    let wanted = unpivot(alloc, &[], Some(variable), None)?;
+    reads_as(&rt, alloc, entry.as_str(), wanted)?;
+    let wanted = explode(alloc, &["b", "a"])?;
+    reads_as(&rt, alloc, EXPLODE, wanted)?;
+    let entry = EXPLODE.replacen(alloc, r#"["b","a"]"#, "[]", 1)?;
+    reads_as(&rt, alloc, entry.as_str(), explode(alloc, &[])?)
 }
 
 // Whether there are as many new names as old ones, and whether one comes twice, isn't asked.
@@ -96,6 +143,13 @@ fn other_entries_are_no_functions(rt: HostRuntime) -> Result<(), Fail> {
         (ROW_INDEX, "7", "-1"),
         (ROW_INDEX, "7", "4294967296"),
         (ROW_INDEX, "7", r#""7""#),
+        (UNPIVOT, r#""index":["a"],"#, ""),
+        (UNPIVOT, r#""on":["c","b"]"#, r#""on":null"#),
+        (UNPIVOT, r#""variable_name":null,"#, ""),
+        (UNPIVOT, r#""v""#, "1"),
+        (EXPLODE, r#"{"columns":["b","a"]}"#, r#"["b","a"]"#),
+        (EXPLODE, r#"["b","a"]"#, r#""b""#),
+        (EXPLODE, r#""columns""#, r#""keep":true,"columns""#),
     ] {
         refuses(&rt, rt.alloc(), entry, old, new)?;
     }

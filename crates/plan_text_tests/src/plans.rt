@@ -6,7 +6,7 @@ use plan_core::{
     RowIndex, Schema,
 };
 use plan_expr::{AExpr, ExprIR, FunctionExpr, IRAggExpr, LiteralValue, Operator, OutputName};
-use plan_ir::{FileInfo, FileScan, FunctionIR, IR, PlanCopy, ScanSources};
+use plan_ir::{FileInfo, FileScan, FunctionIR, IR, PlanCopy, ScanSources, UnpivotArgsIR};
 use plan_made::{links, marks, names, schema};
 use plan_options::{DistinctOptionsIR, SortMultipleOptions, UnionOptions, UniqueKeepStrategy};
 use std::alloc::{AllocError, Global};
@@ -385,7 +385,28 @@ fn numbered(alloc: Global, column: &str, offset: Option<u32>) -> Result<IR, Allo
     })
 }
 
-// Two renamings, one of nothing, and numberings of rows with and without a first number.
+fn unpivoted(alloc: Global, on: &[&str], value_name: Option<PlSmallStr>) -> Result<IR, AllocError> {
+    let args = UnpivotArgsIR {
+        on: names(alloc, on)?,
+        index: names(alloc, &["c", "a"])?,
+        variable_name: Some(name(alloc, "v")?),
+        value_name,
+    };
+    Ok(IR::MapFunction {
+        input: Node(6),
+        function: FunctionIR::Unpivot { args },
+    })
+}
+
+fn exploded(alloc: Global, columns: &[&str]) -> Result<IR, AllocError> {
+    let columns = names(alloc, columns)?;
+    Ok(IR::MapFunction {
+        input: Node(7),
+        function: FunctionIR::Explode { columns },
+    })
+}
+
+// Two renamings, one of nothing; numberings of rows with and without a first number; unpivots with and without value columns; explodes.
 pub fn mapped_plan(alloc: Global) -> Result<PlanCopy, AllocError> {
     let mut plan = no_plan(alloc);
     let _ = plan.lp.add(renamed(alloc, &["a", "b"], &["b", "c"])?)?;
@@ -393,6 +414,12 @@ pub fn mapped_plan(alloc: Global) -> Result<PlanCopy, AllocError> {
     let _ = plan.lp.add(numbered(alloc, "i", Some(4294967295))?)?;
     let _ = plan.lp.add(numbered(alloc, "i", Some(0))?)?;
     let _ = plan.lp.add(numbered(alloc, "\"é\n", None)?)?;
+    let _ = plan.lp.add(unpivoted(alloc, &["d", "b"], None)?)?;
+    let _ = plan
+        .lp
+        .add(unpivoted(alloc, &[], Some(name(alloc, "w")?))?)?;
+    let _ = plan.lp.add(exploded(alloc, &["b", "a"])?)?;
+    let _ = plan.lp.add(exploded(alloc, &[])?)?;
     Ok(plan)
 }
 
