@@ -210,3 +210,19 @@ returns-after-loop-input-clause-stays t c =
       | else-is_count w ↦ ap (λ (p : ProjectionPushDown). p.is_count_star) w.self-is ∙ e
     ] in
     λ e. c.loop-input.invariant.stays (set e)
+
+pub returns-in_err-push_down-in-Over-clause-stays : goal.returns-in_err-push_down-in-Over-clause-stays
+returns-in_err-push_down-in-Over-clause-stays t c =
+    let set : c.args.self.now.is_count_star ≡ true → c.if-is_count.self.is_count_star ≡ true = λ e. elim c.if-is_count.branch [
+      | then-is_count w ↦ ap (λ (p : ProjectionPushDown). p.is_count_star) w.self-is
+      | else-is_count w ↦ ap (λ (p : ProjectionPushDown). p.is_count_star) w.self-is ∙ e
+    ] in
+    λ e. c.in_err-push_down-in-Over.ensures.stays (set e)
+
+pub returns-in_err-cover-in-Each-clause-stays : goal.returns-in_err-cover-in-Each-clause-stays
+returns-in_err-cover-in-Each-clause-stays t c =
+    let set : c.args.self.now.is_count_star ≡ true → c.if-is_count.self.is_count_star ≡ true = λ e. elim c.if-is_count.branch [
+      | then-is_count w ↦ ap (λ (p : ProjectionPushDown). p.is_count_star) w.self-is
+      | else-is_count w ↦ ap (λ (p : ProjectionPushDown). p.is_count_star) w.self-is ∙ e
+    ] in
+    λ e. c.in_ok-push_down-in-Each.ensures.stays (c.loop-input.invariant.stays (set e))
