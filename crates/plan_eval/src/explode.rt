@@ -69,7 +69,7 @@ fn items_in_row(values: &[AnyValue], row: usize) -> &[PlainValue]
 fn longest(lists: &[&Column], row: usize) -> usize
     ensures { result ≡ longest_of (borrowed_columns lists.now) row }
 {
-    let mut most: usize = 0;
+    let mut most: usize = 1;
     for column in lists {
         most = most.max(items_in_row(column.values.as_slice(), row).len());
     }
