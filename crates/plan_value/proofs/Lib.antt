@@ -1,6 +1,6 @@
 -- The lemmas of this crate.
 pub mod PlaceLemmas
-mod RowLemmas
+pub mod RowLemmas
 pub mod ShownLemmas
 pub mod ColumnLemmas
 mod SameLemmas

@@ -16,4 +16,4 @@ mod tests;
 pub use exprs::{Values, column, evaluate_expr, filled, is_true_at, value_at};
 pub use groups::{Groups, grouped, rows_of_groups};
 pub use orders::row_ordering;
-pub use rows::rows_at;
+pub use rows::{rows_at, value_in};

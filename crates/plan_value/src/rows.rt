@@ -7,7 +7,7 @@ use plan_core::{Items, PlSmallStr, TryClone};
 use plan_table::{AnyValue, Column, Columns, Table};
 use std::alloc::{AllocError, Global};
 
-/// The value in a row; null where there is no such row.
+/// The value in a row; null where there is no such row. Refuses for want of memory alone.
 pub fn value_in(alloc: Global, values: &[AnyValue], row: usize) -> Result<AnyValue, AllocError>
     ensures { IfOk result (λ v. value_of v ≡ row_of (values_of values.now) row) }
 {
