@@ -10,3 +10,4 @@ mod DistinctLemmas
 mod SortLemmas
 mod FunctionLemmas
 mod UnpivotLemmas
+mod ExplodeLemmas

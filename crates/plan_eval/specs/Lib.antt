@@ -3,3 +3,4 @@ pub mod Given
 pub mod Stacks
 pub mod Distinct
 pub mod Function
+pub mod Explode

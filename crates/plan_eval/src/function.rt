@@ -1,5 +1,5 @@
-//! A function of the whole input gives its columns under other names, or behind one that numbers the rows; an unpivot has a file
-//! of its own.
+//! A function of the whole input gives its columns under other names, or behind one that numbers the rows; an unpivot and
+//! an explode have files of their own.
 ghost use Rattle.std.specs.Prelude.{◌≡◌, ◌+◌, List, [], ◌∷◌, IfOk, false, map, pos, true};
 ghost use Rattle.std.specs.Int.{int_wrap, w64};
 ghost use Rattle.plan_core.specs.Columns.{names_of};
@@ -16,6 +16,7 @@ ghost use Rattle.plan_eval.specs.Function.{under};
 ghost use Rattle.plan_eval.specs.Given.{Gives};
 ghost use Rattle.plan_value.specs.Shown.{frame_of, schema_of, values_of};
 
+use crate::explode::exploded;
 use crate::unpivot::unpivoted;
 use plan_core::{DataType, Items, PlSmallStr, TryClone};
 use plan_ir::FunctionIR;
@@ -128,5 +129,6 @@ pub fn mapped(alloc: Global, table: &Table, function: &FunctionIR) -> Result<Tab
         }
         FunctionIR::RowIndex { name, offset } => numbered(alloc, table, name, offset.unwrap_or(0)),
         FunctionIR::Unpivot { args } => unpivoted(alloc, table, args),
+        FunctionIR::Explode { columns } => exploded(alloc, table, columns.as_slice()),
     }
 }

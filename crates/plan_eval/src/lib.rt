@@ -2,6 +2,7 @@
 #![tactic(auto)]
 
 mod distinct;
+mod explode;
 mod filter;
 mod frame_scan;
 mod function;
