@@ -1,7 +1,7 @@
 //! Functions of whole frames over a file with three rows.
 
-use crate::plans::{files, given_by, scan};
-use plan_core::{Arena, Items, Node, PlSmallStr};
+use crate::plans::{files, given_by, names, scan};
+use plan_core::{Arena, Node, PlSmallStr};
 use plan_ir::{FunctionIR, IR, UnpivotArgsIR};
 use std::alloc::{AllocError, Global};
 use std::test::Fail;
@@ -15,15 +15,6 @@ fn made(
 ) -> Result<String, AllocError> {
     let node = IR::MapFunction { input, function };
     given_by(alloc, node, lp, &Arena::new(alloc), &files(alloc)?)
-}
-
-/// Names.
-fn names(alloc: Global, names: &[&str]) -> Result<Items<PlSmallStr>, AllocError> {
-    let mut items = Items::new(alloc);
-    for name in names {
-        items.push(PlSmallStr::new(alloc, *name)?)?;
-    }
-    Ok(items)
 }
 
 /// What a renaming of the scan gives.

@@ -3,6 +3,8 @@
 #![tactic(auto)]
 
 #[cfg(test)]
+mod explodes;
+#[cfg(test)]
 mod fitting;
 #[cfg(test)]
 mod functions;
