@@ -1,10 +1,11 @@
 -- Copies of the nodes and expressions of a plan, in walk order and numbered so, are that plan.
-use Rattle.std.proofs.Common.{◌≡◌, ℕ, ◌<◌, All, List, [], ◌∷◌, ◌++◌, length, map, nat_eq, Some, None, refl, sym, ap, ap₂, ◌∙◌}
+use Rattle.std.proofs.Common.{◌≡◌, ℕ, ◌<◌, All, List, [], ◌∷◌, ◌++◌, length, map, take, drop, nat_eq, Some, None, refl, sym, ap, ap₂, ◌∙◌}
 use Rattle.std.specs.List.{AllByRecursion, IsDistinct, flat_map, range_with_len, slice_get}
 use Rattle.std.proofs.lemmas.Grind.{flat_map-append}
-use Rattle.std.proofs.lemmas.List.{length-map, map-append}
+use Rattle.std.proofs.lemmas.List.{length-map, map-append, take-append-drop}
 use Rattle.std.proofs.lemmas.List.Elements.{All-from_recursion}
 use Rattle.std.proofs.lemmas.Option.{slice_get_within}
+use Rattle.std.proofs.Math.Seq.{take-append_seam, drop-append_seam}
 use Rattle.plan_core.specs.declared.arena.Node.{Node}
 use Rattle.plan_tree.proofs.Numbers.{IsDistinct-labels, length-items, length-labels}
 use Rattle.plan_tree.proofs.WalkTrees.{nodes-steps}
@@ -19,13 +20,13 @@ use Rattle.plan_expr.specs.declared.aexpr.AExpr.{AExpr}
 use Rattle.plan_expr.specs.declared.aexpr.AExpr.TheVariants.{Column, Literal, Alias, BinaryExpr, Ternary, Agg, Function, Window, Len}
 use Rattle.plan_expr.specs.declared.expr_ir.ExprIR.{ExprIR}
 use Rattle.plan_ir.specs.declared.ir.IR.{IR}
-use Rattle.plan_ir.specs.declared.ir.IR.TheVariants.{Slice, Filter, Scan, DataFrameScan, SimpleProjection, Select, HStack, Sort, Distinct, MapFunction, Sink, Union, Cache, Invalid}
+use Rattle.plan_ir.specs.declared.ir.IR.TheVariants.{Slice, Filter, Scan, DataFrameScan, SimpleProjection, Select, HStack, Sort, GroupBy, Distinct, MapFunction, Sink, Union, HConcat, Cache, Invalid}
 use Rattle.plan_ir.specs.Copies.{IsRenumbered, Lists}
 use Rattle.plan_ir.specs.Moved.{entries_at, moved_expr, moved_named, moved_node, new_number}
 use Rattle.plan_expr.specs.Operands.{expr_shape, operands_of}
 use Rattle.plan_ir.specs.Parts.{plan_shape, inputs_of, is_invalid, roots_of, roots_in, StandsPlan, IsPlan}
 use Rattle.plan_expr.specs.Exprs.{aggregate, Expr, Named, all_named_at, expr_op, expr_at, exprs_at, named_at}
-use Rattle.plan_ir.specs.Plans.{Op, filter, scan, select, hstack, sort, op_at, plans_of, bare}
+use Rattle.plan_ir.specs.Plans.{Op, filter, scan, select, hstack, sort, group_by, op_at, plans_of, bare}
 use Rattle.plan_ir.proofs.EntryLemmas.{entries_at-labels}
 use Rattle.plan_expr.specs.Aggregates.{agg_input}
 use Rattle.plan_expr.proofs.AggLemmas.{input-over, op-over}
@@ -111,10 +112,12 @@ module _ (nodes exprs : List Node) where
   inputs-moved (Select input expr schema options) = refl
   inputs-moved (HStack input own schema options) = refl
   inputs-moved (Sort input by_column slice sort_options) = refl
+  inputs-moved (GroupBy input keys aggs schema maintain_order options) = refl
   inputs-moved (Distinct input options) = refl
   inputs-moved (MapFunction input function) = refl
   inputs-moved (Sink input payload) = refl
   inputs-moved (Union inputs options) = refl
+  inputs-moved (HConcat inputs schema options) = refl
   inputs-moved (Cache input id cache_hits) = refl
   inputs-moved Invalid = refl
 
@@ -127,12 +130,26 @@ module _ (nodes exprs : List Node) where
   invalid-moved (Select input expr schema options) = refl
   invalid-moved (HStack input own schema options) = refl
   invalid-moved (Sort input by_column slice sort_options) = refl
+  invalid-moved (GroupBy input keys aggs schema maintain_order options) = refl
   invalid-moved (Distinct input options) = refl
   invalid-moved (MapFunction input function) = refl
   invalid-moved (Sink input payload) = refl
   invalid-moved (Union inputs options) = refl
+  invalid-moved (HConcat inputs schema options) = refl
   invalid-moved (Cache input id cache_hits) = refl
   invalid-moved Invalid = refl
+
+  -- the first so many of moved keys and aggregates are the keys
+  pub keys-moved : (keys aggs : List ExprIR) → take (length keys) (map (moved_named exprs) (keys ++ aggs)) ≡ map (moved_named exprs) keys
+  keys-moved keys aggs =
+      ap₂ take (sym (length-map keys (moved_named exprs))) (map-append (moved_named exprs) keys aggs)
+      ∙ take-append_seam (map (moved_named exprs) keys) (map (moved_named exprs) aggs)
+
+  -- and those after them the aggregates
+  pub aggs-moved : (keys aggs : List ExprIR) → drop (length keys) (map (moved_named exprs) (keys ++ aggs)) ≡ map (moved_named exprs) aggs
+  aggs-moved keys aggs =
+      ap₂ drop (sym (length-map keys (moved_named exprs))) (map-append (moved_named exprs) keys aggs)
+      ∙ drop-append_seam (map (moved_named exprs) keys) (map (moved_named exprs) aggs)
 
   nodes-moved : (es : List ExprIR) → map (λ (e : ExprIR). e.node) (map (moved_named exprs) es) ≡ map (new_number exprs) (map (λ (e : ExprIR). e.node) es)
   nodes-moved es = sym (map_twice (λ (e : ExprIR). e.node) (moved_named exprs) es) ∙ map_twice (new_number exprs) (λ (e : ExprIR). e.node) es
@@ -147,10 +164,12 @@ module _ (nodes exprs : List Node) where
   roots-moved (Select input expr schema options) = nodes-moved expr
   roots-moved (HStack input own schema options) = nodes-moved own
   roots-moved (Sort input by_column slice sort_options) = nodes-moved by_column
+  roots-moved (GroupBy input keys aggs schema maintain_order options) = ap (map (λ (e : ExprIR). e.node)) (take-append-drop (length keys) (map (moved_named exprs) (keys ++ aggs))) ∙ nodes-moved (keys ++ aggs)
   roots-moved (Distinct input options) = refl
   roots-moved (MapFunction input function) = refl
   roots-moved (Sink input payload) = refl
   roots-moved (Union inputs options) = refl
+  roots-moved (HConcat inputs schema options) = refl
   roots-moved (Cache input id cache_hits) = refl
   roots-moved Invalid = refl
 
@@ -186,10 +205,16 @@ module _ (ex ex' : List AExpr) (nodes exprs : List Node) where
   op_at-moved (Select input expr schema options) same = ap (λ (ns : List Named). select ns schema options) (all-moved expr same)
   op_at-moved (HStack input own schema options) same = ap (λ (ns : List Named). hstack ns schema options) (all-moved own same)
   op_at-moved (Sort input by_column slice sort_options) same = ap (λ (ns : List Named). sort ns slice sort_options) (all-moved by_column same)
+  op_at-moved (GroupBy input keys aggs schema maintain_order options) same =
+      let parts : AllByRecursion Same (map (λ (e : ExprIR). e.node) keys ++ map (λ (e : ExprIR). e.node) aggs) = rw (← map-append (λ (e : ExprIR). e.node) keys aggs) same in
+      ap₂ (λ (ks others : List Named). group_by ks others schema maintain_order options)
+      (ap (all_named_at ex') (keys-moved nodes exprs keys aggs) ∙ all-moved keys (all_first Same (map (λ (e : ExprIR). e.node) keys) (map (λ (e : ExprIR). e.node) aggs) parts))
+      (ap (all_named_at ex') (aggs-moved nodes exprs keys aggs) ∙ all-moved aggs (all_second Same (map (λ (e : ExprIR). e.node) keys) (map (λ (e : ExprIR). e.node) aggs) parts))
   op_at-moved (Distinct input options) same = refl
   op_at-moved (MapFunction input function) same = refl
   op_at-moved (Sink input payload) same = refl
   op_at-moved (Union inputs options) same = refl
+  op_at-moved (HConcat inputs schema options) same = refl
   op_at-moved (Cache input id cache_hits) same = refl
   op_at-moved Invalid same = refl
 

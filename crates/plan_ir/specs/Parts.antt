@@ -1,5 +1,5 @@
 -- The parts of a node: inputs and expressions.
-use Rattle.std.specs.Prelude.{Bool, true, false, List, [], ◌∷◌, ◌++◌, map, get_or, slice_get, Option, Some, None}
+use Rattle.std.specs.Prelude.{Bool, true, false, List, [], ◌∷◌, ◌++◌, map, length, take, drop, get_or, slice_get, Option, Some, None}
 use Rattle.plan_core.specs.declared.arena.Node.{Node}
 use Rattle.plan_tree.specs.Stands.{Shape, Trees, StandsOnce}
 use Rattle.plan_tree.specs.Rose.{rose, no_roses, more}
@@ -7,7 +7,7 @@ use Rattle.plan_expr.specs.declared.aexpr.AExpr.{AExpr}
 use Rattle.plan_expr.specs.declared.expr_ir.ExprIR.{ExprIR}
 use Rattle.plan_expr.specs.Operands.{expr_shape}
 use Rattle.plan_ir.specs.declared.ir.IR.{IR}
-use Rattle.plan_ir.specs.declared.ir.IR.TheVariants.{Slice, Filter, Scan, DataFrameScan, SimpleProjection, Select, HStack, Sort, Distinct, MapFunction, Sink, Union, Cache, Invalid}
+use Rattle.plan_ir.specs.declared.ir.IR.TheVariants.{Slice, Filter, Scan, DataFrameScan, SimpleProjection, Select, HStack, Sort, GroupBy, Distinct, MapFunction, Sink, Union, HConcat, Cache, Invalid}
 
 -- a value that may be there, as a list
 abbrev pub list_of : {A : Type 0} → Option A → List A
@@ -24,10 +24,12 @@ inputs_of (SimpleProjection input columns) = input ∷ []
 inputs_of (Select input expr schema options) = input ∷ []
 inputs_of (HStack input exprs schema options) = input ∷ []
 inputs_of (Sort input by_column slice sort_options) = input ∷ []
+inputs_of (GroupBy input keys aggs schema maintain_order options) = input ∷ []
 inputs_of (Distinct input options) = input ∷ []
 inputs_of (MapFunction input function) = input ∷ []
 inputs_of (Sink input payload) = input ∷ []
 inputs_of (Union inputs options) = inputs
+inputs_of (HConcat inputs schema options) = inputs
 inputs_of (Cache input id cache_hits) = input ∷ []
 inputs_of Invalid = []
 
@@ -41,10 +43,12 @@ exprs_of (SimpleProjection input columns) = []
 exprs_of (Select input expr schema options) = expr
 exprs_of (HStack input exprs schema options) = exprs
 exprs_of (Sort input by_column slice sort_options) = by_column
+exprs_of (GroupBy input keys aggs schema maintain_order options) = keys ++ aggs
 exprs_of (Distinct input options) = []
 exprs_of (MapFunction input function) = []
 exprs_of (Sink input payload) = []
 exprs_of (Union inputs options) = []
+exprs_of (HConcat inputs schema options) = []
 exprs_of (Cache input id cache_hits) = []
 exprs_of Invalid = []
 
@@ -59,10 +63,12 @@ is_invalid (SimpleProjection input columns) = false
 is_invalid (Select input expr schema options) = false
 is_invalid (HStack input exprs schema options) = false
 is_invalid (Sort input by_column slice sort_options) = false
+is_invalid (GroupBy input keys aggs schema maintain_order options) = false
 is_invalid (Distinct input options) = false
 is_invalid (MapFunction input function) = false
 is_invalid (Sink input payload) = false
 is_invalid (Union inputs options) = false
+is_invalid (HConcat inputs schema options) = false
 is_invalid (Cache input id cache_hits) = false
 
 -- a scan of files
@@ -84,6 +90,11 @@ is_select other = false
 abbrev pub is_hstack : IR → Bool
 is_hstack (HStack input exprs schema options) = true
 is_hstack other = false
+
+-- a grouping
+abbrev pub is_group_by : IR → Bool
+is_group_by (GroupBy input keys aggs schema maintain_order options) = true
+is_group_by other = false
 
 -- a sort
 abbrev pub is_sort : IR → Bool
@@ -124,10 +135,12 @@ over_parts (SimpleProjection input columns) exprs inputs = SimpleProjection (get
 over_parts (Select input expr schema options) exprs inputs = Select (get_or inputs 0 input) exprs schema options
 over_parts (HStack input own schema options) exprs inputs = HStack (get_or inputs 0 input) exprs schema options
 over_parts (Sort input by_column slice sort_options) exprs inputs = Sort (get_or inputs 0 input) exprs slice sort_options
+over_parts (GroupBy input keys aggs schema maintain_order options) exprs inputs = GroupBy (get_or inputs 0 input) (take (length keys) exprs) (drop (length keys) exprs) schema maintain_order options
 over_parts (Distinct input options) exprs inputs = Distinct (get_or inputs 0 input) options
 over_parts (MapFunction input function) exprs inputs = MapFunction (get_or inputs 0 input) function
 over_parts (Sink input payload) exprs inputs = Sink (get_or inputs 0 input) payload
 over_parts (Union own options) exprs inputs = Union inputs options
+over_parts (HConcat own schema options) exprs inputs = HConcat inputs schema options
 over_parts (Cache input id cache_hits) exprs inputs = Cache (get_or inputs 0 input) id cache_hits
 over_parts Invalid exprs inputs = Invalid
 

@@ -1,11 +1,13 @@
 -- Plans as trees without numbers: what a meaning reads.
-use Rattle.std.specs.Prelude.{ℕ, ℤ, List, Option, option_map}
+use Rattle.std.specs.Prelude.{ℕ, ℤ, Bool, List, Option, option_map}
 use Rattle.plan_core.specs.declared.arena.Node.{Node}
 use Rattle.plan_core.specs.declared.options.FileScanOptions.{FileScanOptions}
 use Rattle.plan_core.specs.declared.options.ProjectionOptions.{ProjectionOptions}
 use Rattle.plan_options.specs.declared.distinct.DistinctOptionsIR.{DistinctOptionsIR}
+use Rattle.plan_options.specs.declared.group.GroupbyOptions.{GroupbyOptions}
 use Rattle.plan_options.specs.declared.sink.SinkType.{SinkType}
 use Rattle.plan_options.specs.declared.sort.SortMultipleOptions.{SortMultipleOptions}
+use Rattle.plan_options.specs.declared.union.HConcatOptions.{HConcatOptions}
 use Rattle.plan_options.specs.declared.union.UnionOptions.{UnionOptions}
 use Rattle.plan_core.specs.Columns.{Columns}
 use Rattle.plan_tree.specs.Stands.{Trees}
@@ -31,10 +33,12 @@ pub data Op : Type 0 where
   select : (exprs : List Named) → (schema : Columns) → (options : ProjectionOptions) → Op
   hstack : (exprs : List Named) → (schema : Columns) → (options : ProjectionOptions) → Op
   sort : (keys : List Named) → (cut : Option (ℤ × ℕ)) → (options : SortMultipleOptions) → Op
+  group_by : (keys aggs : List Named) → (schema : Columns) → (maintain_order : Bool) → (options : GroupbyOptions) → Op
   distinct : (options : DistinctOptionsIR) → Op
   map_function : (function : FunctionIR) → Op
   sink : (payload : SinkType) → Op
   union : (options : UnionOptions) → Op
+  hconcat : (schema : Columns) → (options : HConcatOptions) → Op
   cache : (id hits : ℕ) → Op
   invalid : Op
 
@@ -52,10 +56,12 @@ op_at ex (nodes.SimpleProjection input columns) = simple_projection columns
 op_at ex (nodes.Select input expr schema options) = select (all_named_at ex expr) schema options
 op_at ex (nodes.HStack input exprs schema options) = hstack (all_named_at ex exprs) schema options
 op_at ex (nodes.Sort input by_column cut sort_options) = sort (all_named_at ex by_column) cut sort_options
+op_at ex (nodes.GroupBy input keys aggs schema maintain_order options) = group_by (all_named_at ex keys) (all_named_at ex aggs) schema maintain_order options
 op_at ex (nodes.Distinct input options) = distinct options
 op_at ex (nodes.MapFunction input function) = map_function function
 op_at ex (nodes.Sink input payload) = sink payload
 op_at ex (nodes.Union inputs options) = union options
+op_at ex (nodes.HConcat inputs schema options) = hconcat schema options
 op_at ex (nodes.Cache input id cache_hits) = cache id cache_hits
 op_at ex nodes.Invalid = invalid
 

@@ -6,7 +6,7 @@ use Rattle.plan_core.specs.Names.{with_names}
 use Rattle.plan_core.specs.declared.options.FileScanOptions.{FileScanOptions}
 use Rattle.plan_ir.specs.declared.scan.FileInfo.{FileInfo}
 use Rattle.plan_ir.specs.declared.ir.IR.{IR}
-use Rattle.plan_ir.specs.declared.ir.IR.TheVariants.{Slice, Filter, Scan, DataFrameScan, SimpleProjection, Select, HStack, Sort, Distinct, MapFunction, Sink, Union, Cache, Invalid}
+use Rattle.plan_ir.specs.declared.ir.IR.TheVariants.{Slice, Filter, Scan, DataFrameScan, SimpleProjection, Select, HStack, Sort, GroupBy, Distinct, MapFunction, Sink, Union, HConcat, Cache, Invalid}
 
 -- a node that reads from sources
 abbrev pub is_scan : IR → Bool
@@ -18,10 +18,12 @@ is_scan (SimpleProjection input columns) = false
 is_scan (Select input expr schema options) = false
 is_scan (HStack input exprs schema options) = false
 is_scan (Sort input by_column slice sort_options) = false
+is_scan (GroupBy input keys aggs schema maintain_order options) = false
 is_scan (Distinct input options) = false
 is_scan (MapFunction input function) = false
 is_scan (Sink input payload) = false
 is_scan (Union inputs options) = false
+is_scan (HConcat inputs schema options) = false
 is_scan (Cache input id cache_hits) = false
 is_scan Invalid = false
 
@@ -51,10 +53,12 @@ reads_of (SimpleProjection input columns) = []
 reads_of (Select input expr schema options) = []
 reads_of (HStack input exprs schema options) = []
 reads_of (Sort input by_column slice sort_options) = []
+reads_of (GroupBy input keys aggs schema maintain_order options) = []
 reads_of (Distinct input options) = []
 reads_of (MapFunction input function) = []
 reads_of (Sink input payload) = []
 reads_of (Union inputs options) = []
+reads_of (HConcat inputs schema options) = []
 reads_of (Cache input id cache_hits) = []
 reads_of Invalid = []
 

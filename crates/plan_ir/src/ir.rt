@@ -5,7 +5,9 @@ use crate::functions::FunctionIR;
 use crate::scan::{FileInfo, FileScan, ScanSources};
 use plan_core::{FileScanOptions, Items, Node, ProjectionOptions, Schema, TryClone};
 use plan_expr::ExprIR;
-use plan_options::{DistinctOptionsIR, SinkType, SortMultipleOptions, UnionOptions};
+use plan_options::{
+    DistinctOptionsIR, GroupbyOptions, HConcatOptions, SinkType, SortMultipleOptions, UnionOptions,
+};
 use std::alloc::{AllocError, Global};
 
 /// A node of a plan; it names its inputs and its expressions by their numbers.
@@ -92,6 +94,23 @@ pub enum IR {
         /// The direction of each key, where its nulls stand, and whether rows with the same keys stay in order.
         sort_options: SortMultipleOptions,
     },
+    /// A row for each group of rows that have the same keys, null being the same as null: the keys, and what each aggregate is
+    /// over the rows of the group, in their order; where an aggregate has a value for each row, their list. `schema` lists the
+    /// columns.
+    GroupBy {
+        /// The number of the node whose rows are grouped.
+        input: Node,
+        /// The keys, in the order of their columns.
+        keys: Items<ExprIR>,
+        /// The aggregates, in the order of their columns, which stand behind those of the keys.
+        aggs: Items<ExprIR>,
+        /// The columns of the node, in order.
+        schema: Schema,
+        /// Whether the groups stand in the order of their first rows.
+        maintain_order: bool,
+        /// Which groups are put out.
+        options: GroupbyOptions,
+    },
     /// Of the rows that are the same in some columns one, or those that are alone.
     Distinct {
         /// The number of the node whose rows are told apart.
@@ -119,6 +138,16 @@ pub enum IR {
         inputs: Items<Node>,
         /// Whether the rows stay in the order of the inputs, and how they are put together.
         options: UnionOptions,
+    },
+    /// The columns of the inputs side by side, those of one after those of another; a shorter input has null in the rows that it
+    /// lacks. `schema` lists the columns.
+    HConcat {
+        /// The numbers of the nodes whose columns are put together, in order.
+        inputs: Items<Node>,
+        /// The columns of the node, in order.
+        schema: Schema,
+        /// How they are put together.
+        options: HConcatOptions,
     },
     /// The input, whose rows are kept for all caches of one number.
     Cache {

@@ -11,6 +11,7 @@ mod numbering;
 mod parts;
 mod reading;
 mod scan;
+mod split;
 
 pub use copy::{PlanCopy, renumbered};
 pub use depth::{expr_depth, expr_roots, plan_depth};

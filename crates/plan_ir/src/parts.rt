@@ -1,9 +1,10 @@
 //! The parts of nodes: inputs and expressions.
 ghost use Rattle.std.specs.Prelude.{◌≡◌, ◌≤◌, ◌++◌, ◌∷◌, [], length, map, IfOk, IsTrue, OnOk};
 ghost use Rattle.plan_ir.specs.Parts.{exprs_of, exprs_over, inputs_of, list_of, over_parts};
-ghost use Rattle.plan_ir.specs.Parts.{is_file_scan, is_frame_scan, is_hstack, is_select, is_sort};
+ghost use Rattle.plan_ir.specs.Parts.{is_file_scan, is_frame_scan, is_group_by, is_hstack, is_select, is_sort};
 
 use crate::ir::IR;
+use crate::split::split_at;
 use plan_core::{Items, Node, TryClone, UnitVec};
 use plan_expr::ExprIR;
 use plan_tree::Entry;
@@ -28,6 +29,7 @@ impl Entry for IR {
             | IR::Select { input, .. }
             | IR::HStack { input, .. }
             | IR::Sort { input, .. }
+            | IR::GroupBy { input, .. }
             | IR::Distinct { input, .. }
             | IR::MapFunction { input, .. }
             | IR::Sink { input, .. }
@@ -35,7 +37,7 @@ impl Entry for IR {
                 out.push(*input)?;
                 Ok(())
             }
-            IR::Union { inputs, .. } => {
+            IR::Union { inputs, .. } | IR::HConcat { inputs, .. } => {
                 for input in inputs.as_slice() {
                     out.push(*input)?;
                 }
@@ -48,7 +50,8 @@ impl Entry for IR {
 
 impl IR {
     /// The expressions, in order: for a filter its predicate, for a scan the predicate that it may have, for a selection
-    /// and an addition of columns those that make them, for a sort its keys. Refuses for want of memory alone.
+    /// and an addition of columns those that make them, for a sort its keys, for a grouping its keys and then its aggregates.
+    /// Refuses for want of memory alone.
     pub fn exprs(&self, alloc: Global) -> Result<Items<&ExprIR>, AllocError>
         ensures { IfOk result (λ exprs. map (λ e. e.now) exprs ≡ exprs_of self.now) }
     {
@@ -68,9 +71,11 @@ impl IR {
                 by_column: list,
                 ..
             } => {
-                for expr in list.as_slice() {
-                    exprs.push(expr)?;
-                }
+                append(list.as_slice(), &mut exprs)?;
+            }
+            IR::GroupBy { keys, aggs, .. } => {
+                append(keys.as_slice(), &mut exprs)?;
+                append(aggs.as_slice(), &mut exprs)?;
             }
             IR::Slice { .. }
             | IR::DataFrameScan { .. }
@@ -79,6 +84,7 @@ impl IR {
             | IR::MapFunction { .. }
             | IR::Sink { .. }
             | IR::Union { .. }
+            | IR::HConcat { .. }
             | IR::Cache { .. }
             | IR::Invalid => {}
         }
@@ -125,11 +131,12 @@ impl IR {
             | IR::Select { input, .. }
             | IR::HStack { input, .. }
             | IR::Sort { input, .. }
+            | IR::GroupBy { input, .. }
             | IR::Distinct { input, .. }
             | IR::MapFunction { input, .. }
             | IR::Sink { input, .. }
             | IR::Cache { input, .. } => inputs.push(*input)?,
-            IR::Union { inputs: list, .. } => {
+            IR::Union { inputs: list, .. } | IR::HConcat { inputs: list, .. } => {
                 for input in list.as_slice() {
                     inputs.push(*input)?;
                 }
@@ -154,11 +161,18 @@ impl IR {
         ensures node { IfOk result (λ node. node ≡ over_parts self.now (exprs_over self.now exprs) inputs) }
         ensures own { exprs ≡ exprs_of self.now → inputs ≡ inputs_of self.now → IfOk result (λ node. node ≡ self.now) }
     {
-        let exprs = match self {
-            IR::Sort { by_column, .. } => by_column.try_clone(alloc)?,
-            _ => exprs,
-        };
+        let exprs = self.exprs_over(alloc, exprs)?;
         self.over(alloc, exprs, inputs)
+    }
+
+    /// The expressions that a copy has: a sort keeps its own keys, any other node takes these.
+    fn exprs_over(&self, alloc: Global, exprs: Items<ExprIR>) -> Result<Items<ExprIR>, AllocError>
+        ensures { IfOk result (λ kept. kept ≡ exprs_over self.now exprs) }
+    {
+        match self {
+            IR::Sort { by_column, .. } => by_column.try_clone(alloc),
+            _ => Ok(exprs),
+        }
     }
 
     /// A copy with other expressions, over other inputs: as many of each as the node has. Its other fields are as they were.
@@ -191,6 +205,7 @@ impl IR {
             IR::Select { .. } => self.select_over(alloc, exprs, only(inputs)),
             IR::HStack { .. } => self.hstack_over(alloc, exprs, only(inputs)),
             IR::Sort { .. } => self.sort_over(alloc, exprs, only(inputs)),
+            IR::GroupBy { .. } => self.group_by_over(alloc, exprs, only(inputs)),
             IR::Distinct { options, .. } => Ok(IR::Distinct {
                 input: only(inputs),
                 options: options.try_clone(alloc)?,
@@ -205,6 +220,15 @@ impl IR {
             }),
             IR::Union { options, .. } => Ok(IR::Union {
                 inputs,
+                options: *options,
+            }),
+            IR::HConcat {
+                schema,
+                options,
+                ..
+            } => Ok(IR::HConcat {
+                inputs,
+                schema: schema.try_clone(alloc)?,
                 options: *options,
             }),
             IR::Cache { id, cache_hits, .. } => Ok(IR::Cache {
@@ -329,6 +353,49 @@ impl IR {
             _ => unreachable!(),
         }
     }
+
+    /// A copy of a grouping with other keys and aggregates, in turn, over another input.
+    fn group_by_over(
+        &self,
+        alloc: Global,
+        exprs: Items<ExprIR>,
+        input: Node,
+    ) -> Result<IR, AllocError>
+        requires kind { IsTrue (is_group_by self.now) }
+        requires exprs_fit { length exprs ≡ length (exprs_of self.now) }
+        ensures { IfOk result (λ node. node ≡ over_parts self.now exprs (input ∷ [])) }
+    {
+        match self {
+            IR::GroupBy {
+                keys,
+                schema,
+                maintain_order,
+                options,
+                ..
+            } => {
+                let (keys, aggs) = split_at(alloc, exprs, keys.len())?;
+                Ok(IR::GroupBy {
+                    input,
+                    keys,
+                    aggs,
+                    schema: schema.try_clone(alloc)?,
+                    maintain_order: *maintain_order,
+                    options: *options,
+                })
+            }
+            _ => unreachable!(),
+        }
+    }
+}
+
+/// Appends expressions, in order.
+fn append<'a>(list: &'a [ExprIR], exprs: &mut Items<&'a ExprIR>) -> Result<(), AllocError>
+    ensures { OnOk result (map (λ e. e.now) exprs.new ≡ map (λ e. e.now) exprs.old ++ list.now) }
+{
+    for expr in list {
+        exprs.push(expr)?;
+    }
+    Ok(())
 }
 
 /// The value of a list of one.
