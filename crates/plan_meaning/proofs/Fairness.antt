@@ -1,5 +1,5 @@
 -- What a node asks can be asked of its inputs, and what a scan may read is among what it reads.
-use Rattle.std.proofs.Common.{◌≡◌, ◌&&◌, suc, Bool, true, false, cond, List, [], ◌∷◌, ◌++◌, length, Option, Some, None, refl, sym, ap, ◌∙◌, subst, is_some, ⊎_elim}
+use Rattle.std.proofs.Common.{◌≡◌, ◌&&◌, suc, Bool, true, false, cond, List, [], ◌∷◌, ◌++◌, length, map, Option, Some, None, refl, sym, ap, ◌∙◌, subst, is_some, ⊎_elim}
 use Rattle.std.specs.List.{AllByRecursion, filter as only_where}
 use Rattle.std.proofs.lemmas.Bool.{and_parts}
 use Rattle.plan_core.specs.declared.data_type.DataType.{DataType}
@@ -8,18 +8,20 @@ use Rattle.plan_core.specs.Columns.{Columns, names_of, type_of}
 use Rattle.plan_core.specs.Names.{has, with_names, AreDistinct}
 use Rattle.plan_tree.specs.Rose.{Roses, rose, no_roses, more}
 use Rattle.plan_expr.specs.Exprs.{Named}
-use Rattle.plan_ir.specs.Plans.{Op, slice, filter, scan, frame_scan, simple_projection, select, hstack, sort, distinct, map_function, sink, union, cache, invalid, Plan}
+use Rattle.plan_ir.specs.Plans.{Op, slice, filter, scan, frame_scan, simple_projection, select, hstack, sort, group_by, distinct, map_function, sink, union, hconcat, cache, invalid, Plan}
 use Rattle.plan_expr.specs.Leaves.{Name, leaves}
 use Rattle.plan_meaning.specs.Exprs.{all_known, is_type}
-use Rattle.plan_meaning.specs.Typing.{is_empty, each, is_known, is_column, has_columns, names_or, columns_or, file_columns, all_read, put_out_checks, scan_name_checks, subset_checks, made_schema, first_schema, schema_by, schemas, checks, AllHold, AllValid}
+use Rattle.plan_meaning.specs.Grouping.{gathered, group_exprs}
+use Rattle.plan_meaning.specs.Typing.{is_empty, side_by_side, each, is_known, is_column, has_columns, names_or, columns_or, file_columns, all_read, put_out_checks, scan_name_checks, subset_checks, made_schema, first_schema, schema_by, schemas, checks, AllHold, AllValid}
 use Rattle.plan_meaning.specs.Steps.{IsValid}
 use Rattle.plan_meaning.specs.Relating.{Asked, all, names, cached}
 use Rattle.plan_meaning.specs.Counting.{counts_rows, stand_ins, first_stand_in, stand_in_names}
-use Rattle.plan_meaning.specs.Asked.{asked_names, is_asked, set_of, with_more, kept, asks_columns, kept_exprs, selected_exprs, all_leaves, needed_names, asks_selected, asks_added, asks_stacked, asks_alike, asks, own_site, sites, reads, allowed, Fair, IsFair, SiteFair, AllSites}
+use Rattle.plan_meaning.specs.Asked.{asked_names, is_asked, set_of, with_more, kept, asks_columns, kept_exprs, selected_exprs, all_leaves, needed_names, asks_selected, asks_added, asks_stacked, asks_grouped, asks_held, asks_alike, asks, own_site, sites, reads, allowed, Fair, IsFair, SiteFair, AllSites}
 use Rattle.plan_meaning.proofs.NameSets.{has_cons, has_first, has_later, some-type_of, keeps_names, from_names, distinct_names, distinct_none}
 use Rattle.plan_meaning.proofs.CheckParts.{hold_front, each_pass, name_passes, known_leaf, scan_good, made_good, keys_good}
 use Rattle.plan_meaning.proofs.UnionLemmas.{union_inputs}
 use Rattle.plan_meaning.proofs.FunctionLemmas.{fair_function}
+use Rattle.plan_meaning.proofs.GroupLemmas.{all_back, all_front, gathered_known}
 use Rattle.plan_meaning.proofs.MadeColumns.{types_kept}
 use Rattle.plan_meaning.proofs.StandIns.{IsStandIn, AreStandIns, first_stands, are_stand_ins}
 use Rattle.plan_meaning.proofs.KeptExprs.{all_append, all_kept_exprs, all_selected, known_leaves, where_has, distinct_where}
@@ -147,6 +149,41 @@ fair_alike : (a : Asked) (s : Columns) (ss : List Columns) → AllByRecursion (�
 fair_alike a s [] h f = tt
 fair_alike a s (t ∷ ss) h f = (subst (IsFair a) (sym h.0) f, fair_alike a s ss h.1 f)
 
+-- what a grouping asks
+-- what a grouping reads for what it keeps is known
+grouping_known : (keys aggs : List Named) (a : Asked) (s : Columns) → AllByRecursion (λ (e : Named). all_known (leaves e.expr) s ≡ true) (group_exprs keys aggs) → AllByRecursion (λ (e : Named). all_known (leaves e.expr) s ≡ true) (kept_exprs a aggs ++ keys)
+grouping_known keys aggs a s h =
+    let P : Named → Type 0 = λ e. all_known (leaves e.expr) s ≡ true in
+    all_append P (kept_exprs a aggs) keys (all_kept_exprs P a aggs (gathered_known aggs s (all_back P keys (map gathered aggs) h))) (all_front P keys (map gathered aggs) h)
+
+fair_grouped : (keys aggs : List Named) (a : Asked) (s t : Columns) → AllByRecursion (λ (e : Named). all_known (leaves e.expr) s ≡ true) (group_exprs keys aggs) → IsFair a t → IsFair (asks_grouped keys aggs a s) s
+fair_grouped keys aggs all s t h f = fair_leaves [] (kept_exprs all aggs ++ keys) s distinct_none (λ b i. cc) (grouping_known keys aggs all s h)
+fair_grouped keys aggs (names wanted) s t h f =
+    fair_leaves (only_where (has (names_of s)) wanted) (kept_exprs (names wanted) aggs ++ keys) s (distinct_where (has (names_of s)) wanted f.once) (λ b i. some-type_of s b ∙ (where_has (has (names_of s)) wanted b i).1) (grouping_known keys aggs (names wanted) s h)
+fair_grouped keys aggs cached s t h f = tt
+
+-- what a concatenation asks of each input
+
+-- names that are asked stand once
+abbrev Once : Asked → Type 0
+Once all = Unit {0}
+Once (names wanted) = AreDistinct wanted
+Once cached = Unit {0}
+
+held_once : (a : Asked) (s : Columns) → IsFair a s → Once a
+held_once all s f = tt
+held_once (names wanted) s f = f.once
+held_once cached s f = tt
+
+fair_held : (a : Asked) (s : Columns) → Once a → IsFair (asks_held a s) s
+fair_held all s f = tt
+fair_held (names wanted) s f = fair_set (only_where (has (names_of s)) wanted) s (distinct_where (has (names_of s)) wanted f) (λ b i. some-type_of s b ∙ (where_has (has (names_of s)) wanted b i).1)
+fair_held cached s f = tt
+
+fair_each : (a : Asked) (ss : List Columns) → Once a → FairAll (map (asks_held a) ss) ss
+fair_each a [] f = tt
+fair_each a (s ∷ ss) f = (fair_held a s f, fair_each a ss f)
+
 -- per node: what it asks can be asked of its inputs
 pub fair_asks : (op : Op) (a : Asked) (ss : List Columns) (os : List (Option Name)) → AllHold (checks op ss) → AreStandIns os ss → IsFair a (schema_by op ss) → FairAll (asks op a ss os) ss
 fair_asks (filter predicate) a (s ∷ []) os good k f = (fair_more (leaves predicate.expr) a s (λ b i. known_leaf (leaves predicate.expr) s b good.1.0 i) f, tt)
@@ -159,10 +196,12 @@ fair_asks (frame_scan df schema output) a [] os good k f = tt
 fair_asks (select es stored options) a (s ∷ []) os good k f = (fair_selected es (first_stand_in os) a s (first_stands os s [] k) (made_good [] es stored s good.1).known, tt)
 fair_asks (hstack es stored options) a (s ∷ []) os good k f = (fair_stacked es a s (made_good s es stored s good).known f, tt)
 fair_asks (sort keys part options) a (s ∷ []) os good k f = (fair_more (all_leaves keys) a s (λ b i. known_leaves keys s (keys_good keys s good.1).known b i) f, tt)
+fair_asks (group_by keys aggs schema ordered options) a (s ∷ []) os good k f = (fair_grouped keys aggs a s (made_schema [] (group_exprs keys aggs) s) (made_good [] (group_exprs keys aggs) schema s good.1).known f, tt)
 fair_asks (distinct options) a (s ∷ []) os good k f = (fair_more (names_or options.subset (names_of s)) a s (λ b i. told_known options.subset s good.1 b i) f, tt)
 fair_asks (map_function function) a (s ∷ []) os good k f = (fair_function function a s good f, tt)
 fair_asks (sink payload) a (s ∷ []) os good k f = (f, tt)
 fair_asks (union options) a ss os good k f = fair_alike a (first_schema ss) ss (union_inputs options ss good) f
+fair_asks (hconcat schema options) a ss os good k f = fair_each a ss (held_once a (side_by_side ss) f)
 fair_asks (cache id hits) a (s ∷ []) os good k f = (tt, tt)
 fair_asks op a ss os good k f = absurd (cc)
 
@@ -236,10 +275,12 @@ site_fair (frame_scan df schema output) a (s ∷ ss) good f = cc
 site_fair (filter predicate) a ss good f = tt
 site_fair (simple_projection cols) a ss good f = tt
 site_fair (sort keys part options) a ss good f = tt
+site_fair (group_by keys aggs schema ordered options) a ss good f = tt
 site_fair (distinct options) a ss good f = tt
 site_fair (map_function function) a ss good f = tt
 site_fair (sink payload) a ss good f = tt
 site_fair (union options) a ss good f = tt
+site_fair (hconcat schema options) a ss good f = tt
 site_fair (cache id hits) a ss good f = tt
 site_fair invalid a ss good f = tt
 site_fair (scan sources info predicate output kind options) a (s ∷ ss) good f = cc

@@ -2,7 +2,7 @@
 use Rattle.std.proofs.Common.{◌≡◌, List, [], ◌∷◌, ◌++◌, map, refl, sym, ap₂, ◌∙◌, append_assoc}
 use Rattle.std.proofs.lemmas.List.{map-append}
 use Rattle.plan_tree.specs.Rose.{Roses, rose, no_roses, more}
-use Rattle.plan_ir.specs.Plans.{Op, slice, filter, scan, frame_scan, simple_projection, select, hstack, sort, distinct, map_function, sink, union, cache, invalid, Plan}
+use Rattle.plan_ir.specs.Plans.{Op, slice, filter, scan, frame_scan, simple_projection, select, hstack, sort, group_by, distinct, map_function, sink, union, hconcat, cache, invalid, Plan}
 use Rattle.plan_meaning.specs.Typing.{schemas}
 use Rattle.plan_meaning.specs.Relating.{Asked}
 use Rattle.plan_meaning.specs.Counting.{stand_ins}
@@ -27,10 +27,12 @@ own_scans (simple_projection columns) = tt
 own_scans (select es stored options) = tt
 own_scans (hstack es stored options) = tt
 own_scans (sort keys part options) = tt
+own_scans (group_by keys aggs schema ordered options) = tt
 own_scans (distinct options) = tt
 own_scans (map_function function) = tt
 own_scans (sink payload) = tt
 own_scans (union options) = tt
+own_scans (hconcat schema options) = tt
 own_scans (cache id hits) = tt
 own_scans invalid = tt
 
@@ -75,10 +77,12 @@ own-site (simple_projection columns) a = refl
 own-site (select es stored options) a = refl
 own-site (hstack es stored options) a = refl
 own-site (sort keys part options) a = refl
+own-site (group_by keys aggs schema ordered options) a = refl
 own-site (distinct options) a = refl
 own-site (map_function function) a = refl
 own-site (sink payload) a = refl
 own-site (union options) a = refl
+own-site (hconcat schema options) a = refl
 own-site (cache id hits) a = refl
 own-site invalid a = refl
 

@@ -8,7 +8,7 @@ use Rattle.plan_core.specs.declared.error.PolarsError.TheVariants.{SchemaFieldNo
 use Rattle.plan_core.specs.Columns.{Columns, names_of, type_of}
 use Rattle.plan_tree.specs.Rose.{Roses, rose, no_roses, more}
 use Rattle.plan_expr.specs.Exprs.{Named}
-use Rattle.plan_ir.specs.Plans.{Op, slice, filter, scan, frame_scan, simple_projection, select, hstack, sort, distinct, map_function, sink, union, cache, Plan}
+use Rattle.plan_ir.specs.Plans.{Op, slice, filter, scan, frame_scan, simple_projection, select, hstack, sort, group_by, distinct, map_function, sink, union, hconcat, cache, Plan}
 use Rattle.plan_core.specs.declared.data_type.DataType.TheVariants as types
 use Rattle.plan_expr.specs.Leaves.{Name}
 use Rattle.plan_expr.specs.Naming.{name_of}
@@ -16,13 +16,15 @@ use Rattle.plan_expr.specs.Scalars.{is_scalar}
 use Rattle.plan_expr.specs.Types.{is_plain}
 use Rattle.plan_meaning.specs.Exprs.{expr_type}
 use Rattle.plan_meaning.specs.Functions.{function_schema}
+use Rattle.plan_options.specs.declared.distinct.UniqueKeepStrategy.TheVariants.{First}
+use Rattle.plan_meaning.specs.Grouping.{gathered, group_exprs, row_exprs}
 use Rattle.plan_meaning.specs.Mapped.{mapped}
-use Rattle.plan_meaning.specs.Typing.{each, is_known, is_column, columns_or, file_columns, has_columns, put_out_checks, is_plain_type, first_schema, made_schema, schema_by, schema, schemas, checks, AllHold, AllValid}
-use Rattle.plan_meaning.specs.Frames.{Frame, Column, HaveTypes, HasSchema, Holds, HoldsAll, with_columns, cut, in_turn}
+use Rattle.plan_meaning.specs.Typing.{each, is_known, is_column, columns_or, file_columns, has_columns, put_out_checks, is_plain_type, first_schema, made_schema, schema_by, side_by_side, schema, schemas, checks, AllHold, AllValid}
+use Rattle.plan_meaning.specs.Frames.{Frame, Column, HaveTypes, HasSchema, Holds, HoldsAll, with_columns, cut, in_turn, beside}
 use Rattle.plan_meaning.specs.Meaning.{are_alike, val, filled}
 use Rattle.plan_meaning.specs.Orders.{key_cells, rows_cmp, told_columns}
 use Rattle.plan_meaning.specs.Contents.{Contents, Source, frame_or, no_frame, handed_in, HasFrame, HasHandedIn, sources_of, frames_of, stack, FitsAt, FitsAll, Fits}
-use Rattle.plan_meaning.specs.Steps.{Step, MayAll, May, IsValid, filtered, true_rows, slice_rows, all_scalar, made_columns, made, selected}
+use Rattle.plan_meaning.specs.Steps.{Step, MayAll, May, IsValid, filtered, true_rows, slice_rows, all_scalar, made_columns, made, selected, grouped}
 use Rattle.plan_meaning.specs.Frames.{rows_at}
 use Rattle.std.proofs.lemmas.Bool.{and_parts as parts_of}
 use Rattle.plan_meaning.proofs.FrameLemmas.{rows_schema, schema_holds, all_hold, cut_schema, stack_has, is_type_some, with_has}
@@ -31,6 +33,8 @@ use Rattle.plan_meaning.proofs.CheckParts.{hold_back, each_pass, scan_good, Fram
 use Rattle.plan_meaning.proofs.KeptRows.{alike_equivalence, kept_exists}
 pub use Rattle.plan_meaning.proofs.UnionLemmas.{HaveSchemas}
 use Rattle.plan_meaning.proofs.UnionLemmas.{union_has}
+use Rattle.plan_meaning.proofs.GroupLemmas.{all_front, row-schema, rows_typed}
+use Rattle.plan_meaning.proofs.BesideLemmas.{beside_has}
 use Rattle.plan_meaning.proofs.FunctionLemmas.{mapped_has}
 use Rattle.plan_meaning.proofs.OrderLemmas.{IsKey, rows_total, sorted_exists}
 
@@ -105,6 +109,13 @@ selected_has g s es has a = at (all_scalar es) refl
     at true q = made_have 1 g s es [] [] tt (scalar_fill 1 g s es has q a)
     at false q = made_have g.height g s es [] [] tt (typed_fill g s es has a)
 
+-- a grouping has a column for each key, and for each aggregate
+grouped_has : (keys aggs : List Named) (rows : List ℕ) (g : Frame) (s : Columns) → HasSchema g s → AllByRecursion (λ (e : Named). is_some (expr_type e.expr s) ≡ true) (group_exprs keys aggs) → HasSchema (grouped keys aggs rows g) (made_schema [] (group_exprs keys aggs) s)
+grouped_has keys aggs rows g s has a =
+    let by_row = made_have g.height g s (row_exprs keys aggs) [] [] tt (typed_fill g s (row_exprs keys aggs) has (rows_typed keys aggs s a)) in
+    let typed = all_front (λ (e : Named). is_some (expr_type e.expr s) ≡ true) keys (map gathered aggs) a in
+    rows_schema rows (made g.height [] (row_exprs keys aggs) g) (made_schema [] (group_exprs keys aggs) s) (subst (HasSchema (made g.height [] (row_exprs keys aggs) g)) (row-schema keys s typed [] aggs) by_row)
+
 -- what keys are over a frame
 plain_some : (o : Option DataType) → is_plain_type o ≡ true → (t : DataType) × (o ≡ Some t) × (is_plain t ≡ true)
 plain_some None e = cc
@@ -139,11 +150,14 @@ step_has c (simple_projection cols) (s ∷ []) (g ∷ []) f good fit has st =
     subst (λ (x : Frame). HasSchema x cols) (sym st) (cut_schema g cols (among_hold (λ a t. Holds g (a, t)) s cols (λ a t e. schema_holds g s a t has.0 e) typed))
 step_has c (sort keys part options) (s ∷ []) (g ∷ []) f good fit has st =
     subst (λ (x : Frame). HasSchema x s) (sym st.2) (rows_schema st.0 g s has.0)
+step_has c (group_by keys aggs schema ordered options) (s ∷ []) (g ∷ []) f good fit has st =
+    subst (λ (x : Frame). HasSchema x (made_schema [] (group_exprs keys aggs) s)) (sym st.2) (grouped_has keys aggs st.0 g s has.0 (made_good [] (group_exprs keys aggs) schema s good.1).typed)
 step_has c (distinct options) (s ∷ []) (g ∷ []) f good fit has st =
     subst (λ (x : Frame). HasSchema x s) (sym st.2) (rows_schema st.0 g s has.0)
 step_has c (map_function function) (s ∷ []) (g ∷ []) f good fit has st = subst (λ (x : Frame). HasSchema x (function_schema function s)) (sym st) (mapped_has function s g good has.0)
 step_has c (sink payload) (s ∷ []) (g ∷ []) f good fit has st = subst (λ (x : Frame). HasSchema x s) (sym st) has.0
 step_has c (union options) ss fs f good fit has st =
+step_has c (hconcat schema options) ss fs f good fit has st = subst (λ (x : Frame). HasSchema x (side_by_side ss)) (sym st) (beside_has fs ss has)
     subst (λ (x : Frame). HasSchema x (first_schema ss)) (sym st.2) (rows_schema st.0 (in_turn fs) (first_schema ss) (union_has options ss fs good has))
 step_has c (cache id hits) (s ∷ []) (g ∷ []) f good fit has st = subst (λ (x : Frame). HasSchema x s) (sym st) has.0
 step_has c op ss fs f good fit has st = absurd (first_of (search st, cc))
@@ -162,6 +176,9 @@ step_runs c (sort keys part options) (s ∷ []) (g ∷ []) good fit has =
     let total = rows_total g.height (key_cells keys g) options.descending options.nulls_last (keys_are g s keys has.0 (keys_good keys s good.1).typed) in
     let rows = sorted_exists options.maintain_order cmp g.height total in
     (rows_at rows.0 g, (rows.0, rows.1, refl))
+step_runs c (group_by keys aggs schema ordered options) (s ∷ []) (g ∷ []) good fit has =
+    let rows = kept_exists (are_alike (key_cells keys g)) (alike_equivalence (key_cells keys g)) g.height ordered First in
+    (grouped keys aggs rows.0 g, (rows.0, rows.1, refl))
 step_runs c (distinct options) (s ∷ []) (g ∷ []) good fit has =
     let same = are_alike (told_columns options.subset g) in
     let rows = kept_exists same (alike_equivalence (told_columns options.subset g)) g.height options.maintain_order options.keep_strategy in
@@ -169,6 +186,7 @@ step_runs c (distinct options) (s ∷ []) (g ∷ []) good fit has =
 step_runs c (map_function function) (s ∷ []) (g ∷ []) good fit has = (mapped function g, refl)
 step_runs c (sink payload) (s ∷ []) (g ∷ []) good fit has = (g, refl)
 step_runs c (union options) ss fs good fit has =
+step_runs c (hconcat schema options) ss fs good fit has = (beside fs, refl)
     let rows = range_with_len 0 (in_turn fs).height in
     (rows_at rows (in_turn fs), (rows, record { permutes = IsPermutation-refl rows; in_order = λ e. refl }, refl))
 step_runs c (cache id hits) (s ∷ []) (g ∷ []) good fit has = (g, refl)

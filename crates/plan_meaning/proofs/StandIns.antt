@@ -8,8 +8,8 @@ use Rattle.plan_expr.specs.Exprs.{Named}
 use Rattle.plan_expr.specs.Leaves.{Name}
 use Rattle.plan_expr.specs.Naming.{name_of}
 use Rattle.plan_expr.specs.Scalars.{is_scalar}
-use Rattle.plan_ir.specs.Plans.{Op, slice, filter, scan, frame_scan, simple_projection, select, hstack, sort, distinct, map_function, sink, union, cache, invalid}
-use Rattle.plan_meaning.specs.Typing.{first_schema, out_names, made_schema, schema_by, schemas}
+use Rattle.plan_ir.specs.Plans.{Op, slice, filter, scan, frame_scan, simple_projection, select, hstack, sort, group_by, distinct, map_function, sink, union, hconcat, cache, invalid}
+use Rattle.plan_meaning.specs.Typing.{first_schema, out_names, made_schema, schema_by, schemas, side_by_side}
 use Rattle.plan_meaning.specs.Functions.{function_schema}
 use Rattle.plan_meaning.specs.Counting.{first_many, last_name, first_name, stand_in, stand_ins, first_stand_in}
 use Rattle.plan_meaning.proofs.NameSets.{has_first, has_later, some-type_of}
@@ -70,10 +70,12 @@ stand_in_known (hstack exprs stored options) ss =
     let s = schema_by (hstack exprs stored options) ss in
     first_known exprs (last_name s) s (made_known (first_schema ss) (first_schema ss) exprs) (last_known s)
 stand_in_known (sort keys part options) ss = last_known (first_schema ss)
+stand_in_known (group_by keys aggs schema ordered options) ss = last_known (schema_by (group_by keys aggs schema ordered options) ss)
 stand_in_known (distinct options) ss = last_known (first_schema ss)
 stand_in_known (map_function function) ss = last_known (function_schema function (first_schema ss))
 stand_in_known (sink payload) ss = last_known (first_schema ss)
 stand_in_known (union options) ss = last_known (first_schema ss)
+stand_in_known (hconcat schema options) ss = last_known (side_by_side ss)
 stand_in_known (cache id hits) ss = last_known (first_schema ss)
 stand_in_known invalid ss = tt
 

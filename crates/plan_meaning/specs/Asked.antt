@@ -1,12 +1,12 @@
 -- What each node of a plan is asked from above, the scans with what they are asked, and what these may read.
-use Rattle.std.specs.Prelude.{◌≡◌, Bool, true, false, List, [], ◌∷◌, ◌++◌, Option, is_some, if◌then◌else◌}
+use Rattle.std.specs.Prelude.{◌≡◌, Bool, true, false, List, [], ◌∷◌, ◌++◌, map, Option, is_some, if◌then◌else◌}
 use Rattle.std.specs.List.{AllByRecursion, filter as only_where, filter_map}
 use Rattle.plan_core.specs.declared.data_type.DataType.{DataType}
 use Rattle.plan_core.specs.Columns.{Columns, names_of, type_of}
 use Rattle.plan_core.specs.Names.{has, with_names, AreDistinct}
 use Rattle.plan_tree.specs.Rose.{Roses, rose, no_roses, more}
 use Rattle.plan_expr.specs.Exprs.{Named}
-use Rattle.plan_ir.specs.Plans.{Op, slice, filter, scan, frame_scan, simple_projection, select, hstack, sort, distinct, map_function, sink, union, cache, invalid, Plan}
+use Rattle.plan_ir.specs.Plans.{Op, slice, filter, scan, frame_scan, simple_projection, select, hstack, sort, group_by, distinct, map_function, sink, union, hconcat, cache, invalid, Plan}
 use Rattle.plan_expr.specs.Leaves.{Name, leaves}
 use Rattle.plan_expr.specs.Naming.{name_of}
 use Rattle.plan_meaning.specs.Typing.{is_empty, names_or, columns_or, file_columns, first_schema, schema_by, schemas}
@@ -85,6 +85,16 @@ asks_stacked es all s = all
 asks_stacked es (names wanted) s = asks_added (kept_exprs (names wanted) es) wanted s
 asks_stacked es cached s = cached
 
+-- the names that a grouping needs that keeps these aggregates: of some names those that its input has, then what the aggregates read, and then what the keys do
+abbrev pub grouping_names : (keys aggs : List Named) → List Name → Columns → List Name
+grouping_names keys aggs wanted s = with_names (only_where (has (names_of s)) wanted) (all_leaves (aggs ++ keys))
+
+-- a grouping asks for the names that it needs for the aggregates that are asked, and for the asked names that its input has
+abbrev pub asks_grouped : (keys aggs : List Named) → Asked → Columns → Asked
+asks_grouped keys aggs all s = set_of (grouping_names keys (kept_exprs all aggs) [] s)
+asks_grouped keys aggs (names wanted) s = set_of (grouping_names keys (kept_exprs (names wanted) aggs) wanted s)
+asks_grouped keys aggs cached s = cached
+
 -- the names that an unpivot needs: those that it repeats and then those that are told, each once; none where none are told
 abbrev pub unpivot_names : UnpivotArgsIR → List Name
 unpivot_names args = if is_empty args.on then [] else with_names [] (args.index ++ args.on)
@@ -107,6 +117,12 @@ abbrev pub asks_alike : Asked → List Columns → List Asked
 asks_alike a [] = []
 asks_alike a (s ∷ ss) = a ∷ asks_alike a ss
 
+-- a concatenation asks an input for the asked names that this has
+abbrev pub asks_held : Asked → Columns → Asked
+asks_held all s = all
+asks_held (names wanted) s = set_of (only_where (has (names_of s)) wanted)
+asks_held cached s = cached
+
 -- what a node asks of its inputs, by the columns of these and those that stand in for their rows
 abbrev pub asks : Op → Asked → List Columns → List (Option Name) → List Asked
 asks (slice offset len) a ss os = a ∷ []
@@ -117,10 +133,12 @@ asks (simple_projection columns) a ss os = asks_columns columns a ∷ []
 asks (select exprs schema options) a ss os = asks_selected exprs (first_stand_in os) a ∷ []
 asks (hstack exprs schema options) a ss os = asks_stacked exprs a (first_schema ss) ∷ []
 asks (sort keys part options) a ss os = with_more (all_leaves keys) a ∷ []
+asks (group_by keys aggs schema ordered options) a ss os = asks_grouped keys aggs a (first_schema ss) ∷ []
 asks (distinct options) a ss os = with_more (names_or options.subset (names_of (first_schema ss))) a ∷ []
 asks (map_function function) a ss os = asks_function function a (first_schema ss) ∷ []
 asks (sink payload) a ss os = a ∷ []
 asks (union options) a ss os = asks_alike a ss
+asks (hconcat schema options) a ss os = map (asks_held a) ss
 asks (cache id hits) a ss os = cached ∷ []
 asks invalid a ss os = []
 
@@ -149,10 +167,12 @@ own_site (simple_projection columns) a = []
 own_site (select exprs schema options) a = []
 own_site (hstack exprs schema options) a = []
 own_site (sort keys part options) a = []
+own_site (group_by keys aggs schema ordered options) a = []
 own_site (distinct options) a = []
 own_site (map_function function) a = []
 own_site (sink payload) a = []
 own_site (union options) a = []
+own_site (hconcat schema options) a = []
 own_site (cache id hits) a = []
 own_site invalid a = []
 
@@ -176,10 +196,12 @@ reads (simple_projection columns) = []
 reads (select exprs schema options) = []
 reads (hstack exprs schema options) = []
 reads (sort keys part options) = []
+reads (group_by keys aggs schema ordered options) = []
 reads (distinct options) = []
 reads (map_function function) = []
 reads (sink payload) = []
 reads (union options) = []
+reads (hconcat schema options) = []
 reads (cache id hits) = []
 reads invalid = []
 

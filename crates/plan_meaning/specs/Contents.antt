@@ -7,7 +7,7 @@ use Rattle.plan_core.specs.Columns.{Columns}
 use Rattle.plan_tree.specs.Rose.{Roses, rose, no_roses, more}
 use Rattle.plan_ir.specs.declared.scan.ScanSources.{ScanSources}
 use Rattle.plan_ir.specs.declared.scan.ScanSources.TheVariants.{Paths}
-use Rattle.plan_ir.specs.Plans.{Op, slice, filter, scan, frame_scan, simple_projection, select, hstack, sort, distinct, map_function, sink, union, cache, invalid, Plan}
+use Rattle.plan_ir.specs.Plans.{Op, slice, filter, scan, frame_scan, simple_projection, select, hstack, sort, group_by, distinct, map_function, sink, union, hconcat, cache, invalid, Plan}
 use Rattle.plan_expr.specs.Leaves.{Name}
 use Rattle.plan_meaning.specs.Values.{Value}
 use Rattle.plan_meaning.specs.Frames.{Frame, IsFrame, HoldsAll, column_or, table}
@@ -77,10 +77,12 @@ FitsAt c (simple_projection columns) = Unit {0}
 FitsAt c (select exprs schema options) = Unit {0}
 FitsAt c (hstack exprs schema options) = Unit {0}
 FitsAt c (sort keys part options) = Unit {0}
+FitsAt c (group_by keys aggs schema ordered options) = Unit {0}
 FitsAt c (distinct options) = Unit {0}
 FitsAt c (map_function function) = Unit {0}
 FitsAt c (sink payload) = Unit {0}
 FitsAt c (union options) = Unit {0}
+FitsAt c (hconcat schema options) = Unit {0}
 FitsAt c (cache id hits) = Unit {0}
 FitsAt c invalid = Unit {0}
 

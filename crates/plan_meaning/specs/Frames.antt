@@ -1,6 +1,6 @@
 -- Frames: a height and named columns of that length; rows and columns taken from them.
-use Rattle.std.specs.Prelude.{◌≡◌, ℕ, zero, suc, ◌+◌, true, List, [], ◌∷◌, ◌++◌, map, fold, length, Option, Some, None, replicate, unwrap_or, if◌then◌else◌}
-use Rattle.std.specs.List.{AllByRecursion}
+use Rattle.std.specs.Prelude.{◌≡◌, ℕ, zero, suc, ◌+◌, true, List, [], ◌∷◌, ◌++◌, map, fold, length, max, Option, Some, None, replicate, unwrap_or, if◌then◌else◌}
+use Rattle.std.specs.List.{AllByRecursion, flat_map, range_with_len}
 use Rattle.std.specs.Str.{bytes_eq}
 use Rattle.plan_core.specs.declared.data_type.DataType.{DataType}
 use Rattle.plan_core.specs.Columns.{Columns, HasDistinctNames}
@@ -111,6 +111,18 @@ abbrev pub in_turn : List Frame → Frame
 in_turn [] = record { height = 0; columns = [] }
 in_turn (f ∷ []) = f
 in_turn (f ∷ g ∷ fs) = appended f (in_turn (g ∷ fs))
+
+-- the height of the highest of some frames
+abbrev pub highest : List Frame → ℕ
+highest fs = fold max 0 (map (λ (f : Frame). f.height) fs)
+
+-- the columns of frames in order, each with as many rows, null where its frame has no such row
+abbrev pub levelled : ℕ → List Frame → List Column
+levelled h fs = flat_map (λ (f : Frame). picked_columns (range_with_len 0 h) f.columns) fs
+
+-- frames beside one another, as high as the highest; the others have null in the rows that they lack
+abbrev pub beside : List Frame → Frame
+beside fs = record { height = highest fs; columns = levelled (highest fs) fs }
 
 -- two frames of one height: each of these columns of the second is in the first, as it is called there
 pub record AgreeBy (now : Name → Name) (names : List Name) (f g : Frame) : Type 0 where

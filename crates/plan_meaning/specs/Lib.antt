@@ -2,6 +2,7 @@
 pub mod Exprs
 pub mod Firsts
 pub mod Functions
+pub mod Grouping
 pub mod Typing
 pub mod TreeFaults
 pub mod Typed

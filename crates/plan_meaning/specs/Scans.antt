@@ -2,7 +2,7 @@
 use Rattle.std.specs.Prelude.{◌≡◌, ℕ, true, List, [], ◌∷◌, ◌++◌}
 use Rattle.plan_core.specs.Names.{has}
 use Rattle.plan_tree.specs.Rose.{Roses, rose, no_roses, more, size}
-use Rattle.plan_ir.specs.Plans.{Op, slice, filter, scan, frame_scan, simple_projection, select, hstack, sort, distinct, map_function, sink, union, cache, invalid, Plan}
+use Rattle.plan_ir.specs.Plans.{Op, slice, filter, scan, frame_scan, simple_projection, select, hstack, sort, group_by, distinct, map_function, sink, union, hconcat, cache, invalid, Plan}
 use Rattle.plan_expr.specs.Leaves.{Name}
 use Rattle.plan_meaning.specs.Asked.{reads}
 
@@ -16,10 +16,12 @@ own_scan (simple_projection columns) = []
 own_scan (select exprs schema options) = []
 own_scan (hstack exprs schema options) = []
 own_scan (sort keys part options) = []
+own_scan (group_by keys aggs schema ordered options) = []
 own_scan (distinct options) = []
 own_scan (map_function function) = []
 own_scan (sink payload) = []
 own_scan (union options) = []
+own_scan (hconcat schema options) = []
 own_scan (cache id hits) = []
 own_scan invalid = []
 

@@ -4,12 +4,14 @@ use Rattle.std.specs.List.{range_with_len}
 use Rattle.plan_core.specs.Columns.{names_of}
 use Rattle.plan_tree.specs.Rose.{Roses, rose, no_roses, more}
 use Rattle.plan_expr.specs.Exprs.{Named, Expr}
-use Rattle.plan_ir.specs.Plans.{Op, slice, filter, scan, frame_scan, simple_projection, select, hstack, sort, distinct, map_function, sink, union, cache, invalid, Plan}
+use Rattle.plan_ir.specs.Plans.{Op, slice, filter, scan, frame_scan, simple_projection, select, hstack, sort, group_by, distinct, map_function, sink, union, hconcat, cache, invalid, Plan}
 use Rattle.plan_expr.specs.Naming.{name_of}
 use Rattle.plan_expr.specs.Scalars.{is_scalar}
 use Rattle.plan_meaning.specs.Values.{is_true}
-use Rattle.plan_meaning.specs.Frames.{Frame, Column, rows_at, with_columns, cut, in_turn}
+use Rattle.plan_meaning.specs.Frames.{Frame, Column, rows_at, with_columns, cut, in_turn, beside}
 use Rattle.plan_meaning.specs.Meaning.{Cell, are_alike, val, value_at, filled, places_from}
+use Rattle.plan_options.specs.declared.distinct.UniqueKeepStrategy.TheVariants.{First}
+use Rattle.plan_meaning.specs.Grouping.{row_exprs}
 use Rattle.plan_meaning.specs.Mapped.{mapped}
 use Rattle.plan_meaning.specs.Contents.{Contents, frames_of, handed_in, stack}
 use Rattle.plan_meaning.specs.Orders.{AreAll, AreKept, AreSorted, key_cells, rows_cmp, told_columns}
@@ -70,7 +72,11 @@ made h base es g = record { height = h; columns = with_columns base (made_column
 abbrev pub selected : List Named → Frame → Frame
 selected es g = made (if all_scalar es then 1 else g.height) [] es g
 
--- whether a node may give this frame from its inputs' frames: a slice or a filter some of the rows, a scan its sources one after another or a frame that is handed in, a projection its columns in their order, a selection what its expressions make, an addition that beside the input's columns, a sort all rows in an order, distinct rows some of them, a function what it makes of the whole frame, a union the rows of its inputs in turn or in any order, and a sink and a cache their input
+-- of some rows of a frame, one of each group: the keys, and what the aggregates are over the rows of the group
+abbrev pub grouped : (keys aggs : List Named) → List ℕ → Frame → Frame
+grouped keys aggs rows g = rows_at rows (made g.height [] (row_exprs keys aggs) g)
+
+-- whether a node may give this frame from its inputs' frames: a slice or a filter some of the rows, a scan its sources one after another or a frame that is handed in, a projection its columns in their order, a selection what its expressions make, an addition that beside the input's columns, a sort all rows in an order, a grouping what it makes of the first row of each group, in their order or any, distinct rows some of them, a function what it makes of the whole frame, a union the rows of its inputs in turn or in any order, a concatenation its inputs beside one another, and a sink and a cache their input
 abbrev pub Step : Contents → Op → List Frame → Frame → Type 0
 Step c (slice offset len) fs f = OnOne fs (λ g. f ≡ rows_at (slice_rows offset len g.height) g)
 Step c (filter predicate) fs f = OnOne fs (λ g. f ≡ filtered predicate.expr g)
@@ -80,10 +86,12 @@ Step c (simple_projection columns) fs f = OnOne fs (λ g. f ≡ cut (names_of co
 Step c (select exprs schema options) fs f = OnOne fs (λ g. f ≡ selected exprs g)
 Step c (hstack exprs schema options) fs f = OnOne fs (λ g. f ≡ made g.height g.columns exprs g)
 Step c (sort keys part options) fs f = OnOne fs (λ g. (rows : List ℕ) × AreSorted options.maintain_order (rows_cmp (key_cells keys g) options.descending options.nulls_last) g.height rows × (f ≡ rows_at rows g))
+Step c (group_by keys aggs schema ordered options) fs f = OnOne fs (λ g. (rows : List ℕ) × AreKept ordered First (are_alike (key_cells keys g)) g.height rows × (f ≡ grouped keys aggs rows g))
 Step c (distinct options) fs f = OnOne fs (λ g. (rows : List ℕ) × AreKept options.maintain_order options.keep_strategy (are_alike (told_columns options.subset g)) g.height rows × (f ≡ rows_at rows g))
 Step c (map_function function) fs f = OnOne fs (λ g. f ≡ mapped function g)
 Step c (sink payload) fs f = OnOne fs (λ g. f ≡ g)
 Step c (union options) fs f = (rows : List ℕ) × AreAll options.maintain_order (in_turn fs).height rows × (f ≡ rows_at rows (in_turn fs))
+Step c (hconcat schema options) fs f = f ≡ beside fs
 Step c (cache id hits) fs f = OnOne fs (λ g. f ≡ g)
 Step c invalid fs f = ⊥
 

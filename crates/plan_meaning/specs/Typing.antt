@@ -8,6 +8,7 @@ use Rattle.plan_core.specs.declared.error.PolarsError.TheVariants.{SchemaFieldNo
 use Rattle.plan_core.specs.declared.data_type.DataType.{DataType}
 use Rattle.plan_core.specs.declared.options.FileScanOptions.{FileScanOptions}
 use Rattle.plan_options.specs.declared.distinct.DistinctOptionsIR.{DistinctOptionsIR}
+use Rattle.plan_options.specs.declared.group.GroupbyOptions.{GroupbyOptions}
 use Rattle.plan_options.specs.declared.sort.SortMultipleOptions.{SortMultipleOptions}
 use Rattle.plan_options.specs.declared.union.UnionOptions.{UnionOptions}
 use Rattle.plan_core.specs.Columns.{Columns, names_of, type_of, with_types, same_columns}
@@ -20,11 +21,12 @@ use Rattle.plan_ir.specs.declared.scan.FileInfo.{FileInfo}
 use Rattle.plan_expr.specs.Exprs.{Named}
 use Rattle.plan_expr.specs.Forms.{has_form}
 use Rattle.plan_expr.specs.Types.{is_plain}
-use Rattle.plan_ir.specs.Plans.{Op, slice, filter, scan, frame_scan, simple_projection, select, hstack, sort, distinct, map_function, sink, union, cache, invalid}
+use Rattle.plan_ir.specs.Plans.{Op, slice, filter, scan, frame_scan, simple_projection, select, hstack, sort, group_by, distinct, map_function, sink, union, hconcat, cache, invalid}
 use Rattle.plan_expr.specs.Leaves.{Name, leaves}
 use Rattle.plan_expr.specs.Naming.{naming, may_be_named, name_of}
 use Rattle.plan_meaning.specs.Functions.{renamed, stay_apart, value_names, unpivoted_names, all_differ, first_type, function_schema}
 use Rattle.plan_meaning.specs.Exprs.{all_known, expr_type, is_type}
+use Rattle.plan_meaning.specs.Grouping.{group_exprs}
 use Rattle.plan_core.specs.declared.data_type.DataType.TheVariants as types
 
 -- Schemas
@@ -51,6 +53,11 @@ made_column s e = (name_of e.name, unwrap_or (expr_type e.expr s) types.Int64)
 abbrev pub made_schema : Columns → List Named → Columns → Columns
 made_schema base es s = with_types base (map (made_column s) es)
 
+-- columns beside one another, in order
+abbrev pub side_by_side : List Columns → Columns
+side_by_side [] = []
+side_by_side (s ∷ ss) = s ++ side_by_side ss
+
 -- the columns of a node, from those of its inputs
 abbrev pub schema_by : Op → List Columns → Columns
 schema_by (slice offset len) ss = first_schema ss
@@ -61,10 +68,12 @@ schema_by (simple_projection columns) ss = columns
 schema_by (select exprs schema options) ss = made_schema [] exprs (first_schema ss)
 schema_by (hstack exprs schema options) ss = made_schema (first_schema ss) exprs (first_schema ss)
 schema_by (sort keys part options) ss = first_schema ss
+schema_by (group_by keys aggs schema ordered options) ss = made_schema [] (group_exprs keys aggs) (first_schema ss)
 schema_by (distinct options) ss = first_schema ss
 schema_by (map_function function) ss = function_schema function (first_schema ss)
 schema_by (sink payload) ss = first_schema ss
 schema_by (union options) ss = first_schema ss
+schema_by (hconcat schema options) ss = side_by_side ss
 schema_by (cache id hits) ss = first_schema ss
 schema_by invalid ss = []
 
@@ -252,6 +261,10 @@ key_checks keys s =
     ++ (plain_checks keys s
     ++ naming_checks keys))
 
+-- whether a grouping has a form that is built: some keys, and no slice
+unfoldable pub is_built_group : List Named → GroupbyOptions → Bool
+is_built_group keys options = not (is_empty keys) && is_none options.slice
+
 -- the names that are told, if they are, are some
 abbrev pub is_some_subset : Option (List Name) → Bool
 is_some_subset None = true
@@ -324,6 +337,15 @@ is_built_union options ss = not (is_empty ss) && is_none options.slice
 unfoldable pub same_checks : List Columns → List Check
 same_checks ss = each SchemaMismatch 1 (same_columns (first_schema ss)) ss
 
+-- no column of some is called like one of others
+abbrev pub share_no_name : (s t : Columns) → Bool
+share_no_name s t = list_all (λ (a : Name). not (has (names_of t) a)) (names_of s)
+
+-- no two of several have a column of one name
+unfoldable pub are_apart : List Columns → Bool
+are_apart [] = true
+are_apart (s ∷ ss) = share_no_name s (side_by_side ss) && are_apart ss
+
 -- the checks where a node has no inputs; else one that fails
 abbrev pub with_none : List Columns → List Check → List Check
 with_none [] cs = cs
@@ -344,10 +366,12 @@ checks (simple_projection columns) ss = with_one ss (projection_checks columns)
 checks (select exprs schema options) ss = with_one ss (λ s. check InvalidOperation 0 (not (is_empty exprs)) ∷ made_checks [] exprs schema s)
 checks (hstack exprs schema options) ss = with_one ss (λ s. made_checks s exprs schema s)
 checks (sort keys part options) ss = with_one ss (λ s. check InvalidOperation 0 (is_built_sort (length keys) part options) ∷ key_checks keys s)
+checks (group_by keys aggs schema ordered options) ss = with_one ss (λ s. check InvalidOperation 0 (is_built_group keys options) ∷ made_checks [] (group_exprs keys aggs) schema s)
 checks (distinct options) ss = with_one ss (λ s. check InvalidOperation 0 (is_built_distinct options) ∷ subset_checks options.subset s)
 checks (map_function function) ss = with_one ss (function_checks function)
 checks (sink payload) ss = with_one ss (λ s. [])
 checks (union options) ss = check InvalidOperation 0 (is_built_union options ss) ∷ same_checks ss
+checks (hconcat schema options) ss = check InvalidOperation 0 (not (is_empty ss)) ∷ check Duplicate 0 (are_apart ss) ∷ stored_checks schema (side_by_side ss)
 checks (cache id hits) ss = with_one ss (λ s. [])
 checks invalid ss = check ComputeError 0 false ∷ []
 

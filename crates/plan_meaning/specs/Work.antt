@@ -3,7 +3,7 @@ use Rattle.std.specs.Prelude.{ℕ, ◌+◌, Bool, true, false, not, List, [], �
 use Rattle.std.specs.List.{filter as only_where}
 use Rattle.plan_tree.specs.Rose.{Roses, rose, no_roses, more}
 use Rattle.plan_expr.specs.Exprs.{ExprOp, column, literal, alias, binary, ternary, aggregate, call, window, len as row_count, Expr, Named}
-use Rattle.plan_ir.specs.Plans.{Op, slice, filter, scan, frame_scan, simple_projection, select, hstack, sort, distinct, map_function, sink, union, cache, invalid, Plan}
+use Rattle.plan_ir.specs.Plans.{Op, slice, filter, scan, frame_scan, simple_projection, select, hstack, sort, group_by, distinct, map_function, sink, union, hconcat, cache, invalid, Plan}
 use Rattle.plan_meaning.specs.Typing.{schemas}
 use Rattle.plan_meaning.specs.Relating.{Asked, all}
 use Rattle.plan_meaning.specs.Counting.{stand_ins}
@@ -29,7 +29,7 @@ is_plain (rose n op es) = is_column_op op
 abbrev pub reckoned_exprs : List Named → ℕ
 reckoned_exprs es = length (only_where (λ (e : Named). not (is_plain e.expr)) es)
 
--- the columns that a node makes: a selection those that aren't columns by themselves, an addition each of its own
+-- the columns that a node makes: a selection those that aren't columns by themselves, an addition each of its own, a grouping its aggregates
 abbrev pub own_made : Op → ℕ
 own_made (select exprs schema options) = reckoned_exprs exprs
 own_made (hstack exprs schema options) = length exprs
@@ -39,10 +39,12 @@ own_made (scan sources info predicate output kind options) = 0
 own_made (frame_scan df schema output) = 0
 own_made (simple_projection columns) = 0
 own_made (sort keys part options) = 0
+own_made (group_by keys aggs schema ordered options) = length aggs
 own_made (distinct options) = 0
 own_made (map_function function) = 0
 own_made (sink payload) = 0
 own_made (union options) = 0
+own_made (hconcat schema options) = 0
 own_made (cache id hits) = 0
 own_made invalid = 0
 
@@ -65,10 +67,12 @@ own_kept (scan sources info predicate output kind options) a = 0
 own_kept (frame_scan df schema output) a = 0
 own_kept (simple_projection columns) a = 0
 own_kept (sort keys part options) a = 0
+own_kept (group_by keys aggs schema ordered options) a = length (kept_exprs a aggs)
 own_kept (distinct options) a = 0
 own_kept (map_function function) a = 0
 own_kept (sink payload) a = 0
 own_kept (union options) a = 0
+own_kept (hconcat schema options) a = 0
 own_kept (cache id hits) a = 0
 own_kept invalid a = 0
 

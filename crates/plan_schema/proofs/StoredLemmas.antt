@@ -3,16 +3,17 @@ use Rattle.std.proofs.Common.{◌≡◌, ◌&&◌, Bool, true, false, cond, List
 use Rattle.plan_core.specs.declared.arena.Node.{Node}
 use Rattle.plan_core.specs.declared.error.PolarsError.{PolarsError}
 use Rattle.plan_core.specs.declared.error.PolarsError.TheVariants.{SchemaFieldNotFound, Duplicate, SchemaMismatch, InvalidOperation, ComputeError, OutOfMemory}
-use Rattle.plan_core.specs.Columns.{Columns}
+use Rattle.plan_core.specs.Columns.{Columns, same_columns}
 use Rattle.plan_tree.specs.Rose.{Roses, rose, no_roses, more}
 use Rattle.plan_expr.specs.declared.aexpr.AExpr.{AExpr}
 use Rattle.plan_ir.specs.declared.ir.IR.{IR}
 use Rattle.plan_ir.specs.Parts.{IsPlan}
-use Rattle.plan_ir.specs.Plans.{Op, slice, filter, scan, frame_scan, simple_projection, select, hstack, sort, distinct, map_function, sink, union, cache, invalid, bare, plans_at}
+use Rattle.plan_ir.specs.Plans.{Op, slice, filter, scan, frame_scan, simple_projection, select, hstack, sort, group_by, distinct, map_function, sink, union, hconcat, cache, invalid, bare, plans_at}
 use Rattle.plan_meaning.specs.PlanAt.{one_plan, plan_at}
 use Rattle.plan_meaning.specs.Steps.{IsValid}
 use Rattle.plan_meaning.specs.Functions.{function_schema}
-use Rattle.plan_meaning.specs.Typing.{Check, at as at_node, columns_or, file_columns, first_fault, first_schema, function_checks, schema, schema_by, schemas, checks, Says, AllHold, AllValid}
+use Rattle.plan_meaning.specs.Grouping.{group_exprs}
+use Rattle.plan_meaning.specs.Typing.{Check, side_by_side, stored_checks, at as at_node, columns_or, file_columns, first_fault, first_schema, function_checks, schema, schema_by, schemas, checks, Says, AllHold, AllValid}
 use Rattle.plan_meaning.proofs.Validity.{all_hold_unless, one_stands}
 pub use Rattle.plan_meaning.proofs.CheckParts.{same_is, is_same}
 use Rattle.plan_meaning.proofs.CheckParts.{scan_good, made_good}
@@ -48,6 +49,11 @@ fault-told (SchemaMismatch a) fault w h = h
 fault-told (InvalidOperation a) fault w h = h
 fault-told (ComputeError a) fault w h = h
 
+-- stored columns that hold are those that are computed
+stored_holds : (stored computed : Columns) → AllHold (stored_checks stored computed) → same_columns stored computed ≡ true
+unfolding stored_checks
+stored_holds stored computed h = h.0
+
 -- per node
 stored-by : (op : Op) (ss : List Columns) → AllHold (checks op ss) → stored_by op ss ≡ schema_by op ss
 stored-by (slice offset len) ss good = refl
@@ -64,12 +70,16 @@ stored-by (hstack es schema options) (s ∷ []) good = same_is schema _ (made_go
 stored-by (hstack es schema options) [] good = cc
 stored-by (hstack es schema options) (s ∷ t ∷ ss) good = cc
 stored-by (sort keys part options) ss good = refl
+stored-by (group_by keys aggs schema ordered options) (s ∷ []) good = same_is schema _ (made_good [] (group_exprs keys aggs) schema s good.1).same
+stored-by (group_by keys aggs schema ordered options) [] good = cc
+stored-by (group_by keys aggs schema ordered options) (s ∷ t ∷ ss) good = cc
 stored-by (distinct options) ss good = refl
 stored-by (map_function function) (s ∷ []) good = ap (λ (b : Bool). cond b (function_schema function s) []) (all-hold (function_checks function s) good)
 stored-by (map_function function) [] good = cc
 stored-by (map_function function) (s ∷ t ∷ ss) good = cc
 stored-by (sink payload) ss good = refl
 stored-by (union options) ss good = refl
+stored-by (hconcat schema options) ss good = same_is schema (side_by_side ss) (stored_holds schema (side_by_side ss) good.1.1)
 stored-by (cache id hits) ss good = refl
 stored-by invalid ss good = refl
 

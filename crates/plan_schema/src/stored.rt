@@ -114,6 +114,8 @@ fn stored<'a>(alloc: Global, node: Node, lp: &'a Arena<IR>) -> Result<StoredSche
         IR::SimpleProjection { columns, .. } => Ok(StoredSchema::Stored(columns)),
         IR::Select { schema, .. } => Ok(StoredSchema::Stored(schema)),
         IR::HStack { schema, .. } => Ok(StoredSchema::Stored(schema)),
+        IR::GroupBy { schema, .. } => Ok(StoredSchema::Stored(schema)),
+        IR::HConcat { schema, .. } => Ok(StoredSchema::Stored(schema)),
         IR::Invalid => unreachable!(),
     }
 }
