@@ -25,6 +25,8 @@ pub mod KeptExprs
 pub mod UnpivotLemmas
 pub mod ExplodeLemmas
 pub mod FunctionLemmas
+pub mod GroupLemmas
+pub mod BesideLemmas
 pub mod Runs
 pub mod Refining
 pub mod Related

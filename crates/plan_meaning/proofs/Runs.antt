@@ -157,8 +157,8 @@ step_has c (distinct options) (s ∷ []) (g ∷ []) f good fit has st =
 step_has c (map_function function) (s ∷ []) (g ∷ []) f good fit has st = subst (λ (x : Frame). HasSchema x (function_schema function s)) (sym st) (mapped_has function s g good has.0)
 step_has c (sink payload) (s ∷ []) (g ∷ []) f good fit has st = subst (λ (x : Frame). HasSchema x s) (sym st) has.0
 step_has c (union options) ss fs f good fit has st =
-step_has c (hconcat schema options) ss fs f good fit has st = subst (λ (x : Frame). HasSchema x (side_by_side ss)) (sym st) (beside_has fs ss has)
     subst (λ (x : Frame). HasSchema x (first_schema ss)) (sym st.2) (rows_schema st.0 (in_turn fs) (first_schema ss) (union_has options ss fs good has))
+step_has c (hconcat schema options) ss fs f good fit has st = subst (λ (x : Frame). HasSchema x (side_by_side ss)) (sym st) (beside_has fs ss has)
 step_has c (cache id hits) (s ∷ []) (g ∷ []) f good fit has st = subst (λ (x : Frame). HasSchema x s) (sym st) has.0
 step_has c op ss fs f good fit has st = absurd (first_of (search st, cc))
 
@@ -186,9 +186,9 @@ step_runs c (distinct options) (s ∷ []) (g ∷ []) good fit has =
 step_runs c (map_function function) (s ∷ []) (g ∷ []) good fit has = (mapped function g, refl)
 step_runs c (sink payload) (s ∷ []) (g ∷ []) good fit has = (g, refl)
 step_runs c (union options) ss fs good fit has =
-step_runs c (hconcat schema options) ss fs good fit has = (beside fs, refl)
     let rows = range_with_len 0 (in_turn fs).height in
     (rows_at rows (in_turn fs), (rows, record { permutes = IsPermutation-refl rows; in_order = λ e. refl }, refl))
+step_runs c (hconcat schema options) ss fs good fit has = (beside fs, refl)
 step_runs c (cache id hits) (s ∷ []) (g ∷ []) good fit has = (g, refl)
 step_runs c op ss fs good fit has = absurd (first_of (search has, cc))
 
