@@ -8,7 +8,7 @@ use Rattle.plan_core.specs.Errors.{item_at}
 use Rattle.plan_core.specs.Names.{has}
 use Rattle.plan_expr.specs.Leaves.{Name}
 use Rattle.plan_meaning.specs.Typing.{Check, each, each_new, or_fault}
-use Rattle.plan_meaning.proofs.CheckLemmas.{drop-at, drop-end}
+use Rattle.plan_function.proofs.CheckLemmas.{drop-at, drop-end}
 use Rattle.plan_builder.specs.Picks.{first_item_fault}
 
 -- checks, and then others

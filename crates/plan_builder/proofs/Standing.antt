@@ -12,7 +12,7 @@ use Rattle.plan_expr.specs.Operands.{expr_shape}
 use Rattle.plan_ir.specs.declared.ir.IR.{IR}
 use Rattle.plan_ir.specs.Parts.{IsPlan, plan_shape, roots_in}
 use Rattle.plan_meaning.specs.TreeFaults.{marked_exprs, plan_walk, tree_fault}
-use Rattle.plan_meaning.proofs.TreeFaultLemmas.{roots-are}
+use Rattle.plan_check.proofs.TreeFaultLemmas.{roots-are}
 
 pub no-tree_fault : (lp : List IR) (ex : List AExpr) (root : Node) → IsPlan lp ex root → tree_fault lp ex root ≡ None
 no-tree_fault lp ex root h =

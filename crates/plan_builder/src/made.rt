@@ -7,7 +7,7 @@ use crate::builder::IRBuilder;
 use plan_core::{Arena, Items, Node, ProjectionOptions, Schema, TryClone};
 use plan_expr::{AExpr, ExprIR};
 use plan_ir::IR;
-use plan_meaning::made_schema;
+use plan_check::made_schema;
 use std::alloc::{AllocError, Global};
 
 /// The expressions at these numbers, each under the name that it gives itself. Refuses where memory is short and where one of

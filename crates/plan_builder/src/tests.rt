@@ -13,7 +13,7 @@ use plan_core::{
 };
 use plan_expr::{AExpr, ExprIR, OutputName};
 use plan_ir::{IR, UnpivotArgsIR};
-use plan_meaning::check_plan;
+use plan_check::check_plan;
 use std::alloc::{AllocError, Global};
 use std::test::Fail;
 

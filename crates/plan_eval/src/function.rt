@@ -20,7 +20,7 @@ use crate::explode::exploded;
 use crate::unpivot::unpivoted;
 use plan_core::{DataType, Items, PlSmallStr, TryClone};
 use plan_ir::FunctionIR;
-use plan_meaning::Renaming;
+use plan_function::Renaming;
 use plan_table::{AnyValue, Column, Columns, Table};
 use std::alloc::{AllocError, Global};
 

@@ -8,7 +8,7 @@ use plan_eval::evaluate;
 use plan_expr::{AExpr, ExprIR, LiteralValue, Operator, OutputName};
 use plan_fit::fits;
 use plan_ir::{FileInfo, FileScan, IR, ScanSources};
-use plan_meaning::check_plan;
+use plan_check::check_plan;
 use plan_table::{AnyValue, SourceKey, Table, Tables};
 use std::alloc::{AllocError, Global};
 

@@ -4,7 +4,7 @@ use crate::made::{filter, greater, projection, scan, texts, union};
 use plan_core::{Arena, Items, Node, PlSmallStr, PolarsError, TryClone};
 use plan_expr::{AExpr, LiteralValue};
 use plan_ir::{ArenaLpIter, IR, PlanCopy, reads, renumbered, scan_reads};
-use plan_meaning::check_tree;
+use plan_check::check_tree;
 use plan_tree::{Step, walk};
 use std::alloc::{AllocError, Global};
 use std::test::Fail;

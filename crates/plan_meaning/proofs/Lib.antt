@@ -1,15 +1,9 @@
 -- The lemmas of this crate.
 mod ExprSteps
 pub mod ScalarExprs
-pub mod CheckLemmas
-pub mod MadeLemmas
-mod ReadLemmas
-pub mod TreeFaultLemmas
-mod TypedLemmas
+pub mod NodeExprs
 pub mod SideLemmas
-mod InputLemmas
 pub mod NameSets
-pub mod RenameLemmas
 pub mod FrameLemmas
 pub mod SameValues
 pub mod Depends
@@ -31,7 +25,6 @@ pub mod Runs
 pub mod Refining
 pub mod Related
 pub mod Validity
-mod UnionFaults
 mod Counts
 pub mod StandIns
 pub mod Fairness

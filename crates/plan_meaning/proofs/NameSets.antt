@@ -3,6 +3,7 @@ use Rattle.std.proofs.Common.{◌≡◌, Bool, true, false, cond, ◌||◌, List
 use Rattle.std.specs.List.{IsDistinct, AllByRecursion}
 use Rattle.std.specs.Str.{bytes_eq}
 use Rattle.std.proofs.lemmas.Bool.{or_left, or_right, or_cases}
+use Rattle.std.proofs.lemmas.List.{map-append}
 use Rattle.std.proofs.lemmas.Slice.Eq.{bytes_eq-Decides}
 use Rattle.plan_core.specs.Names.{has, with_name, with_names, AreDistinct}
 use Rattle.plan_core.specs.Columns.{Columns, names_of, type_of}
@@ -153,3 +154,7 @@ has-once names a = at (has (with_names [] names) a) (has names a) refl refl
     at false false p q = refl
     at false true p q = sym p ∙ adds_names [] names a q
     at true false p q = ⊎_elim (λ e. sym e) (λ e. sym e ∙ q) (from_names [] names a p)
+
+-- the names of columns one after another
+pub names-append : (s t : Columns) → names_of (s ++ t) ≡ names_of s ++ names_of t
+names-append s t = map-append (λ (c : Name × DataType). c.0) s t

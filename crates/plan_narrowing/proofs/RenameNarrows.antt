@@ -17,7 +17,7 @@ use Rattle.plan_meaning.specs.Relating.{Holding}
 use Rattle.plan_meaning.specs.Asked.{function_names, Fair}
 use Rattle.plan_meaning.proofs.NameSets.{named, same_named, has_cons, has_first, has_later, some-type_of}
 use Rattle.plan_meaning.proofs.CheckParts.{hold_front, hold_back, hold_join}
-use Rattle.plan_meaning.proofs.RenameLemmas.{apart_one, fewer_apart, names-renamed, type-renamed, from_renamed, to_renamed}
+use Rattle.plan_function.proofs.RenameLemmas.{apart_one, fewer_apart, names-renamed, type-renamed, from_renamed, to_renamed}
 use Rattle.plan_narrowing.proofs.FunctionParts.{FunctionKept}
 use Rattle.plan_narrowing.proofs.OrderNarrows.{names-are}
 

@@ -21,7 +21,7 @@ use Rattle.plan_ir.specs.Parts.{plan_shape, IsPlan}
 use Rattle.plan_ir.specs.Plans.{op_at, plans_of, plans_at, bare}
 use Rattle.plan_meaning.specs.Typing.{first_schema}
 use Rattle.plan_meaning.specs.Counting.{first_many, first_name, last_name, stand_in, stand_ins, first_stand_in}
-use Rattle.plan_meaning.proofs.MadeLemmas.{all_stand}
+use Rattle.plan_meaning.proofs.NodeExprs.{all_stand}
 use Rattle.plan_schema.specs.Stored.{stored_all}
 use Rattle.plan_prune.specs.Kept.{made_by, many_at}
 use Rattle.plan_prune.specs.Steps.{stand_in_at}

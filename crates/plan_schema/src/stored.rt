@@ -13,7 +13,7 @@ ghost use Rattle.plan_schema.specs.Stored.{columns_told, given_by, stored_all, w
 
 use plan_core::{Arena, Node, PolarsError, Schema, TryClone};
 use plan_ir::{FunctionIR, IR};
-use plan_meaning::function_schema;
+use plan_function::function_schema;
 use std::alloc::{AllocError, Global};
 
 /// The columns that a plan says it has.

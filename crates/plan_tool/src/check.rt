@@ -9,7 +9,7 @@ use crate::stop::Stop;
 use plan_core::{Arena, Node, Schema};
 use plan_expr::AExpr;
 use plan_ir::{IR, expr_roots};
-use plan_meaning::{check_nodes, check_tree};
+use plan_check::{check_nodes, check_tree};
 use plan_tree::is_deeper;
 use std::alloc::Global;
 

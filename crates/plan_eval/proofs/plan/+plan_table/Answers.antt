@@ -8,7 +8,7 @@ use Rattle.plan_ir.specs.Plans.{bare, op_at, plans_at}
 use Rattle.plan_ir.proofs.PlanLemmas.{plan_down}
 use Rattle.plan_meaning.specs.Contents.{FitsAll}
 use Rattle.plan_meaning.specs.Typing.{AllHold, AllValid, checks}
-use Rattle.plan_meaning.proofs.MadeLemmas.{all_stand}
+use Rattle.plan_meaning.proofs.NodeExprs.{all_stand}
 use Rattle.plan_table.specs.declared.table.Table.{Table}
 use Rattle.plan_table.specs.Tables.{HasRows}
 use Rattle.plan_value.specs.Shown.{schema_of}

@@ -8,7 +8,7 @@ use Rattle.plan_meaning.specs.Frames.{Column, table_columns}
 use Rattle.plan_meaning.specs.Functions.{columns_at, type_or}
 use Rattle.plan_meaning.specs.Mapped.{repeated}
 use Rattle.plan_meaning.specs.Values.{Value}
-use Rattle.plan_meaning.proofs.UnpivotLemmas.{names-at}
+use Rattle.plan_function.proofs.UnpivotColumns.{names-at}
 use Rattle.plan_value.specs.Shown.{column_shown, frame_of, schema_of}
 use Rattle.plan_value.proofs.ColumnLemmas.{put-types, put-shown}
 use Rattle.plan_eval.proofs.UnpivotLemmas.{distinct-differ}

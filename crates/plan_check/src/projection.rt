@@ -1,0 +1,37 @@
+//! A simple projection: it has columns, and each is the input's.
+ghost use Rattle.std.specs.Prelude.{◌≡◌, [], ◌∷◌};
+ghost use Rattle.plan_ir.specs.Plans.{simple_projection};
+ghost use Rattle.plan_meaning.specs.Typing.{projection_checks, first_fault, Says};
+ghost use Rattle.plan_meaning.specs.Typed.{IsNodeTyped};
+
+use crate::columns::{check_columns_known, check_columns_typed};
+use plan_core::{Node, PolarsError, PolarsResult, Schema, TryClone};
+use plan_function::at;
+use std::alloc::Global;
+
+/// Checks a simple projection over the columns of its input: `InvalidOperation` at place 0 where it has no columns,
+/// `SchemaFieldNotFound` at the first column that isn't there, and then `SchemaMismatch` at the first of another type.
+#[tactic(auto, using(plan_function::proofs::CheckLemmas::fault_append))]
+pub fn check_projection(node: Node, columns: &Schema, schema: &Schema) -> PolarsResult<()>
+    ensures { Says result (first_fault node (projection_checks columns.now schema.now)) }
+{
+    if columns.len() == 0 {
+        return Err(PolarsError::InvalidOperation(at(node, 0)));
+    }
+    check_columns_known(node, columns, schema)?;
+    check_columns_typed(node, columns, schema)?;
+    Ok(())
+}
+
+/// The columns of a simple projection over those of its input, or its first fault.
+pub fn projection_schema(
+    alloc: Global,
+    node: Node,
+    columns: &Schema,
+    schema: &Schema,
+) -> PolarsResult<Schema>
+    ensures { IsNodeTyped result node (simple_projection columns.now) (schema.now ∷ []) }
+{
+    check_projection(node, columns, schema)?;
+    Ok(columns.try_clone(alloc)?)
+}

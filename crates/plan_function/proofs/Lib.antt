@@ -1,0 +1,4 @@
+-- The lemmas of this crate.
+pub mod CheckLemmas
+pub mod RenameLemmas
+pub mod UnpivotColumns
