@@ -26,10 +26,10 @@ use Rattle.plan_meaning.proofs.Refining.{relates_refines}
 use Rattle.plan_meaning.proofs.Related.{SchemasRelated, AllRelate, relates_node, relates_top, relates_drop}
 use Rattle.plan_meaning.proofs.Fairness.{FairAll}
 use Rattle.plan_meaning.proofs.KeptExprs.{selected-all}
-use Rattle.plan_expr.specs.Leaves.{Name}
-use Rattle.plan_narrowing.specs.Pruned.{asked_with, kept, pruned_output, typed_names, reading, projected, stacked_names, mapped_names, pruned_select, stacked, pruned_hstack, asks, asks_plans, left_below, rebuilt, top_below, top_after, pruned, pruned_all}
+use Rattle.plan_expr.specs.Leaves.{Name, leaves}
+use Rattle.plan_narrowing.specs.Pruned.{asked_with, kept, pruned_output, typed_names, reading, projected, stacked_names, mapped_names, pruned_select, stacked, pruned_hstack, asks_plans, left_below, rebuilt, top_below, top_after, pruned, pruned_all}
 use Rattle.plan_schema.specs.Stored.{stored_all}
-use Rattle.plan_narrowing.proofs.AskedNames.{set_some, kept-is, more-is, filter_asks, stacked_asks, function_asks, each_asked, fair_each}
+use Rattle.plan_narrowing.proofs.AskedNames.{set_some, kept-is, more-is, stacked_asks, function_asks, sets_of, stored_each, fair_each}
 use Rattle.plan_narrowing.proofs.NarrowLemmas.{Local, same_one, same_none, local_filter, local_slice}
 use Rattle.plan_narrowing.proofs.MadeNarrows.{SameLeaves, none_selected, needed_types, needed_frames}
 use Rattle.plan_narrowing.proofs.CoverNarrows.{narrows_self, covered_narrows}
@@ -68,30 +68,30 @@ one_narrows o op a b rs t s is v h by =
 
 -- filters
 
-filter_narrows : (p : Named) (l : List Name) (rs : Roses (Unit {0}) Op) (t : Plan) (s : Columns) → schemas (more t no_roses) ≡ s ∷ [] → IsValid (rose tt (filter p) (more t no_roses)) → AllNarrow (set_of (asks l (filter p) [] []) ∷ []) rs (more t no_roses) → Narrows (rose tt (filter p) rs) (rose tt (filter p) (more t no_roses)) (set_of l)
+filter_narrows : (p : Named) (l : List Name) (rs : Roses (Unit {0}) Op) (t : Plan) (s : Columns) → schemas (more t no_roses) ≡ s ∷ [] → IsValid (rose tt (filter p) (more t no_roses)) → AllNarrow (set_of (asked_with l (leaves p.expr)) ∷ []) rs (more t no_roses) → Narrows (rose tt (filter p) rs) (rose tt (filter p) (more t no_roses)) (set_of l)
 filter_narrows p l rs t s is v h =
-    let a = set_of (asks l (filter p) [] []) in
+    let a = set_of (asked_with l (leaves p.expr)) in
     let good : AllHold (checks (filter p) (s ∷ [])) = subst (λ (ss : List Columns). AllHold (checks (filter p) ss)) is v.0 in
     one_narrows (filter p) (filter p) a (set_of l) rs t s is v h (λ r q.
-    subst (λ (x : Asked). Local (filter p) (filter p) (x ∷ []) (set_of l) (r ∷ []) (s ∷ [])) (filter_asks p l [] [])
-    (local_filter p (set_of l) r s good (subst (λ (x : Asked). NarrowColumns x r s) (sym (filter_asks p l [] [])) q)))
+    subst (λ (x : Asked). Local (filter p) (filter p) (x ∷ []) (set_of l) (r ∷ []) (s ∷ [])) (more-is l (leaves p.expr))
+    (local_filter p (set_of l) r s good (subst (λ (x : Asked). NarrowColumns x r s) (sym (more-is l (leaves p.expr))) q)))
 
 -- projections
 
-local_kept : (cs : Columns) (l : List Name) (r s : Columns) → AllHold (checks (simple_projection cs) (s ∷ [])) → IsFair (set_of l) cs → NarrowColumns (set_of (asks l (simple_projection cs) [] [])) r s → Local (simple_projection (kept l cs)) (simple_projection cs) (set_of (asks l (simple_projection cs) [] []) ∷ []) (set_of l) (r ∷ []) (s ∷ [])
+local_kept : (cs : Columns) (l : List Name) (r s : Columns) → AllHold (checks (simple_projection cs) (s ∷ [])) → IsFair (set_of l) cs → NarrowColumns (set_of (with_names [] (names_of (kept l cs)))) r s → Local (simple_projection (kept l cs)) (simple_projection cs) (set_of (with_names [] (names_of (kept l cs))) ∷ []) (set_of l) (r ∷ []) (s ∷ [])
 local_kept cs l r s good fair h =
     let ks = asked.kept (set_of l) cs in
-    let is : set_of (asks l (simple_projection cs) [] []) ≡ names (with_names [] (names_of ks)) =
+    let is : set_of (with_names [] (names_of (kept l cs))) ≡ names (with_names [] (names_of ks)) =
     ap (λ (x : Columns). set_of (with_names [] (names_of x))) (kept-is l cs) ∙ set_some (with_names [] (names_of ks)) (asked_some cs (set_of l) s good fair) in
     subst (λ (x : Asked). Local (simple_projection (kept l cs)) (simple_projection cs) (x ∷ []) (set_of l) (r ∷ []) (s ∷ [])) (sym is)
     (subst (λ (x : Columns). Local (simple_projection x) (simple_projection cs) (names (with_names [] (names_of ks)) ∷ []) (set_of l) (r ∷ []) (s ∷ [])) (sym (kept-is l cs))
     (local_columns cs (set_of l) r s good fair (subst (λ (x : Asked). NarrowColumns x r s) is h)))
 
-projection_narrows : (cs : Columns) (l : List Name) (rs : Roses (Unit {0}) Op) (t : Plan) (s : Columns) → schemas (more t no_roses) ≡ s ∷ [] → IsValid (rose tt (simple_projection cs) (more t no_roses)) → IsFair (set_of l) cs → AllNarrow (set_of (asks l (simple_projection cs) [] []) ∷ []) rs (more t no_roses) → Narrows (rose tt (simple_projection (kept l cs)) rs) (rose tt (simple_projection cs) (more t no_roses)) (set_of l)
+projection_narrows : (cs : Columns) (l : List Name) (rs : Roses (Unit {0}) Op) (t : Plan) (s : Columns) → schemas (more t no_roses) ≡ s ∷ [] → IsValid (rose tt (simple_projection cs) (more t no_roses)) → IsFair (set_of l) cs → AllNarrow (set_of (with_names [] (names_of (kept l cs))) ∷ []) rs (more t no_roses) → Narrows (rose tt (simple_projection (kept l cs)) rs) (rose tt (simple_projection cs) (more t no_roses)) (set_of l)
 projection_narrows cs l rs t s is v fair h =
     let o = simple_projection (kept l cs) in
     let op = simple_projection cs in
-    let a = set_of (asks l op [] []) in
+    let a = set_of (with_names [] (names_of (kept l cs))) in
     let good : AllHold (checks op (s ∷ [])) = subst (λ (ss : List Columns). AllHold (checks op ss)) is v.0 in
     one_narrows o op a (set_of l) rs t s is v h (λ r q. local_kept cs l r s good fair q)
 
@@ -232,7 +232,7 @@ frame_narrows (a ∷ l) df columns output rs v fair h =
     relates_node Asked NarrowColumns AgreeOn left given [] (names (a ∷ l)) rs no_roses v h (λ k. none_here left given (names (a ∷ l)) (schemas rs) k (local_frame df columns output (a ∷ l) v.0 fair))
 
 -- a node that is rebuilt over inputs that narrow at what it asks narrows at what it is asked
-rebuilt_narrows : (top : Bool) (l : List Name) (op : Op) (rs ts : Roses (Unit {0}) Op) → is_closed op ≡ false → IsValid (rose tt op ts) → IsFair (set_of l) (schema_by op (schemas ts)) → AllNarrow (each_asked (set_of (asks_plans l op ts)) ts) rs ts → Narrows (rebuilt top l op rs) (rose tt op ts) (set_of l)
+rebuilt_narrows : (top : Bool) (l : List Name) (op : Op) (rs ts : Roses (Unit {0}) Op) → is_closed op ≡ false → IsValid (rose tt op ts) → IsFair (set_of l) (schema_by op (schemas ts)) → AllNarrow (sets_of (asks_plans l op ts)) rs ts → Narrows (rebuilt top l op rs) (rose tt op ts) (set_of l)
 rebuilt_narrows top l (filter p) rs (more (rose n o us) no_roses) opens v fair h = filter_narrows p l rs (rose n o us) (schema_by o (schemas us)) refl v h
 rebuilt_narrows top l (filter p) rs (more (rose n o us) (more (rose m o' us') rest)) opens v fair h = cc
 rebuilt_narrows top l (filter p) rs no_roses opens v fair h = cc
@@ -268,7 +268,7 @@ rebuilt_narrows top l (map_function function) rs no_roses opens v fair h = cc
 rebuilt_narrows top l (sink payload) rs (more (rose n o us) no_roses) opens v fair h = sink_narrows payload l rs (rose n o us) (schema_by o (schemas us)) refl v h
 rebuilt_narrows top l (sink payload) rs (more (rose n o us) (more (rose m o' us') rest)) opens v fair h = cc
 rebuilt_narrows top l (sink payload) rs no_roses opens v fair h = cc
-rebuilt_narrows top l (union options) rs ts opens v fair h = union_narrows options l rs ts v fair h
+rebuilt_narrows top l (union options) rs ts opens v fair h = union_narrows options l rs ts v fair (subst (λ (x : List Asked). AllNarrow x rs ts) (stored_each l ts v.1) h)
 rebuilt_narrows top l (cache id hits) rs ts opens v fair h = cc
 rebuilt_narrows top l invalid rs ts opens v fair h = cc
 
@@ -279,24 +279,26 @@ closed_narrows top (a ∷ l) (cache id hits) ts closed v fair = covered_narrows 
 closed_narrows top l op ts closed v fair = absurd (cc)
 
 -- a node over inputs that are left as they are below it
-left_narrows : (top : Bool) (l : List Name) (op : Op) (rs ts : Roses (Unit {0}) Op) → IsValid (rose tt op ts) → IsFair (set_of l) (schema_by op (schemas ts)) → (is_closed op ≡ false → AllNarrow (each_asked (set_of (asks_plans l op ts)) ts) rs ts) → Narrows (rebuilt top l op (left_below (is_closed op) ts rs)) (rose tt op ts) (set_of l)
+left_narrows : (top : Bool) (l : List Name) (op : Op) (rs ts : Roses (Unit {0}) Op) → IsValid (rose tt op ts) → IsFair (set_of l) (schema_by op (schemas ts)) → (is_closed op ≡ false → AllNarrow (sets_of (asks_plans l op ts)) rs ts) → Narrows (rebuilt top l op (left_below (is_closed op) ts rs)) (rose tt op ts) (set_of l)
 left_narrows top l op rs ts v fair h = at (is_closed op) refl
   where
     at : (b : Bool) → is_closed op ≡ b → Narrows (rebuilt top l op (left_below b ts rs)) (rose tt op ts) (set_of l)
     at true e = closed_narrows top l op ts e v fair
     at false e = rebuilt_narrows top l op rs ts e v fair (h e)
 
--- pruned plans narrow at what they are asked
-pub all_narrow : (top : Bool) (l : List Name) (ts : Roses (Unit {0}) Op) → AllValid ts → FairAll (each_asked (set_of l) ts) (schemas ts) → AllNarrow (each_asked (set_of l) ts) (pruned_all top l ts) ts
-all_narrow top l no_roses v f = tt
-all_narrow top l (more (rose n op ts) rest) v f = (
+-- pruned plans narrow at what they are asked, each by a list of its own
+pub all_narrow : (top : Bool) (lists : List (List Name)) (ts : Roses (Unit {0}) Op) → AllValid ts → FairAll (sets_of lists) (schemas ts) → AllNarrow (sets_of lists) (pruned_all top lists ts) ts
+all_narrow top [] no_roses v f = tt
+all_narrow top (l ∷ lists) (more (rose n op ts) rest) v f = (
   left_narrows top l op (pruned_all (top_below top op) (asks_plans l op ts) ts) ts (v.0, v.1) f.0 (λ opens. all_narrow (top_below top op) (asks_plans l op ts) ts v.1 (fair_each l op ts opens v.0 v.1 f.0)),
-  all_narrow (top_after top (rose n op ts)) l rest v.2 f.1,
+  all_narrow (top_after top (rose n op ts)) lists rest v.2 f.1,
 )
+all_narrow top (l ∷ lists) no_roses v f = absurd f
+all_narrow top [] (more (rose n op ts) rest) v f = absurd f
 
 -- a pruned plan narrows at what it is asked
 pub pruned_narrows : (top : Bool) (l : List Name) (p : Plan) → IsValid p → IsFair (set_of l) (schema p) → Narrows (pruned top l p) p (set_of l)
-pruned_narrows top l (rose n op ts) v f = (all_narrow top l (more (rose n op ts) no_roses) (v.0, v.1, tt) (f, tt)).0
+pruned_narrows top l (rose n op ts) v f = (all_narrow top (l ∷ []) (more (rose n op ts) no_roses) (v.0, v.1, tt) (f, tt)).0
 
 -- a plan that is pruned to everything refines
 pub pruned_refines : (top : Bool) (p : Plan) → IsValid p → Refines (pruned top [] p) p

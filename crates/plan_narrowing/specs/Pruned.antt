@@ -124,21 +124,36 @@ abbrev pub mapped_names : List Name → FunctionIR → Columns → List Name
 mapped_names [] function s = []
 mapped_names (a ∷ asked) function s = function_names function (a ∷ asked) s
 
--- what a node that is asked names asks its inputs, by the columns that these say they have and those that stand in for their rows
-abbrev pub asks : List Name → Op → List Columns → List (Option Name) → List Name
-asks asked (slice offset len) ss os = asked
-asks asked (filter predicate) ss os = asked_with asked (leaves predicate.expr)
+-- the same names for each of some inputs
+abbrev pub names_alike : {A : Type 0} → List Name → List A → List (List Name)
+names_alike names [] = []
+names_alike names (x ∷ xs) = names ∷ names_alike names xs
+
+-- the first of some lists of names; no names where there is none
+abbrev pub first_names : List (List Name) → List Name
+first_names [] = []
+first_names (names ∷ lists) = names
+
+-- the lists of names after the first
+abbrev pub rest_names : List (List Name) → List (List Name)
+rest_names [] = []
+rest_names (names ∷ lists) = lists
+
+-- what a node that is asked names asks each of its inputs, by the columns that these say they have and those that stand in for their rows
+abbrev pub asks : List Name → Op → List Columns → List (Option Name) → List (List Name)
+asks asked (slice offset len) ss os = asked ∷ []
+asks asked (filter predicate) ss os = asked_with asked (leaves predicate.expr) ∷ []
 asks asked (scan sources info predicate output kind options) ss os = []
 asks asked (frame_scan df schema output) ss os = []
-asks asked (select exprs schema options) ss os = needed_names exprs (first_stand_in os) (selected_exprs (set_of asked) exprs)
-asks asked (hstack exprs schema options) ss os = stacked_names asked exprs (first_schema ss)
-asks asked (simple_projection columns) ss os = with_names [] (names_of (kept asked columns))
-asks asked (sort keys part options) ss os = asked_with asked (all_leaves keys)
-asks asked (distinct options) ss os = asked_with asked (names_or options.subset (names_of (first_schema ss)))
-asks asked (map_function function) ss os = mapped_names asked function (first_schema ss)
-asks asked (sink payload) ss os = asked
-asks asked (union options) ss os = asked
-asks asked (cache id hits) ss os = []
+asks asked (select exprs schema options) ss os = needed_names exprs (first_stand_in os) (selected_exprs (set_of asked) exprs) ∷ []
+asks asked (hstack exprs schema options) ss os = stacked_names asked exprs (first_schema ss) ∷ []
+asks asked (simple_projection columns) ss os = with_names [] (names_of (kept asked columns)) ∷ []
+asks asked (sort keys part options) ss os = asked_with asked (all_leaves keys) ∷ []
+asks asked (distinct options) ss os = asked_with asked (names_or options.subset (names_of (first_schema ss))) ∷ []
+asks asked (map_function function) ss os = mapped_names asked function (first_schema ss) ∷ []
+asks asked (sink payload) ss os = asked ∷ []
+asks asked (union options) ss os = names_alike asked ss
+asks asked (cache id hits) ss os = [] ∷ []
 asks asked invalid ss os = []
 
 -- a node that is asked names, over its pruned inputs
@@ -158,8 +173,8 @@ rebuilt top asked (union options) inputs = rose tt (union options) (covered_if (
 rebuilt top asked (cache id hits) inputs = covered asked (rose tt (cache id hits) inputs)
 rebuilt top asked invalid inputs = rose tt invalid inputs
 
--- what a node asks of plans
-abbrev pub asks_plans : {N : Type 0} → List Name → Op → Roses N Op → List Name
+-- what a node asks of each of its plans
+abbrev pub asks_plans : {N : Type 0} → List Name → Op → Roses N Op → List (List Name)
 asks_plans asked op ts = asks asked op (stored_all ts) (stand_ins ts (stored_all ts))
 
 -- whether projections go on top below a node: below a count of rows they don't
@@ -175,11 +190,11 @@ abbrev pub left_below : Bool → Roses (Unit {0}) Op → Roses (Unit {0}) Op →
 left_below true inputs others = inputs
 left_below false inputs others = others
 
--- a plan pruned to the asked names, with projections on top of its scans or without; from the first count of rows on, in the order of plans and their inputs, without
+-- a plan pruned to the asked names, and plans each to a list of its own, with projections on top of their scans or without; from the first count of rows on, in the order of plans and their inputs, without
 abbrev mutual
   pub pruned : Bool → List Name → Plan → Plan
   pruned top asked (rose n op inputs) = rebuilt top asked op (left_below (is_closed op) inputs (pruned_all (top_below top op) (asks_plans asked op inputs) inputs))
 
-  pub pruned_all : Bool → List Name → Roses (Unit {0}) Op → Roses (Unit {0}) Op
-  pruned_all top asked no_roses = no_roses
-  pruned_all top asked (more plan plans) = more (pruned top asked plan) (pruned_all (top_after top plan) asked plans)
+  pub pruned_all : Bool → List (List Name) → Roses (Unit {0}) Op → Roses (Unit {0}) Op
+  pruned_all top lists no_roses = no_roses
+  pruned_all top lists (more plan plans) = more (pruned top (first_names lists) plan) (pruned_all (top_after top plan) (rest_names lists) plans)
