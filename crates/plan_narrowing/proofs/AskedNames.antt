@@ -1,21 +1,21 @@
 -- Lists of asked names, of which none stands for everything, against what is asked.
-use Rattle.std.proofs.Common.{◌≡◌, false, List, [], ◌∷◌, Option, refl, sym, ap, ◌∙◌, subst}
+use Rattle.std.proofs.Common.{◌≡◌, false, List, [], ◌∷◌, map, Option, refl, sym, ap, ap₂, ◌∙◌, subst}
 use Rattle.plan_core.specs.Columns.{Columns, names_of}
 use Rattle.plan_core.specs.Names.{with_names}
 use Rattle.plan_tree.specs.Rose.{Roses, rose, no_roses, more}
 use Rattle.plan_expr.specs.Exprs.{Named}
 use Rattle.plan_ir.specs.declared.functions.FunctionIR.{FunctionIR}
-use Rattle.plan_ir.specs.Plans.{Op, slice, filter, scan, frame_scan, simple_projection, select, hstack, sort, distinct, map_function, sink, union, cache, invalid}
+use Rattle.plan_ir.specs.Plans.{Op, slice, filter, scan, frame_scan, simple_projection, select, hstack, sort, group_by, distinct, map_function, sink, union, hconcat, cache, invalid}
 use Rattle.plan_meaning.specs.Typing.{is_empty, names_or, first_schema, schema_by, schemas, checks, AllHold, AllValid}
 use Rattle.plan_meaning.specs.Relating.{Asked, all, names, cached}
-use Rattle.plan_meaning.specs.Asked.{set_of, with_more, asks_columns, kept_exprs, selected_exprs, all_leaves, needed_names, asks_selected, asks_added, asks_stacked, asks_function, asks_alike, asks as asks_of, IsFair}
+use Rattle.plan_meaning.specs.Asked.{set_of, with_more, asks_columns, kept_exprs, selected_exprs, all_leaves, needed_names, asks_selected, asks_added, asks_stacked, asks_function, asks_grouped, asks_held, grouping_names, asks_alike, asks as asks_of, IsFair}
 use Rattle.plan_meaning.specs.Asked as asked
 use Rattle.plan_meaning.specs.Counting.{is_closed, stand_ins, first_stand_in}
 use Rattle.plan_meaning.proofs.NameSets.{has_first, keeps_names}
 use Rattle.plan_meaning.proofs.StandIns.{are_stand_ins}
 use Rattle.plan_meaning.proofs.Fairness.{some_name, fair_asks, FairAll}
 use Rattle.plan_expr.specs.Leaves.{Name, leaves}
-use Rattle.plan_narrowing.specs.Pruned.{asked_with, kept, added_names, stacked_names, mapped_names, names_alike, asks_plans}
+use Rattle.plan_narrowing.specs.Pruned.{asked_with, kept, added_names, stacked_names, mapped_names, names_alike, held_names, asks_plans}
 use Rattle.plan_schema.specs.Stored.{stored_all}
 use Rattle.plan_schema.proofs.StoredLemmas.{stored-schemas}
 
@@ -76,6 +76,21 @@ pub function_asks : (f : FunctionIR) (l : List Name) (s : Columns) → asks_func
 function_asks f [] s = refl
 function_asks f (a ∷ l) s = refl
 
+-- what a grouping asks
+pub grouped_asks : (keys aggs : List Named) (l : List Name) (s : Columns) → asks_grouped keys aggs (set_of l) s ≡ set_of (grouping_names keys (kept_exprs (set_of l) aggs) l s)
+grouped_asks keys aggs [] s = refl
+grouped_asks keys aggs (a ∷ l) s = refl
+
+-- what a concatenation asks of each input
+
+held_asks : (l : List Name) (s : Columns) → asks_held (set_of l) s ≡ set_of (held_names l s)
+held_asks [] s = refl
+held_asks (a ∷ l) s = refl
+
+pub held_sets : (l : List Name) (ss : List Columns) → map (asks_held (set_of l)) ss ≡ sets_of (map (held_names l) ss)
+held_sets l [] = refl
+held_sets l (s ∷ ss) = ap₂ (λ (x : Asked) (xs : List Asked). x ∷ xs) (held_asks l s) (held_sets l ss)
+
 -- the same asked of each input of a union
 
 alike_sets : (l : List Name) (ss : List Columns) → asks_alike (set_of l) ss ≡ sets_of (names_alike l ss)
@@ -109,12 +124,15 @@ asks-each l (select es schema options) ts opens v =
 asks-each l (hstack es schema options) ts opens v =
     one_asked (stacked_asks es l (first_schema (schemas ts)) ∙ ap (λ (ss : List Columns). set_of (stacked_names l es (first_schema ss))) (sym (stored-schemas ts v)))
 asks-each l (sort keys part options) ts opens v = one_asked (more-is l (all_leaves keys))
+asks-each l (group_by keys aggs schema ordered options) ts opens v =
+    one_asked (grouped_asks keys aggs l (first_schema (schemas ts)) ∙ ap (λ (ss : List Columns). set_of (grouping_names keys (kept_exprs (set_of l) aggs) l (first_schema ss))) (sym (stored-schemas ts v)))
 asks-each l (distinct options) ts opens v =
     one_asked (more-is l (names_or options.subset (names_of (first_schema (schemas ts)))) ∙ ap (λ (ss : List Columns). set_of (asked_with l (names_or options.subset (names_of (first_schema ss))))) (sym (stored-schemas ts v)))
 asks-each l (map_function function) ts opens v =
     one_asked (function_asks function l (first_schema (schemas ts)) ∙ ap (λ (ss : List Columns). set_of (mapped_names l function (first_schema ss))) (sym (stored-schemas ts v)))
 asks-each l (sink payload) ts opens v = refl
 asks-each l (union options) ts opens v = alike_stored l ts v
+asks-each l (hconcat schema options) ts opens v = held_sets l (schemas ts) ∙ ap (λ (ss : List Columns). sets_of (map (held_names l) ss)) (sym (stored-schemas ts v))
 asks-each l (cache id hits) ts opens v = cc
 asks-each l invalid ts opens v = refl
 

@@ -1,8 +1,9 @@
 -- A pruned plan narrows: one case for each kind of node, and one induction.
-use Rattle.std.proofs.Common.{◌≡◌, ℕ, ℤ, Bool, true, false, List, [], ◌∷◌, Option, Some, refl, sym, ap, ◌∙◌, subst}
+use Rattle.std.proofs.Common.{◌≡◌, ℕ, ℤ, Bool, true, false, List, [], ◌∷◌, ◌++◌, map, Option, Some, refl, sym, ap, ◌∙◌, subst}
 use Rattle.plan_core.specs.declared.options.FileScanOptions.{FileScanOptions}
 use Rattle.plan_core.specs.declared.options.ProjectionOptions.{ProjectionOptions}
 use Rattle.plan_options.specs.declared.distinct.DistinctOptionsIR.{DistinctOptionsIR}
+use Rattle.plan_options.specs.declared.group.GroupbyOptions.{GroupbyOptions}
 use Rattle.plan_options.specs.declared.sink.SinkType.{SinkType}
 use Rattle.plan_options.specs.declared.sort.SortMultipleOptions.{SortMultipleOptions}
 use Rattle.plan_core.specs.Columns.{Columns, names_of, with_types}
@@ -13,12 +14,13 @@ use Rattle.plan_ir.specs.declared.scan.FileScan.{FileScan}
 use Rattle.plan_ir.specs.declared.scan.ScanSources.{ScanSources}
 use Rattle.plan_expr.specs.Exprs.{Named}
 use Rattle.plan_ir.specs.declared.functions.FunctionIR.{FunctionIR}
-use Rattle.plan_ir.specs.Plans.{Op, slice, filter, scan, frame_scan, simple_projection, select, hstack, sort, distinct, map_function, sink, union, cache, invalid, Plan}
-use Rattle.plan_meaning.specs.Typing.{columns_or, file_columns, first_schema, names_or, out_names, made_schema, schema_by, schema, schemas, checks, AllHold, AllValid}
+use Rattle.plan_ir.specs.Plans.{Op, slice, filter, scan, frame_scan, simple_projection, select, hstack, sort, group_by, distinct, map_function, sink, union, hconcat, cache, invalid, Plan}
+use Rattle.plan_meaning.specs.Typing.{columns_or, file_columns, first_schema, names_or, out_names, made_schema, side_by_side, schema_by, schema, schemas, checks, AllHold, AllValid}
 use Rattle.plan_meaning.specs.Functions.{function_schema}
+use Rattle.plan_meaning.specs.Grouping.{group_exprs}
 use Rattle.plan_meaning.specs.Steps.{made, IsValid}
 use Rattle.plan_meaning.specs.Relating.{Refines, Asked, all, names, NarrowColumns, AgreeOn, Narrows}
-use Rattle.plan_meaning.specs.Asked.{set_of, kept_exprs, selected_exprs, needed_names, all_leaves, asks_added, Fair, IsFair}
+use Rattle.plan_meaning.specs.Asked.{set_of, kept_exprs, selected_exprs, needed_names, all_leaves, grouping_names, asks_added, Fair, IsFair}
 use Rattle.plan_meaning.specs.Asked as asked
 use Rattle.plan_meaning.specs.Counting.{is_closed, stand_ins, first_stand_in}
 use Rattle.plan_meaning.specs.Frames.{Agree}
@@ -27,13 +29,15 @@ use Rattle.plan_meaning.proofs.Related.{SchemasRelated, AllRelate, relates_node,
 use Rattle.plan_meaning.proofs.Fairness.{FairAll}
 use Rattle.plan_meaning.proofs.KeptExprs.{selected-all}
 use Rattle.plan_expr.specs.Leaves.{Name, leaves}
-use Rattle.plan_narrowing.specs.Pruned.{asked_with, kept, pruned_output, typed_names, reading, projected, stacked_names, mapped_names, pruned_select, stacked, pruned_hstack, asks_plans, left_below, rebuilt, top_below, top_after, pruned, pruned_all}
+use Rattle.plan_narrowing.specs.Pruned.{asked_with, kept, pruned_output, typed_names, reading, projected, stacked_names, mapped_names, held_names, pruned_select, pruned_group_by, stacked, pruned_hstack, asks_plans, left_below, rebuilt, top_below, top_after, pruned, pruned_all}
 use Rattle.plan_schema.specs.Stored.{stored_all}
 use Rattle.plan_narrowing.proofs.AskedNames.{set_some, kept-is, more-is, stacked_asks, function_asks, sets_of, stored_each, fair_each}
 use Rattle.plan_narrowing.proofs.NarrowLemmas.{Local, same_one, same_none, local_filter, local_slice}
 use Rattle.plan_narrowing.proofs.MadeNarrows.{SameLeaves, none_selected, needed_types, needed_frames}
 use Rattle.plan_narrowing.proofs.CoverNarrows.{narrows_self, covered_narrows}
 use Rattle.plan_narrowing.proofs.UnionNarrows.{union_narrows}
+use Rattle.plan_narrowing.proofs.GroupNarrows.{local_grouped, whole_grouped}
+use Rattle.plan_narrowing.proofs.BesideNarrows.{hconcat_narrows}
 use Rattle.plan_narrowing.proofs.OrderNarrows.{local_sort, local_distinct, local_sink}
 use Rattle.plan_narrowing.proofs.FunctionNarrows.{local_function}
 use Rattle.plan_narrowing.proofs.SelectNarrows.{local_selected, whole_selected}
@@ -163,6 +167,20 @@ function_narrows f l rs t s is v fair h =
     subst (λ (x : Asked). Local op op (x ∷ []) (set_of l) (r ∷ []) (s ∷ [])) (function_asks f l s)
     (local_function f (set_of l) r s good fair (subst (λ (x : Asked). NarrowColumns x r s) (sym (function_asks f l s)) q)))
 
+-- groupings
+
+group_by_narrows : (keys aggs : List Named) (stored : Columns) (ordered : Bool) (options : GroupbyOptions) (l : List Name) (rs : Roses (Unit {0}) Op) (t : Plan) (s : Columns) → schemas (more t no_roses) ≡ s ∷ [] → IsValid (rose tt (group_by keys aggs stored ordered options) (more t no_roses)) → IsFair (set_of l) (made_schema [] (group_exprs keys aggs) s) → AllNarrow (set_of (grouping_names keys (kept_exprs (set_of l) aggs) l s) ∷ []) rs (more t no_roses) → Narrows (pruned_group_by l keys aggs stored ordered options rs) (rose tt (group_by keys aggs stored ordered options) (more t no_roses)) (set_of l)
+group_by_narrows keys aggs stored ordered options [] rs t s is v fair h =
+    let op = group_by keys aggs stored ordered options in
+    let good : AllHold (checks op (s ∷ [])) = subst (λ (ss : List Columns). AllHold (checks op ss)) is v.0 in
+    one_narrows op op (set_of (grouping_names keys (kept_exprs all aggs) [] s)) all rs t s is v h (λ r q. whole_grouped keys aggs stored ordered options s good r q)
+group_by_narrows keys aggs stored ordered options (b ∷ l) rs t s is v fair h =
+    let op = group_by keys aggs stored ordered options in
+    let kept = kept_exprs (names (b ∷ l)) aggs in
+    let good : AllHold (checks op (s ∷ [])) = subst (λ (ss : List Columns). AllHold (checks op ss)) is v.0 in
+    one_narrows (group_by keys kept (with_types [] (typed_names stored (out_names (keys ++ kept)))) ordered options) op (set_of (grouping_names keys kept (b ∷ l) s)) (names (b ∷ l)) rs t s is v h
+    (λ r q. local_grouped keys aggs stored ordered options s good (b ∷ l) fair r q)
+
 -- selections
 
 select_narrows : (es : List Named) (stored : Columns) (options : ProjectionOptions) (o : Option Name) (l : List Name) (rs : Roses (Unit {0}) Op) (t : Plan) (s : Columns) → schemas (more t no_roses) ≡ s ∷ [] → IsValid (rose tt (select es stored options) (more t no_roses)) → IsFair (set_of l) (made_schema [] es s) → AllNarrow (set_of (needed_names es o (selected_exprs (set_of l) es)) ∷ []) rs (more t no_roses) → Narrows (pruned_select l es stored options rs) (rose tt (select es stored options) (more t no_roses)) (set_of l)
@@ -260,6 +278,11 @@ rebuilt_narrows top l (distinct options) rs (more (rose n o us) no_roses) opens 
     (subst (λ (ss : List Columns). AllNarrow (set_of (asked_with l (names_or options.subset (names_of (first_schema ss)))) ∷ []) rs (more (rose n o us) no_roses)) (stored-schemas (more (rose n o us) no_roses) v.1) h)
 rebuilt_narrows top l (distinct options) rs (more (rose n o us) (more (rose m o' us') rest)) opens v fair h = cc
 rebuilt_narrows top l (distinct options) rs no_roses opens v fair h = cc
+rebuilt_narrows top l (group_by keys aggs stored ordered options) rs (more (rose n o us) no_roses) opens v fair h =
+    group_by_narrows keys aggs stored ordered options l rs (rose n o us) (schema_by o (schemas us)) refl v fair
+    (subst (λ (ss : List Columns). AllNarrow (set_of (grouping_names keys (kept_exprs (set_of l) aggs) l (first_schema ss)) ∷ []) rs (more (rose n o us) no_roses)) (stored-schemas (more (rose n o us) no_roses) v.1) h)
+rebuilt_narrows top l (group_by keys aggs stored ordered options) rs (more (rose n o us) (more (rose m o' us') rest)) opens v fair h = cc
+rebuilt_narrows top l (group_by keys aggs stored ordered options) rs no_roses opens v fair h = cc
 rebuilt_narrows top l (map_function function) rs (more (rose n o us) no_roses) opens v fair h =
     function_narrows function l rs (rose n o us) (schema_by o (schemas us)) refl v fair
     (subst (λ (ss : List Columns). AllNarrow (set_of (mapped_names l function (first_schema ss)) ∷ []) rs (more (rose n o us) no_roses)) (stored-schemas (more (rose n o us) no_roses) v.1) h)
@@ -269,6 +292,8 @@ rebuilt_narrows top l (sink payload) rs (more (rose n o us) no_roses) opens v fa
 rebuilt_narrows top l (sink payload) rs (more (rose n o us) (more (rose m o' us') rest)) opens v fair h = cc
 rebuilt_narrows top l (sink payload) rs no_roses opens v fair h = cc
 rebuilt_narrows top l (union options) rs ts opens v fair h = union_narrows options l rs ts v fair (subst (λ (x : List Asked). AllNarrow x rs ts) (stored_each l ts v.1) h)
+rebuilt_narrows top l (hconcat stored options) rs ts opens v fair h =
+    hconcat_narrows stored options l rs ts v fair (subst (λ (ss : List Columns). AllNarrow (sets_of (map (held_names l) ss)) rs ts) (stored-schemas ts v.1) h)
 rebuilt_narrows top l (cache id hits) rs ts opens v fair h = cc
 rebuilt_narrows top l invalid rs ts opens v fair h = cc
 

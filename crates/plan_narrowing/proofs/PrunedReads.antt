@@ -8,7 +8,7 @@ use Rattle.plan_core.specs.declared.options.ProjectionOptions.{ProjectionOptions
 use Rattle.plan_meaning.proofs.NameSets.{has_cons, has_first, has_later}
 use Rattle.plan_tree.specs.Rose.{Roses, rose, no_roses, more, size}
 use Rattle.plan_expr.specs.Exprs.{Named}
-use Rattle.plan_ir.specs.Plans.{Op, slice, filter, scan, frame_scan, simple_projection, select, hstack, sort, distinct, map_function, sink, union, cache, invalid, Plan}
+use Rattle.plan_ir.specs.Plans.{Op, slice, filter, scan, frame_scan, simple_projection, select, hstack, sort, group_by, distinct, map_function, sink, union, hconcat, cache, invalid, Plan}
 use Rattle.plan_meaning.specs.Typing.{schemas, checks, AllHold, AllValid}
 use Rattle.plan_meaning.specs.PlanAt.{one_plan}
 use Rattle.plan_meaning.specs.Steps.{IsValid}
@@ -56,10 +56,12 @@ few_for top lists (frame_scan df schema output) ts good = tt
 few_for top lists (simple_projection cs) ts good = tt
 few_for top lists (select es schema options) ts good = tt
 few_for top lists (sort keys part options) ts good = tt
+few_for top lists (group_by keys aggs schema ordered options) ts good = tt
 few_for top lists (distinct options) ts good = tt
 few_for top lists (map_function function) ts good = tt
 few_for top lists (sink payload) ts good = tt
 few_for top lists (union options) ts good = tt
+few_for top lists (hconcat schema options) ts good = tt
 few_for top lists (cache id hits) ts good = tt
 few_for top lists invalid ts good = tt
 
@@ -97,10 +99,14 @@ rebuilt_reads top (b ∷ l) (frame_scan df schema output) rs zs few h = (refl, (
 rebuilt_reads top l (filter p) rs zs few h = h
 rebuilt_reads top l (simple_projection cs) rs zs few h = h
 rebuilt_reads top l (sort keys part options) rs zs few h = h
+rebuilt_reads top [] (group_by keys aggs schema ordered options) rs zs few h = h
+rebuilt_reads top (b ∷ l) (group_by keys aggs schema ordered options) rs zs few h = h
 rebuilt_reads top l (distinct options) rs zs few h = h
 rebuilt_reads top l (map_function function) rs zs few h = h
 rebuilt_reads top l (sink payload) rs zs few h = h
 rebuilt_reads top l (union options) rs zs few h = subst (λ (os : List Op). ReadWithin os zs) (sym (if_scans (are_several rs) l rs)) h
+rebuilt_reads top [] (hconcat schema options) rs zs few h = h
+rebuilt_reads top (b ∷ l) (hconcat schema options) rs zs few h = h
 rebuilt_reads top l (cache id hits) rs zs few h = subst (λ (os : List Op). ReadWithin os zs) (sym (covered_scans l (rose tt (cache id hits) rs))) h
 rebuilt_reads top l invalid rs zs few h = h
 rebuilt_reads top [] (scan sources info predicate output kind options) rs zs few h = ((refl, refl), (λ a i. i), h)
@@ -217,11 +223,15 @@ rebuilt_nodes top (b ∷ l) (hstack es schema options) ss rs w = let h = stacked
 rebuilt_nodes top l (filter p) ss rs w = omega arith
 rebuilt_nodes top l (simple_projection cs) ss rs w = omega arith
 rebuilt_nodes top l (sort keys part options) ss rs w = omega arith
+rebuilt_nodes top [] (group_by keys aggs schema ordered options) ss rs w = omega arith
+rebuilt_nodes top (b ∷ l) (group_by keys aggs schema ordered options) ss rs w = omega arith
 rebuilt_nodes top l (distinct options) ss rs w = omega arith
 rebuilt_nodes top l (map_function function) ss rs w = omega arith
 rebuilt_nodes top l (sink payload) ss rs w = omega arith
 rebuilt_nodes top l invalid ss rs w = omega arith
 rebuilt_nodes top l (union options) ss rs w = let e = union_nodes l ss rs (w refl) in omega (arith, e)
+rebuilt_nodes top [] (hconcat schema options) ss rs w = omega arith
+rebuilt_nodes top (b ∷ l) (hconcat schema options) ss rs w = omega arith
 rebuilt_nodes top [] (cache id hits) ss rs w = omega arith
 rebuilt_nodes top (b ∷ l) (cache id hits) ss rs w = omega arith
 rebuilt_nodes top [] (scan sources info predicate output kind options) ss rs w = omega arith

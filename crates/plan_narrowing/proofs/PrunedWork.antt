@@ -4,7 +4,7 @@ use Rattle.plan_core.specs.declared.options.ProjectionOptions.{ProjectionOptions
 use Rattle.plan_core.specs.Columns.{Columns}
 use Rattle.plan_tree.specs.Rose.{Roses, rose, no_roses, more}
 use Rattle.plan_expr.specs.Exprs.{Named}
-use Rattle.plan_ir.specs.Plans.{Op, slice, filter, scan, frame_scan, simple_projection, select, hstack, sort, distinct, map_function, sink, union, cache, invalid, Plan}
+use Rattle.plan_ir.specs.Plans.{Op, slice, filter, scan, frame_scan, simple_projection, select, hstack, sort, group_by, distinct, map_function, sink, union, hconcat, cache, invalid, Plan}
 use Rattle.plan_expr.specs.Leaves.{Name}
 use Rattle.plan_meaning.specs.Typing.{schemas, checks, AllHold, AllValid}
 use Rattle.plan_meaning.specs.PlanAt.{one_plan}
@@ -58,10 +58,14 @@ rebuilt_made top (b ∷ l) (hstack es schema options) rs = let h = stacked_made 
 rebuilt_made top l (filter p) rs = omega arith
 rebuilt_made top l (simple_projection cs) rs = omega arith
 rebuilt_made top l (sort keys part options) rs = omega arith
+rebuilt_made top [] (group_by keys aggs schema ordered options) rs = let e : length (kept_exprs all aggs) ≡ length aggs = ap length (kept-all aggs) in omega arith
+rebuilt_made top (b ∷ l) (group_by keys aggs schema ordered options) rs = omega arith
 rebuilt_made top l (distinct options) rs = omega arith
 rebuilt_made top l (map_function function) rs = omega arith
 rebuilt_made top l (sink payload) rs = omega arith
 rebuilt_made top l (union options) rs = let e = if_made (are_several rs) l rs in omega (arith, e)
+rebuilt_made top [] (hconcat schema options) rs = omega arith
+rebuilt_made top (b ∷ l) (hconcat schema options) rs = omega arith
 rebuilt_made top l (cache id hits) rs = let e = covered_made l (rose tt (cache id hits) rs) in omega (arith, e)
 rebuilt_made top l invalid rs = omega arith
 rebuilt_made top [] (scan sources info predicate output kind options) rs = omega arith

@@ -1,5 +1,5 @@
 -- What pruning makes of a plan. Names are asked of a node, and it asks names of its inputs; no names stand for every column.
-use Rattle.std.specs.Prelude.{Bool, true, false, not, ◌&&◌, List, [], ◌∷◌, Option, None, Some, option_map, filter as filter_list}
+use Rattle.std.specs.Prelude.{Bool, true, false, not, ◌&&◌, List, [], ◌∷◌, ◌++◌, map, Option, None, Some, option_map, filter as filter_list}
 use Rattle.std.specs.List.{filter_map}
 use Rattle.plan_core.specs.Columns.{Columns, names_of, type_of}
 use Rattle.plan_core.specs.Names.{has, with_names}
@@ -10,16 +10,18 @@ use Rattle.plan_ir.specs.declared.scan.FileInfo.{FileInfo}
 use Rattle.plan_ir.specs.declared.scan.FileScan.{FileScan}
 use Rattle.plan_ir.specs.declared.scan.ScanSources.{ScanSources}
 use Rattle.plan_expr.specs.Exprs.{Named}
-use Rattle.plan_ir.specs.Plans.{Op, slice, filter, scan, frame_scan, simple_projection, select, hstack, sort, distinct, map_function, sink, union, cache, invalid, Plan}
+use Rattle.plan_ir.specs.Plans.{Op, slice, filter, scan, frame_scan, simple_projection, select, hstack, sort, group_by, distinct, map_function, sink, union, hconcat, cache, invalid, Plan}
 use Rattle.plan_core.specs.declared.options.ProjectionOptions.{ProjectionOptions}
+use Rattle.plan_options.specs.declared.group.GroupbyOptions.{GroupbyOptions}
+use Rattle.plan_options.specs.declared.union.HConcatOptions.{HConcatOptions}
 use Rattle.plan_core.specs.Columns.{with_types}
 use Rattle.plan_expr.specs.Leaves.{Name, leaves}
-use Rattle.plan_meaning.specs.Typing.{first_schema, names_or, out_names}
+use Rattle.plan_meaning.specs.Typing.{first_schema, names_or, out_names, side_by_side}
 use Rattle.plan_meaning.specs.PlanAt.{one_plan}
 use Rattle.plan_meaning.specs.Relating.{names as these}
 use Rattle.plan_meaning.specs.Counting.{is_closed, is_count, meets_count, stand_ins, first_stand_in}
 use Rattle.plan_ir.specs.declared.functions.FunctionIR.{FunctionIR}
-use Rattle.plan_meaning.specs.Asked.{function_names, set_of, kept_exprs, selected_exprs, all_leaves, needed_names}
+use Rattle.plan_meaning.specs.Asked.{function_names, set_of, kept_exprs, selected_exprs, all_leaves, needed_names, grouping_names}
 use Rattle.plan_schema.specs.Stored.{stored_all}
 
 -- the asked names with more, each last unless it is there; asked nothing, nothing
@@ -119,6 +121,22 @@ abbrev pub pruned_hstack : List Name → List Named → Columns → ProjectionOp
 pruned_hstack [] es schema options inputs = rose tt (hstack es schema options) inputs
 pruned_hstack (a ∷ asked) es schema options inputs = stacked (kept_exprs (these (a ∷ asked)) es) schema options inputs
 
+-- a grouping of its keys and of the aggregates that it keeps; asked nothing, it stays
+abbrev pub pruned_group_by : List Name → (keys aggs : List Named) → Columns → Bool → GroupbyOptions → Roses (Unit {0}) Op → Plan
+pruned_group_by [] keys aggs schema ordered options inputs = rose tt (group_by keys aggs schema ordered options) inputs
+pruned_group_by (a ∷ asked) keys aggs schema ordered options inputs =
+    let kept = kept_exprs (these (a ∷ asked)) aggs in
+    rose tt (group_by keys kept (with_types [] (typed_names schema (out_names (keys ++ kept)))) ordered options) inputs
+
+-- a concatenation with the columns of its inputs; asked nothing, it stays
+abbrev pub pruned_hconcat : List Name → Columns → HConcatOptions → Roses (Unit {0}) Op → Plan
+pruned_hconcat [] schema options inputs = rose tt (hconcat schema options) inputs
+pruned_hconcat (a ∷ asked) schema options inputs = rose tt (hconcat (side_by_side (stored_all inputs)) options) inputs
+
+-- what a concatenation asks an input with these columns: the asked names that it has
+abbrev pub held_names : List Name → Columns → List Name
+held_names asked s = filter_list (has (names_of s)) asked
+
 -- what a function asks: asked something, the names that it needs; asked nothing, nothing
 abbrev pub mapped_names : List Name → FunctionIR → Columns → List Name
 mapped_names [] function s = []
@@ -149,10 +167,12 @@ asks asked (select exprs schema options) ss os = needed_names exprs (first_stand
 asks asked (hstack exprs schema options) ss os = stacked_names asked exprs (first_schema ss) ∷ []
 asks asked (simple_projection columns) ss os = with_names [] (names_of (kept asked columns)) ∷ []
 asks asked (sort keys part options) ss os = asked_with asked (all_leaves keys) ∷ []
+asks asked (group_by keys aggs schema ordered options) ss os = grouping_names keys (kept_exprs (set_of asked) aggs) asked (first_schema ss) ∷ []
 asks asked (distinct options) ss os = asked_with asked (names_or options.subset (names_of (first_schema ss))) ∷ []
 asks asked (map_function function) ss os = mapped_names asked function (first_schema ss) ∷ []
 asks asked (sink payload) ss os = asked ∷ []
 asks asked (union options) ss os = names_alike asked ss
+asks asked (hconcat schema options) ss os = map (held_names asked) ss
 asks asked (cache id hits) ss os = [] ∷ []
 asks asked invalid ss os = []
 
@@ -166,10 +186,12 @@ rebuilt top asked (select exprs schema options) inputs = pruned_select asked exp
 rebuilt top asked (hstack exprs schema options) inputs = pruned_hstack asked exprs schema options inputs
 rebuilt top asked (simple_projection columns) inputs = rose tt (simple_projection (kept asked columns)) inputs
 rebuilt top asked (sort keys part options) inputs = rose tt (sort keys part options) inputs
+rebuilt top asked (group_by keys aggs schema ordered options) inputs = pruned_group_by asked keys aggs schema ordered options inputs
 rebuilt top asked (distinct options) inputs = rose tt (distinct options) inputs
 rebuilt top asked (map_function function) inputs = rose tt (map_function function) inputs
 rebuilt top asked (sink payload) inputs = rose tt (sink payload) inputs
 rebuilt top asked (union options) inputs = rose tt (union options) (covered_if (are_several inputs) asked inputs)
+rebuilt top asked (hconcat schema options) inputs = pruned_hconcat asked schema options inputs
 rebuilt top asked (cache id hits) inputs = covered asked (rose tt (cache id hits) inputs)
 rebuilt top asked invalid inputs = rose tt invalid inputs
 
