@@ -78,7 +78,7 @@ share_less r r' s s' h k e = names_all (λ (a : Name). not (has (names_of r') a)
   where
     turned : (b c : Bool) → not c ≡ true → (b ≡ true → c ≡ true) → not b ≡ true
     turned false c n f = refl
-    turned true false n f = sym (f refl)
+    turned true false n f = f refl
     turned true true n f = n
 
 -- one input
@@ -184,7 +184,7 @@ module _ (wanted : List Name) where
     -- a concatenation over inputs that narrow at the asked names that they have
     beside_local : Local (hconcat (side_by_side rs) options) (hconcat schema options) (sets_of (map (held_names wanted) ss)) (names wanted) rs ss
     beside_local = record {
-      good = (not-empty rs ss h good.0, left_apart rs ss h good.1.0, left_stored rs);
+      good = (not-empty rs ss h good.0, (left_apart rs ss h good.1.0, left_stored rs));
       schema = record {
         held = λ b i. let t = some_is (type_of (side_by_side ss) b) (fair.known b i) in (t.0, beside-type b i ∙ t.1, t.1);
         within = λ b e. ap is_some (type_of-beside ss b) ∙ row_within rs ss h b (sym (ap is_some (type_of-beside rs b)) ∙ e);
