@@ -7,13 +7,13 @@ ghost use Rattle.plan_expr.specs.declared.expr_ir.OutputName.TheVariants.{Alias}
 ghost use Rattle.plan_ir.specs.declared.ir.IR.TheVariants.{DataFrameScan};
 
 use crate::IRBuilder;
+use plan_check::check_plan;
 use plan_core::{
     Arena, At, DataType, Items, Node, PlSmallStr, PlainType, PolarsError, PolarsResult,
     ProjectionOptions, Schema,
 };
 use plan_expr::{AExpr, ExprIR, OutputName};
 use plan_ir::{IR, UnpivotArgsIR};
-use plan_check::check_plan;
 use std::alloc::{AllocError, Global};
 use std::test::Fail;
 
