@@ -204,8 +204,8 @@ select_narrows es stored options o (b ∷ l) rs t s is v fair h =
 -- additions
 
 module _ (es : List Named) (stored : Columns) (options : ProjectionOptions) (n : Unit {0}) (o : Op) (us : Roses (Unit {0}) Op) (v : IsValid (rose tt (hstack es stored options) (more (rose n o us) no_roses))) where
-  abbrev op : Op
-  op = hstack es stored options
+  abbrev adding : Op
+  adding = hstack es stored options
 
   abbrev t : Roses (Unit {0}) Op
   t = more (rose n o us) no_roses
@@ -218,7 +218,7 @@ module _ (es : List Named) (stored : Columns) (options : ProjectionOptions) (n :
   kept_here wanted fair [] is no_roses h = absurd h
   kept_here wanted fair [] is (more r (more r' rs)) h = absurd h.1
   kept_here wanted fair [] is (more r no_roses) h =
-      relates_drop Asked NarrowColumns AgreeOn op (names wanted) (names wanted) r (rose n o us) v (dropped_holds es s wanted is (schema r) h.0.schema)
+      relates_drop Asked NarrowColumns AgreeOn adding (names wanted) (names wanted) r (rose n o us) v (dropped_holds es s wanted is (schema r) h.0.schema)
       (λ c f g fit has ag. (made g.height g.columns es g, refl, dropped_agrees es s wanted is f g ag)) h.0
   kept_here wanted fair (e ∷ stay) is no_roses h = absurd h
   kept_here wanted fair (e ∷ stay) is (more r (more r' rs)) h = absurd h.1
@@ -228,12 +228,12 @@ module _ (es : List Named) (stored : Columns) (options : ProjectionOptions) (n :
       let vr = h.0.valid in
       let a = asks_added (e ∷ stay) wanted s in
       let made_op : Columns → Op = λ x. hstack (e ∷ stay) (with_types x (typed_names stored (out_names (e ∷ stay)))) options in
-      subst (λ (ss : List Columns). Narrows (rose tt (made_op (first_schema ss)) rs) (rose tt op t) (names wanted)) (sym (stored-schemas rs (vr.0, vr.1, tt)))
-      (relates_node Asked NarrowColumns AgreeOn (made_op r) op (a ∷ []) (names wanted) rs t v h (λ j. local_added es stored options s wanted v.0 fair r (e ∷ stay) is j.0))
+      subst (λ (ss : List Columns). Narrows (rose tt (made_op (first_schema ss)) rs) (rose tt adding t) (names wanted)) (sym (stored-schemas rs (vr.0, vr.1, tt)))
+      (relates_node Asked NarrowColumns AgreeOn (made_op r) adding (a ∷ []) (names wanted) rs t v h (λ j. local_added es stored options s wanted v.0 fair r (e ∷ stay) is j.0))
 
   stack_narrows : (l : List Name) (rs : Roses (Unit {0}) Op) → IsFair (set_of l) (made_schema (schema_by o (schemas us)) es (schema_by o (schemas us))) → AllNarrow (set_of (stacked_names l es (first_schema (stored_all (more (rose n o us) no_roses)))) ∷ []) rs (more (rose n o us) no_roses) → Narrows (pruned_hstack l es stored options rs) (rose tt (hstack es stored options) (more (rose n o us) no_roses)) (set_of l)
   stack_narrows [] rs fair h =
-      one_narrows op op all all rs (rose n o us) s refl v h (λ r q. subst (λ (x : Columns). Local op op (all ∷ []) all (x ∷ []) (s ∷ [])) (sym q) (same_one op s v.0))
+      one_narrows adding adding all all rs (rose n o us) s refl v h (λ r q. subst (λ (x : Columns). Local adding adding (all ∷ []) all (x ∷ []) (s ∷ [])) (sym q) (same_one adding s v.0))
   stack_narrows (b ∷ l) rs fair h =
       kept_here (b ∷ l) fair (kept_exprs (names (b ∷ l)) es) refl rs
       (subst (λ (x : Asked). AllNarrow (x ∷ []) rs t) (ap (λ (ss : List Columns). set_of (stacked_names (b ∷ l) es (first_schema ss))) (stored-schemas t v.1) ∙ sym (stacked_asks es (b ∷ l) s)) h)
