@@ -12,6 +12,8 @@ ghost use Rattle.plan_meaning.specs.Typed.{typed, IsNodeTyped, IsPlanTyped, IsTy
 use crate::distinct::distinct_schema;
 use crate::filter::filter_schema;
 use crate::frame_scan::frame_scan_schema;
+use crate::group_by::group_by_schema;
+use crate::hconcat::hconcat_schema;
 use crate::made::{hstack_schema, select_schema};
 use crate::projection::projection_schema;
 use crate::scan::scan_schema;
@@ -104,11 +106,28 @@ fn node_schema(
             ex,
             only(schemas),
         ),
+        IR::GroupBy {
+            keys,
+            aggs,
+            schema,
+            options,
+            ..
+        } => group_by_schema(
+            alloc,
+            node,
+            keys.as_slice(),
+            aggs.as_slice(),
+            schema,
+            options,
+            ex,
+            &only(schemas),
+        ),
         IR::Distinct { options, .. } => distinct_schema(node, options, only(schemas)),
         IR::MapFunction { function, .. } => {
             function_schema(alloc, node, function, &only(schemas))
         }
         IR::Union { options, .. } => union_schema(node, options, schemas),
+        IR::HConcat { schema, .. } => hconcat_schema(alloc, node, schema, schemas.as_slice()),
         IR::Invalid => Err(PolarsError::ComputeError(at(node, 0))),
     }
 }
