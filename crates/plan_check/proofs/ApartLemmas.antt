@@ -1,5 +1,5 @@
 -- Columns beside one another: two have one name exactly where a name comes twice among all.
-use Rattle.std.proofs.Common.{◌≡◌, ℕ, zero, suc, Bool, true, false, not, ◌&&◌, ◌||◌, List, [], ◌∷◌, ◌++◌, take, Some, refl, sym, ap, ap₂, ◌∙◌}
+use Rattle.std.proofs.Common.{◌≡◌, ℕ, zero, suc, Bool, true, false, not, ◌&&◌, ◌||◌, List, [], ◌∷◌, ◌++◌, take, Some, refl, sym, ap, ap₂, ◌∙◌, subst}
 use Rattle.std.specs.Str.{bytes_eq}
 use Rattle.std.specs.List.{IsDistinct, AllByRecursion, slice_get}
 use Rattle.std.proofs.lemmas.List.{map-append}
@@ -9,12 +9,13 @@ use Rattle.plan_core.specs.Columns.{Columns, HasDistinctNames, names_of}
 use Rattle.plan_core.specs.Names.{has}
 use Rattle.plan_options.specs.Schemas.{all_columns, SharesName}
 use Rattle.plan_expr.specs.Leaves.{Name}
-use Rattle.plan_meaning.specs.Typing.{are_apart, share_no_name, side_by_side}
+use Rattle.plan_meaning.specs.Typing.{are_apart, in_a_row, share_no_name, side_by_side}
+use Rattle.plan_meaning.proofs.BesideLemmas.{beside-distinct}
 use Rattle.plan_check.proofs.ReadLemmas.{has-append}
 
-pub beside_are : (ss : List Columns) → all_columns ss ≡ side_by_side ss
-beside_are [] = refl
-beside_are (s ∷ ss) = ap (λ (t : Columns). s ++ t) (beside_are ss)
+row-are : (ss : List Columns) → all_columns ss ≡ in_a_row ss
+row-are [] = refl
+row-are (s ∷ ss) = ap (λ (t : Columns). s ++ t) (row-are ss)
 
 has-beside : (s t : Columns) (a : Name) → has (names_of (s ++ t)) a ≡ (has (names_of s) a || has (names_of t) a)
 has-beside s t a = ap (λ (l : List Name). has l a) (map-append (λ (c : Name × DataType). c.0) s t) ∙ has-append (names_of s) (names_of t) a
@@ -26,6 +27,10 @@ and_false false = refl
 or_true : (b : Bool) → (b || true) ≡ true
 or_true true = refl
 or_true false = refl
+
+-- columns whose names are distinct are beside one another as they are in a row
+pub beside-are : (ss : List Columns) → HasDistinctNames (all_columns ss) → all_columns ss ≡ side_by_side ss
+beside-are ss h = row-are ss ∙ sym (beside-distinct ss (subst HasDistinctNames (row-are ss) h))
 
 -- where no name comes twice
 
@@ -44,14 +49,14 @@ unfolding IsDistinct
 distinct_back [] t h = h
 distinct_back (c ∷ s) t h = distinct_back s t h.1
 
-distinct_apart : (ss : List Columns) → HasDistinctNames (side_by_side ss) → are_apart ss ≡ true
+distinct_apart : (ss : List Columns) → HasDistinctNames (in_a_row ss) → are_apart ss ≡ true
 unfolding are_apart
 distinct_apart [] h = refl
-distinct_apart (s ∷ ss) h = ap₂ (λ (a b : Bool). a && b) (none_shared s (side_by_side ss) h) (distinct_apart ss (distinct_back s (side_by_side ss) h))
+distinct_apart (s ∷ ss) h = ap₂ (λ (a b : Bool). a && b) (none_shared s (in_a_row ss) h) (distinct_apart ss (distinct_back s (in_a_row ss) h))
 
 -- columns whose names are distinct are apart
 pub all_apart : (ss : List Columns) → HasDistinctNames (all_columns ss) → are_apart ss ≡ true
-all_apart ss h = distinct_apart ss (rw (beside_are ss) at h)
+all_apart ss h = distinct_apart ss (rw (row-are ss) at h)
 
 -- where a name comes twice
 
@@ -64,10 +69,10 @@ one_shared (c ∷ s) t a h k = go (bytes_eq a c.0) refl (one_shared s t a) h
     go false e rest g = ap (λ (b : Bool). not (has (names_of t) c.0) && b) (rest g k) ∙ and_false (not (has (names_of t) c.0))
 
 -- a name of one is among those of all
-among : (ss : List Columns) (i : ℕ) (s : Columns) (a : Name) → slice_get ss i ≡ Some s → has (names_of s) a ≡ true → has (names_of (side_by_side ss)) a ≡ true
+among : (ss : List Columns) (i : ℕ) (s : Columns) (a : Name) → slice_get ss i ≡ Some s → has (names_of s) a ≡ true → has (names_of (in_a_row ss)) a ≡ true
 among [] i s a e h = cc
-among (t ∷ ss) zero s a e h = let same : t ≡ s = cc in has-beside t (side_by_side ss) a ∙ ap (λ (b : Bool). b || has (names_of (side_by_side ss)) a) (ap (λ (u : Columns). has (names_of u) a) same ∙ h)
-among (t ∷ ss) (suc i) s a e h = has-beside t (side_by_side ss) a ∙ ap (λ (b : Bool). has (names_of t) a || b) (among ss i s a e h) ∙ or_true (has (names_of t) a)
+among (t ∷ ss) zero s a e h = let same : t ≡ s = cc in has-beside t (in_a_row ss) a ∙ ap (λ (b : Bool). b || has (names_of (in_a_row ss)) a) (ap (λ (u : Columns). has (names_of u) a) same ∙ h)
+among (t ∷ ss) (suc i) s a e h = has-beside t (in_a_row ss) a ∙ ap (λ (b : Bool). has (names_of t) a || b) (among ss i s a e h) ∙ or_true (has (names_of t) a)
 
 -- columns with a name of some before them aren't apart
 pub not_apart : (ss : List Columns) (i : ℕ) (s : Columns) → slice_get ss i ≡ Some s → SharesName s (all_columns (take i ss)) → are_apart ss ≡ false
@@ -76,6 +81,6 @@ not_apart [] i s e shares = cc
 not_apart (t ∷ ss) zero s e shares = let no = shares.2 in cc
 not_apart (t ∷ ss) (suc i) s e shares = go (has (names_of t) shares.0) refl (sym (has-beside t (all_columns (take i ss)) shares.0) ∙ shares.2) (not_apart ss i s e)
   where
-    go : (b : Bool) → has (names_of t) shares.0 ≡ b → (b || has (names_of (all_columns (take i ss))) shares.0) ≡ true → (SharesName s (all_columns (take i ss)) → are_apart ss ≡ false) → (share_no_name t (side_by_side ss) && are_apart ss) ≡ false
-    go true q g rest = ap (λ (b : Bool). b && are_apart ss) (one_shared t (side_by_side ss) shares.0 q (among ss i s shares.0 e shares.1))
-    go false q g rest = ap (λ (b : Bool). share_no_name t (side_by_side ss) && b) (rest (shares.0, shares.1, g)) ∙ and_false (share_no_name t (side_by_side ss))
+    go : (b : Bool) → has (names_of t) shares.0 ≡ b → (b || has (names_of (all_columns (take i ss))) shares.0) ≡ true → (SharesName s (all_columns (take i ss)) → are_apart ss ≡ false) → (share_no_name t (in_a_row ss) && are_apart ss) ≡ false
+    go true q g rest = ap (λ (b : Bool). b && are_apart ss) (one_shared t (in_a_row ss) shares.0 q (among ss i s shares.0 e shares.1))
+    go false q g rest = ap (λ (b : Bool). share_no_name t (in_a_row ss) && b) (rest (shares.0, shares.1, g)) ∙ and_false (share_no_name t (in_a_row ss))
