@@ -1,7 +1,7 @@
 //! The schema of a plan, or its first fault.
-ghost use Rattle.std.specs.Prelude.{◌≡◌, true, [], ◌∷◌, All, IfOk, None, length};
+ghost use Rattle.std.specs.Prelude.{◌≡◌, ◌||◌, true, [], ◌∷◌, All, IfOk, IsTrue, None, length};
 ghost use Rattle.plan_expr.specs.Operands.{IsExpr};
-ghost use Rattle.plan_ir.specs.Parts.{exprs_of, inputs_of, IsPlan};
+ghost use Rattle.plan_ir.specs.Parts.{exprs_of, inputs_of, is_group_by, is_sort, IsPlan};
 ghost use Rattle.plan_ir.specs.Plans.{op_at, plans_at};
 ghost use Rattle.plan_ir.specs.Reads.{is_scan};
 ghost use Rattle.plan_meaning.specs.PlanAt.{plan_at};
@@ -68,6 +68,45 @@ fn source_schema(alloc: Global, node: Node, entry: &IR, ex: &Arena<AExpr>) -> Po
     }
 }
 
+/// The columns of a sort or of a grouping over those of its input, or its first fault.
+fn keyed_schema(
+    alloc: Global,
+    node: Node,
+    entry: &IR,
+    ex: &Arena<AExpr>,
+    schema: Schema,
+) -> PolarsResult<Schema>
+    requires kind { IsTrue (is_sort entry.now || is_group_by entry.now) }
+    requires exprs { All (λ e. IsExpr ex.now e.node) (exprs_of entry.now) }
+    ensures { IsNodeTyped result node (op_at ex.now entry.now) (schema ∷ []) }
+{
+    match entry {
+        IR::Sort {
+            by_column,
+            slice,
+            sort_options,
+            ..
+        } => sort_schema(node, by_column.as_slice(), slice, sort_options, ex, schema),
+        IR::GroupBy {
+            keys,
+            aggs,
+            schema: stored,
+            options,
+            ..
+        } => group_by_schema(
+            alloc,
+            node,
+            keys.as_slice(),
+            aggs.as_slice(),
+            stored,
+            options,
+            ex,
+            &schema,
+        ),
+        _ => unreachable!(),
+    }
+}
+
 /// The columns of a node over those of its inputs, in order, or its first fault.
 fn node_schema(
     alloc: Global,
@@ -93,35 +132,7 @@ fn node_schema(
         IR::HStack { exprs, schema, .. } => {
             hstack_schema(alloc, node, exprs.as_slice(), schema, ex, &only(schemas))
         }
-        IR::Sort {
-            by_column,
-            slice,
-            sort_options,
-            ..
-        } => sort_schema(
-            node,
-            by_column.as_slice(),
-            slice,
-            sort_options,
-            ex,
-            only(schemas),
-        ),
-        IR::GroupBy {
-            keys,
-            aggs,
-            schema,
-            options,
-            ..
-        } => group_by_schema(
-            alloc,
-            node,
-            keys.as_slice(),
-            aggs.as_slice(),
-            schema,
-            options,
-            ex,
-            &only(schemas),
-        ),
+        IR::Sort { .. } | IR::GroupBy { .. } => keyed_schema(alloc, node, entry, ex, only(schemas)),
         IR::Distinct { options, .. } => distinct_schema(node, options, only(schemas)),
         IR::MapFunction { function, .. } => {
             function_schema(alloc, node, function, &only(schemas))
