@@ -31,7 +31,13 @@ impl IRBuilder<'_> {
         ensures same_reference { self.new.lp_arena.ghost_name ≡ self.old.lp_arena.ghost_name }
     {
         let columns = self.schema(alloc)?;
-        let schema = group_schema(alloc, keys.as_slice(), aggs.as_slice(), self.expr_arena, &columns)?;
+        let schema = group_schema(
+            alloc,
+            keys.as_slice(),
+            aggs.as_slice(),
+            self.expr_arena,
+            &columns,
+        )?;
         self.add_alp(IR::GroupBy {
             input: self.root,
             keys,
