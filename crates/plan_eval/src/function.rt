@@ -19,8 +19,8 @@ ghost use Rattle.plan_value.specs.Shown.{frame_of, schema_of, values_of};
 use crate::explode::exploded;
 use crate::unpivot::unpivoted;
 use plan_core::{DataType, Items, PlSmallStr, TryClone};
-use plan_ir::FunctionIR;
 use plan_function::Renaming;
+use plan_ir::FunctionIR;
 use plan_table::{AnyValue, Column, Columns, Table};
 use std::alloc::{AllocError, Global};
 

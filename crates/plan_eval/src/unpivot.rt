@@ -11,8 +11,8 @@ ghost use Rattle.plan_value.specs.Shown.{columns_shown, frame_of, schema_of, val
 use crate::stack::{append, append_column, append_times};
 use crate::union::typed;
 use plan_core::{DataType, Items, PlSmallStr, TryClone};
-use plan_ir::UnpivotArgsIR;
 use plan_function::{value_name, value_names, variable_name};
+use plan_ir::UnpivotArgsIR;
 use plan_table::{AnyValue, Column, Columns, Table};
 use plan_value::column;
 use std::alloc::{AllocError, Global};
