@@ -52,3 +52,13 @@ module _ (ex : List AExpr) (h : ℕ) (g : Frame) (schema : Columns) (es : List E
       ∙ ap₂ put before typed
       ∙ sym (fold-append put base (map (stored_column schema) (take i es)) (stored_column schema e ∷ []))
       ∙ ap (with_types base) (sym grown)
+
+-- a column that is put is the first of those that are to be put
+pub put-first : (done : List Typed) (d : Typed) (x : Column) (rest all : List Column) → column_shown d ≡ x → frames.with_columns (columns_shown done) (x ∷ rest) ≡ all → frames.with_columns (columns_shown (with_column done d)) rest ≡ all
+put-first done d x rest all is before =
+    ap (λ (cs : List Column). frames.with_columns cs rest) (shown-with done d ∙ ap (frames.with_column (columns_shown done)) is) ∙ before
+
+-- and so is its type
+pub put-type : (done : List Typed) (d : Typed) (x : Name × DataType) (rest all : Columns) → (d.name, d.dtype) ≡ x → with_types (types_of done) (x ∷ rest) ≡ all → with_types (types_of (with_column done d)) rest ≡ all
+put-type done d x rest all is before =
+    ap (λ (t : Columns). with_types t rest) (types-with done d ∙ ap (λ (y : Name × DataType). with_type (types_of done) y.0 y.1) is) ∙ before

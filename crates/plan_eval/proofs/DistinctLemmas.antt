@@ -39,7 +39,7 @@ neither false false e = (refl, refl)
 -- What is chosen of each of so many parts
 
 module _ (chosen : ℕ → Option ℕ) where
-  abbrev gathered : ℕ → ℕ → List ℕ
+  abbrev pub gathered : ℕ → ℕ → List ℕ
   gathered a n = filter_map chosen (range_with_len a n)
 
   gathered-each : (P : ℕ → Type 0) (a n : ℕ) → ((g i : ℕ) → a ≤ g → g < a + n → chosen g ≡ Some i → P i) → AllByRecursion P (gathered a n)
@@ -50,7 +50,7 @@ module _ (chosen : ℕ → Option ℕ) where
       at None e rest = rest
       at (Some i) e rest = (by a i (omega arith) (omega arith) e, rest)
 
-  gathered-apart : (same : ℕ → ℕ → Bool) (a n : ℕ) → ((g k i j : ℕ) → g < k → k < a + n → chosen g ≡ Some i → chosen k ≡ Some j → same i j ≡ false) → IsDistinct same (gathered a n)
+  pub gathered-apart : (same : ℕ → ℕ → Bool) (a n : ℕ) → ((g k i j : ℕ) → g < k → k < a + n → chosen g ≡ Some i → chosen k ≡ Some j → same i j ≡ false) → IsDistinct same (gathered a n)
   unfolding IsDistinct
   gathered-apart same a zero by = tt
   gathered-apart same a (suc n) by = at (chosen a) refl (gathered-apart same (a + 1) n (λ g k i j lt below e f. by g k i j lt (omega (arith, below)) e f))
@@ -73,7 +73,7 @@ module _ (chosen : ℕ → Option ℕ) where
           subst (λ (o : Option ℕ). list_any test (cons_option o (gathered (a + 1) n)) ≡ true) (sym (ap chosen (eqb-true a g q) ∙ e)) (or-first (test i) (list_any test (gathered (a + 1) n)) f)
       at false q rest = with-head (chosen a) (rest (later-number a g from q))
 
-kept-parts : (keep : UniqueKeepStrategy) (part : ℕ → List ℕ) (gs : List ℕ) → kept keep (map part gs) ≡ filter_map (λ g. kept_of keep (part g)) gs
+pub kept-parts : (keep : UniqueKeepStrategy) (part : ℕ → List ℕ) (gs : List ℕ) → kept keep (map part gs) ≡ filter_map (λ g. kept_of keep (part g)) gs
 kept-parts keep part [] = refl
 kept-parts keep part (g ∷ gs) = ap (cons_option (kept_of keep (part g))) (kept-parts keep part gs)
 
@@ -107,10 +107,10 @@ module _ (same : ℕ → ℕ → Bool) (h count : ℕ) (number : ℕ → ℕ) (w
   abbrev pub part : ℕ → List ℕ
   part g = places_from (λ i. nat_eq g (number i)) 0 h
 
-  record IsKept (keep : UniqueKeepStrategy) (g i : ℕ) : Type 0 where
-    row : i < h
-    has : g ≡ number i
-    may : may_be_kept keep same h i ≡ true
+  pub record IsKept (keep : UniqueKeepStrategy) (g i : ℕ) : Type 0 where
+    pub row : i < h
+    pub has : g ≡ number i
+    pub may : may_be_kept keep same h i ≡ true
 
   -- rows with another number are others
   others : (g i a b : ℕ) → i < h → b ≤ h → g ≡ number i → NoneWithin (λ j. nat_eq g (number j)) a b → NoneWithin (same i) a b
@@ -128,7 +128,7 @@ module _ (same : ℕ → ℕ → Bool) (h count : ℕ) (number : ℕ → ℕ) (w
   row-of g i p = let q = p.below in (omega (arith, q), eqb-true g (number i) p.passes)
 
   -- what is kept of a part is of the part, and may be kept
-  is-kept : (keep : UniqueKeepStrategy) (g i : ℕ) → kept_of keep (part g) ≡ Some i → IsKept keep g i
+  pub is-kept : (keep : UniqueKeepStrategy) (g i : ℕ) → kept_of keep (part g) ≡ Some i → IsKept keep g i
   is-kept keeps.First g i e =
       let r = first-passes (λ j. nat_eq g (number j)) 0 h i e in
       let p = row-of g i r.0 in
@@ -150,7 +150,7 @@ module _ (same : ℕ → ℕ → Bool) (h count : ℕ) (number : ℕ → ℕ) (w
   own i = eq-eqb (number i) (number i) refl
 
   -- of the part of a row that must be kept one is
-  one-kept : (keep : UniqueKeepStrategy) (i : ℕ) → i < h → must_be_kept keep same h i ≡ true → (j : ℕ) × (kept_of keep (part (number i)) ≡ Some j)
+  pub one-kept : (keep : UniqueKeepStrategy) (i : ℕ) → i < h → must_be_kept keep same h i ≡ true → (j : ℕ) × (kept_of keep (part (number i)) ≡ Some j)
   one-kept keeps.First i lt e = first-there (λ j. nat_eq (number i) (number j)) h i lt (own i)
   one-kept keeps.Last i lt e = last-there (λ j. nat_eq (number i) (number j)) h i lt (own i)
   one-kept keeps.Any i lt e = first-there (λ j. nat_eq (number i) (number j)) h i lt (own i)
@@ -163,7 +163,7 @@ module _ (same : ℕ → ℕ → Bool) (h count : ℕ) (number : ℕ → ℕ) (w
       )
 
   module _ (keep : UniqueKeepStrategy) where
-    abbrev chosen : ℕ → Option ℕ
+    abbrev pub chosen : ℕ → Option ℕ
     chosen g = kept_of keep (part g)
 
     below-all : AllByRecursion (λ i. i < h) (gathered chosen 0 count)
@@ -199,7 +199,7 @@ module _ (same : ℕ → ℕ → Bool) (h count : ℕ) (number : ℕ → ℕ) (w
         }
 
 -- parts by the numbers of their rows
-parts-are : (numbers : List ℕ) (h count : ℕ) (parts : List (List ℕ)) → length numbers ≡ h → length parts ≡ count → ((g : ℕ) → g < count → get_or parts g [] ≡ rows_numbered numbers g)
+pub parts-are : (numbers : List ℕ) (h count : ℕ) (parts : List (List ℕ)) → length numbers ≡ h → length parts ≡ count → ((g : ℕ) → g < count → get_or parts g [] ≡ rows_numbered numbers g)
     → parts ≡ map (λ g. places_from (λ i. nat_eq g (get_or numbers i 0)) 0 h) (range_with_len 0 count)
 parts-are numbers h count parts high many-parts each =
     let own : ℕ → List ℕ = λ (g : ℕ). places_from (λ i. nat_eq g (get_or numbers i 0)) 0 h in

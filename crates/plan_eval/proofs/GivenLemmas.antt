@@ -1,5 +1,5 @@
 -- Plans side by side: what each is and gives, and what all are and give.
-use Rattle.std.proofs.Common.{◌≡◌, ◌∙◌, ◌++◌, ◌+◌, ◌<◌, ◌≤◌, ℕ, List, [], ◌∷◌, map, take, drop, get_or, length, refl, sym, ap, ap₂, subst}
+use Rattle.std.proofs.Common.{◌∙◌, ◌++◌, ◌+◌, ◌<◌, ◌≤◌, ℕ, List, [], ◌∷◌, map, take, drop, get_or, length, sym, ap₂, subst}
 use Rattle.std.proofs.lemmas.List.{map-append, take_all}
 use Rattle.plan_core.specs.declared.arena.Node.{Node}
 use Rattle.plan_core.specs.Columns.{Columns}

@@ -7,6 +7,8 @@ mod TurnLemmas
 mod PlanLemmas
 mod PartLemmas
 mod DistinctLemmas
+mod GroupLemmas
+mod BesideLemmas
 mod SortLemmas
 mod FunctionLemmas
 mod UnpivotLemmas

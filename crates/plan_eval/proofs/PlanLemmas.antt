@@ -1,6 +1,7 @@
 -- From the table that a node gives over those of its inputs, to the table that the plan gives.
-use Rattle.std.proofs.Common.{◌≡◌, ◌∙◌, List, [], ◌∷◌, map, Some, ap, sym, subst}
+use Rattle.std.proofs.Common.{◌≡◌, ◌∙◌, ◌++◌, All, List, [], ◌∷◌, map, Some, ap, sym, subst}
 use Rattle.std.specs.List.{AllByRecursion, slice_get}
+use Rattle.std.proofs.lemmas.List.Elements.{All-from_recursion, recursion_from_All}
 use Rattle.plan_core.specs.declared.arena.Node.{Node}
 use Rattle.plan_core.specs.Columns.{Columns}
 use Rattle.plan_tree.specs.Rose.{Roses, rose, no_roses, more}
@@ -14,6 +15,7 @@ use Rattle.plan_meaning.specs.Frames.{HasSchema}
 use Rattle.plan_meaning.specs.PlanAt.{one_plan, plan_at}
 use Rattle.plan_meaning.specs.Steps.{IsValid, May, MayAll}
 use Rattle.plan_meaning.specs.Typing.{AllHold, AllValid, checks, schema, schema_by, schemas}
+use Rattle.plan_meaning.proofs.GroupLemmas.{all_back, all_front}
 use Rattle.plan_meaning.proofs.Runs.{may_has, may_have_all}
 use Rattle.plan_meaning.proofs.UnionLemmas.{HaveSchemas}
 use Rattle.plan_meaning.proofs.Validity.{bare-valid, one_stands, schemas-bare, valid-bare}
@@ -25,6 +27,13 @@ use Rattle.plan_value.specs.Shown.{frame_of, schema_of}
 use Rattle.plan_fit.specs.Sources.{contents_of}
 use Rattle.plan_fit.proofs.FormedLemmas.{have-columns}
 use Rattle.plan_eval.proofs.TurnLemmas.{have-rows}
+
+-- what holds of each item of two lists in turn holds of each of the first, and of the second
+pub all-first : {X : Type 0} (P : X → Type 0) (xs ys : List X) → All P (xs ++ ys) → All P xs
+all-first P xs ys h = All-from_recursion P xs (all_front P xs ys (recursion_from_All P (xs ++ ys) h))
+
+pub all-second : {X : Type 0} (P : X → Type 0) (xs ys : List X) → All P (xs ++ ys) → All P ys
+all-second P xs ys h = All-from_recursion P ys (all_back P xs ys (recursion_from_All P (xs ++ ys) h))
 
 module _ (lp : List IR) (ex : List AExpr) (n : Node) (p : IR) (h : IsPlan lp ex n) (entry : slice_get lp n.0 ≡ Some p) where
   -- a plan gives what its node gives over what its inputs give

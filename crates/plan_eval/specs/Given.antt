@@ -7,7 +7,7 @@ use Rattle.plan_expr.specs.declared.expr_ir.ExprIR.{ExprIR}
 use Rattle.plan_expr.specs.Naming.{name_of}
 use Rattle.plan_tree.specs.Rose.{Roses}
 use Rattle.plan_ir.specs.declared.ir.IR.{IR}
-use Rattle.plan_ir.specs.declared.ir.IR.TheVariants.{Union}
+use Rattle.plan_ir.specs.declared.ir.IR.TheVariants.{HConcat, Union}
 use Rattle.plan_ir.specs.Plans.{Op, bare}
 use Rattle.plan_meaning.specs.Typing.{schema_by, schemas}
 use Rattle.plan_meaning.specs.Steps.{Step, MayAll}
@@ -20,10 +20,11 @@ use Rattle.plan_fit.specs.Sources.{contents_of}
 abbrev pub stored_column : Columns → ExprIR → List ℕ × DataType
 stored_column s e = (name_of e.output_name, unwrap_or (type_of s (name_of e.output_name)) Int64)
 
--- a union, which has as many inputs as it names
-abbrev pub is_union : IR → Bool
-is_union (Union inputs options) = true
-is_union other = false
+-- a union or a concatenation, which has as many inputs as it names
+abbrev pub names_many : IR → Bool
+names_many (Union inputs options) = true
+names_many (HConcat inputs schema options) = true
+names_many other = false
 
 -- a node may give this table over tables of its inputs, and its columns have the node's types
 pub record Gives (ts : List (SourceKey × Table)) (op : Op) (inputs : List Table) (t : Table) : Type 0 where

@@ -4,3 +4,4 @@ pub mod Stacks
 pub mod Distinct
 pub mod Function
 pub mod Explode
+pub mod Groups

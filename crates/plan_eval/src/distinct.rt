@@ -74,7 +74,7 @@ fn kept_row(keep: UniqueKeepStrategy, rows: &[usize]) -> Option<usize>
 }
 
 /// The rows that are kept of parts, in each of which all rows are the same: part by part.
-fn kept_rows(
+pub fn kept_rows(
     alloc: Global,
     keep: UniqueKeepStrategy,
     parts: &[Items<usize>],

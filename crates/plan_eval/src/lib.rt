@@ -6,6 +6,8 @@ mod explode;
 mod filter;
 mod frame_scan;
 mod function;
+mod group_by;
+mod hconcat;
 mod hstack;
 mod made;
 mod plan;

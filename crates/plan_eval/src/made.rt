@@ -8,11 +8,11 @@ ghost use Rattle.plan_meaning.specs.Meaning.{filled as filled_with, val};
 ghost use Rattle.plan_meaning.specs.Steps.{made as made_of};
 ghost use Rattle.plan_table.specs.Tables.{types_of};
 ghost use Rattle.plan_eval.specs.Given.{stored_column};
-ghost use Rattle.plan_value.specs.Shown.{column_shown, columns_shown, frame_of, schema_of};
+ghost use Rattle.plan_value.specs.Shown.{column_shown, columns_shown, frame_of, schema_of, values_of};
 
-use plan_core::{Arena, DataType, PlSmallStr, Schema};
+use plan_core::{Arena, DataType, Items, PlSmallStr, Schema};
 use plan_expr::{AExpr, ExprIR, output_name};
-use plan_table::{Column, Columns, Table};
+use plan_table::{AnyValue, Column, Columns, Table};
 use plan_value::{evaluate_expr, filled};
 use std::alloc::{AllocError, Global};
 
@@ -25,6 +25,25 @@ fn stored_type(schema: &Schema, name: &str) -> DataType
         Some(dtype) => *dtype,
         None => unreachable!(),
     }
+}
+
+/// The column of these values under the name of an expression, with its type in the schema.
+pub fn named_column(
+    alloc: Global,
+    expr: &ExprIR,
+    values: Items<AnyValue>,
+    schema: &Schema,
+) -> Result<Column, AllocError>
+    requires { is_some (type_of schema.now (name_of expr.now.output_name)) ≡ true }
+    ensures shown { IfOk result (λ c. column_shown c ≡ record { name = name_of expr.now.output_name; values = values_of values }) }
+    ensures typed { IfOk result (λ c. (c.name, c.dtype) ≡ stored_column schema.now expr.now) }
+{
+    let name = output_name(&expr.output_name);
+    Ok(Column {
+        name: PlSmallStr::new(alloc, name)?,
+        dtype: stored_type(schema, name),
+        values,
+    })
 }
 
 /// The column that an expression makes over the rows of a table, of so many rows.
@@ -41,13 +60,9 @@ fn made_column(
     ensures shown { IfOk result (λ c. column_shown c ≡ record { name = name_of expr.now.output_name; values = filled_with height (val (expr_at ex.now expr.now.node) (frame_of table.now)) }) }
     ensures typed { IfOk result (λ c. (c.name, c.dtype) ≡ stored_column schema.now expr.now) }
 {
-    let name = output_name(&expr.output_name);
     let values = evaluate_expr(alloc, expr.node, ex, table)?;
-    Ok(Column {
-        name: PlSmallStr::new(alloc, name)?,
-        dtype: stored_type(schema, name),
-        values: filled(alloc, values, height)?,
-    })
+    let values = filled(alloc, values, height)?;
+    Ok(named_column(alloc, expr, values, schema)?)
 }
 
 /// The columns, of so many rows, and those that the expressions make over a table: each in the place of the one of its

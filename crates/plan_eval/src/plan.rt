@@ -13,7 +13,7 @@ ghost use Rattle.plan_meaning.specs.Typing.{AllHold, AllValid, checks, schema};
 ghost use Rattle.plan_table.specs.declared.source_key.SourceKey.{SourceKey};
 ghost use Rattle.plan_table.specs.declared.table.Table.{Table as TableType};
 ghost use Rattle.plan_table.specs.Tables.{HasRows};
-ghost use Rattle.plan_eval.specs.Given.{GiveAll, Gives, is_union};
+ghost use Rattle.plan_eval.specs.Given.{GiveAll, Gives, names_many};
 ghost use Rattle.plan_value.specs.Shown.{frame_of, schema_of};
 ghost use Rattle.plan_fit.specs.Sources.{contents_of};
 
@@ -21,6 +21,8 @@ use crate::distinct::distinct;
 use crate::filter::filter;
 use crate::frame_scan::frame_scan;
 use crate::function::mapped;
+use crate::group_by::group_by;
+use crate::hconcat::hconcat;
 use crate::hstack::hstack;
 use crate::projection::projection;
 use crate::scan::scan;
@@ -65,7 +67,7 @@ fn one_input_table(
     ex: &Arena<AExpr>,
 ) -> Result<Table, AllocError>
     requires one { length (inputs_of node.now) ≡ 1 }
-    requires other { is_union node.now ≡ false }
+    requires other { names_many node.now ≡ false }
     requires stand { All (λ e. IsExpr ex.now e.node) (exprs_of node.now) }
     requires valid { AllHold (checks (op_at ex.now node.now) (schema_of table.now ∷ [])) }
     requires rows { HasRows table.now }
@@ -82,12 +84,20 @@ fn one_input_table(
             sort_options,
             ..
         } => sort(alloc, table, by_column.as_slice(), sort_options, ex),
+        IR::GroupBy {
+            keys,
+            aggs,
+            schema,
+            ..
+        } => group_by(alloc, table, keys.as_slice(), aggs.as_slice(), schema, ex),
         IR::Distinct { options, .. } => distinct(alloc, table, options),
         IR::MapFunction { function, .. } => mapped(alloc, table, function),
         IR::Sink { .. } | IR::Cache { .. } => unchanged(alloc, table),
-        IR::Union { .. } | IR::Scan { .. } | IR::DataFrameScan { .. } | IR::Invalid => {
-            unreachable!()
-        }
+        IR::Union { .. }
+        | IR::HConcat { .. }
+        | IR::Scan { .. }
+        | IR::DataFrameScan { .. }
+        | IR::Invalid => unreachable!(),
     }
 }
 
@@ -119,12 +129,14 @@ fn node_table(
     match node {
         IR::Scan { .. } | IR::DataFrameScan { .. } => source_table(alloc, node, tables),
         IR::Union { .. } => union(alloc, inputs),
+        IR::HConcat { .. } => hconcat(alloc, inputs),
         IR::Slice { .. }
         | IR::Filter { .. }
         | IR::SimpleProjection { .. }
         | IR::Select { .. }
         | IR::HStack { .. }
         | IR::Sort { .. }
+        | IR::GroupBy { .. }
         | IR::Distinct { .. }
         | IR::MapFunction { .. }
         | IR::Sink { .. }

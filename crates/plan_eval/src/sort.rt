@@ -25,7 +25,7 @@ use std::alloc::{AllocError, Global};
 use std::cmp::Ordering;
 
 /// The values of each key over the rows of a table.
-fn key_values(
+pub fn key_values(
     alloc: Global,
     keys: &[ExprIR],
     ex: &Arena<AExpr>,
@@ -51,7 +51,7 @@ fn ordering(keys: &[Values], options: &SortMultipleOptions, left: usize, right: 
 }
 
 /// The numbers of so many rows.
-fn row_numbers(alloc: Global, height: usize) -> Result<Vec<usize>, AllocError>
+pub fn row_numbers(alloc: Global, height: usize) -> Result<Vec<usize>, AllocError>
     ensures { IfOk result (λ rows. rows.items ≡ range_with_len 0 height) }
 {
     let mut rows = Vec::with_capacity(alloc, height)?;

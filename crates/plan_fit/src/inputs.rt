@@ -17,11 +17,12 @@ pub fn inputs(node: &IR) -> &[Node]
         | IR::Select { input, .. }
         | IR::HStack { input, .. }
         | IR::Sort { input, .. }
+        | IR::GroupBy { input, .. }
         | IR::Distinct { input, .. }
         | IR::MapFunction { input, .. }
         | IR::Sink { input, .. }
         | IR::Cache { input, .. } => from_ref(input),
-        IR::Union { inputs, .. } => inputs.as_slice(),
+        IR::Union { inputs, .. } | IR::HConcat { inputs, .. } => inputs.as_slice(),
         IR::Scan { .. } | IR::DataFrameScan { .. } | IR::Invalid => &[],
     }
 }

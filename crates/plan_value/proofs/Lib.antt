@@ -7,5 +7,6 @@ mod SameLemmas
 mod AggregateLemmas
 mod GroupLemmas
 mod EvaluationLemmas
-mod WindowLemmas
+pub mod WindowLemmas
 mod ReadLemmas
+pub mod GatheredLemmas

@@ -8,7 +8,7 @@ use Rattle.plan_meaning.specs.Values.{Value}
 use Rattle.plan_value.specs.Groups.{AreNumbered, rows_numbered}
 
 -- tests that agree pass the same numbers
-places-same : (p q : ℕ → Bool) (a n : ℕ) → ((j : ℕ) → a ≤ j → j < a + n → p j ≡ q j) → places_from p a n ≡ places_from q a n
+pub places-same : (p q : ℕ → Bool) (a n : ℕ) → ((j : ℕ) → a ≤ j → j < a + n → p j ≡ q j) → places_from p a n ≡ places_from q a n
 places-same p q a zero h = refl
 places-same p q a (suc n) h =
     ap₂ (λ (b : Bool) (xs : List ℕ). cond b (a ∷ xs) xs) (h a (omega arith) (omega arith)) (places-same p q (suc a) n (λ j le lt. h j (omega (arith, le)) (omega (arith, lt))))

@@ -1,8 +1,11 @@
 -- Rows in groups: those that are the same in each of some keys.
-use Rattle.std.specs.Prelude.{◌≡◌, ◌<◌, ℕ, List, length, map, nat_eq, get_or}
+use Rattle.std.specs.Prelude.{◌≡◌, ◌<◌, ℕ, Bool, true, false, List, length, map, nat_eq, get_or}
 use Rattle.plan_table.specs.declared.value.AnyValue.{AnyValue}
 use Rattle.plan_table.specs.declared.value.AnyValue.TheVariants.{Null}
-use Rattle.plan_meaning.specs.Meaning.{Cell, are_alike, places_from}
+use Rattle.plan_expr.specs.declared.agg.Aggregate.TheVariants.{Implode}
+use Rattle.plan_meaning.specs.Aggregates.{aggregated}
+use Rattle.plan_meaning.specs.Meaning.{Cell, are_alike, cell_values, only_value, places_from}
+use Rattle.plan_meaning.specs.Values.{Value}
 use Rattle.plan_value.specs.declared.exprs.Values.{Values}
 use Rattle.plan_value.specs.declared.exprs.Values.TheVariants as values
 
@@ -26,3 +29,8 @@ pub record AreNumbered (keys : List Cell) (h count : ℕ) (numbers : List ℕ) :
   pub same : (i j : ℕ) → i < h → j < h → nat_eq (get_or numbers i 0) (get_or numbers j 0) ≡ are_alike keys i j
   pub first : (i : ℕ) → i < h → (g : ℕ) → g < get_or numbers i 0 → (j : ℕ) × (j < i) × (get_or numbers j 0 ≡ g)
   pub all : (g : ℕ) → g < count → (j : ℕ) × (j < h) × (get_or numbers j 0 ≡ g)
+
+-- one value for a group, of what an expression is over its rows: that of a scalar expression, and the list of the values of another
+abbrev pub gathered_value : (scalar : Bool) → Cell → Value
+gathered_value true c = only_value c
+gathered_value false c = aggregated Implode (cell_values c)

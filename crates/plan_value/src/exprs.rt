@@ -117,7 +117,7 @@ fn spread(alloc: Global, op: Operator, left: Values, right: Values) -> Result<Va
 }
 
 /// The one value; null where there is one for each row.
-fn only_value(values: Values) -> AnyValue
+pub fn only_value(values: Values) -> AnyValue
     ensures { value_of result ≡ only_value_of (cell_of values) }
 {
     match values {
@@ -127,7 +127,11 @@ fn only_value(values: Values) -> AnyValue
 }
 
 /// What an aggregate makes of all values.
-fn aggregate(alloc: Global, aggregate: Aggregate, values: &Values) -> Result<AnyValue, AllocError>
+pub fn aggregate(
+    alloc: Global,
+    aggregate: Aggregate,
+    values: &Values,
+) -> Result<AnyValue, AllocError>
     ensures { IfOk result (λ v. value_of v ≡ aggregated_of aggregate (cell_values (cell_of values.now))) }
 {
     match values {

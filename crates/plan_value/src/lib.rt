@@ -5,6 +5,7 @@ mod aggregates;
 mod choices;
 mod exprs;
 mod functions;
+mod gathered;
 mod groups;
 mod operators;
 mod orders;
@@ -14,6 +15,7 @@ mod spread;
 mod tests;
 
 pub use exprs::{Values, column, evaluate_expr, filled, is_true_at, value_at};
+pub use gathered::evaluate_groups;
 pub use groups::{Groups, grouped, rows_of_groups};
 pub use orders::row_ordering;
-pub use rows::{rows_at, value_in};
+pub use rows::{picked_column, rows_at, value_in};

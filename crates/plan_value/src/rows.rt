@@ -32,8 +32,8 @@ pub fn picked(
     Ok(picked)
 }
 
-/// The column of these rows, in this order.
-fn picked_column(alloc: Global, column: &Column, rows: &[usize]) -> Result<Column, AllocError>
+/// The column of these rows, in this order; a row that the column lacks is null. Refuses for want of memory alone.
+pub fn picked_column(alloc: Global, column: &Column, rows: &[usize]) -> Result<Column, AllocError>
     ensures shown { IfOk result (λ c. column_shown c ≡ record { name = column.now.name; values = picked_of rows.now (values_of column.now.values) }) }
     ensures dtype { IfOk result (λ c. c.dtype ≡ column.now.dtype) }
 {
