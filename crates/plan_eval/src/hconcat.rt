@@ -1,19 +1,19 @@
 //! A concatenation gives the columns of its inputs beside one another, as high as the highest input; the others have null in the
 //! rows that they lack.
-ghost use Rattle.std.specs.Prelude.{◌≡◌, ◌++◌, List, IfOk, OnOk, map, true};
+ghost use Rattle.std.specs.Prelude.{◌≡◌, List, IfOk, OnOk, fold, map};
 ghost use Rattle.plan_core.specs.Columns.{Columns as ColumnTypes};
 ghost use Rattle.plan_ir.specs.Plans.{hconcat as hconcat_op};
-ghost use Rattle.plan_meaning.specs.Frames.{highest as highest_of, picked_columns};
-ghost use Rattle.plan_meaning.specs.Typing.{are_apart, share_no_name};
+ghost use Rattle.plan_meaning.specs.Frames.{highest as highest_of, picked, picked_columns, with_new_column};
+ghost use Rattle.plan_meaning.specs.Typing.{with_new};
 ghost use Rattle.plan_options.specs.declared.union.HConcatOptions.{HConcatOptions};
 ghost use Rattle.plan_table.specs.declared.source_key.SourceKey.{SourceKey};
 ghost use Rattle.plan_table.specs.declared.table.Table.{Table as TableType};
 ghost use Rattle.plan_table.specs.Tables.{types_of};
 ghost use Rattle.plan_eval.specs.Given.{Gives};
-ghost use Rattle.plan_value.specs.Shown.{columns_shown, frame_of, schema_of};
+ghost use Rattle.plan_value.specs.Shown.{columns_shown, frame_of, values_of};
 
 use crate::sort::row_numbers;
-use plan_table::{Columns, Table};
+use plan_table::{Column, Columns, Table};
 use plan_value::picked_column;
 use std::alloc::{AllocError, Global};
 
@@ -28,26 +28,41 @@ fn highest(tables: &[Table]) -> usize
     height
 }
 
-/// Appends these rows of columns that are called like none that is there.
+/// Appends these rows of a column, unless a column is called like it. Refuses for want of memory alone.
+fn append_column(
+    alloc: Global,
+    columns: &mut Columns,
+    column: &Column,
+    rows: &[usize],
+) -> Result<(), AllocError>
+    ensures shown { OnOk result (columns_shown columns.new ≡ with_new_column (columns_shown columns.old) (record { name = column.now.name; values = picked rows.now (values_of column.now.values) })) }
+    ensures types { OnOk result (types_of columns.new ≡ with_new (types_of columns.old) (column.now.name, column.now.dtype)) }
+{
+    if columns.get(column.name.as_str()).is_some() {
+        return Ok(());
+    }
+    columns.with_column(picked_column(alloc, column, rows)?)
+}
+
+/// Appends these rows of columns, in order, but of those that are called like one that is there. Refuses for want of memory
+/// alone.
 fn append_rows(
     alloc: Global,
     columns: &mut Columns,
     more: &Columns,
     rows: &[usize],
 ) -> Result<(), AllocError>
-    requires { share_no_name (types_of columns.now) (types_of more.now) ≡ true }
-    ensures shown { OnOk result (columns_shown columns.new ≡ columns_shown columns.old ++ picked_columns rows.now (columns_shown more.now)) }
-    ensures types { OnOk result (types_of columns.new ≡ types_of columns.old ++ types_of more.now) }
+    ensures shown { OnOk result (columns_shown columns.new ≡ fold with_new_column (columns_shown columns.old) (picked_columns rows.now (columns_shown more.now))) }
+    ensures types { OnOk result (types_of columns.new ≡ fold with_new (types_of columns.old) (types_of more.now)) }
 {
     for column in more.iter() {
-        columns.with_column(picked_column(alloc, column, rows)?)?;
+        append_column(alloc, columns, column, rows)?;
     }
     Ok(())
 }
 
 /// The table of the concatenation.
 pub fn hconcat(alloc: Global, tables: &[Table]) -> Result<Table, AllocError>
-    requires { are_apart (map schema_of tables.now) ≡ true }
     ensures { (ts : List (SourceKey × TableType)) (schema : ColumnTypes) (options : HConcatOptions) → IfOk result (Gives ts (hconcat_op schema options) tables.now) }
 {
     let height = highest(tables);

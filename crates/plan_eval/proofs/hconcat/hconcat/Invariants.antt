@@ -1,15 +1,13 @@
-use Rattle.std.proofs.Common.{◌≡◌, ◌++◌, drop, map, true}
-use Rattle.plan_meaning.specs.Frames.{levelled}
-use Rattle.plan_meaning.specs.Typing.{are_apart, share_no_name, side_by_side}
+use Rattle.std.proofs.Common.{◌≡◌, [], drop, fold, map}
+use Rattle.plan_meaning.specs.Frames.{levelled, with_new_column}
+use Rattle.plan_meaning.specs.Typing.{in_a_row, side_by_side, with_new}
 use Rattle.plan_table.specs.Tables.{types_of}
 use Rattle.plan_value.specs.Shown.{columns_shown, frame_of, schema_of}
 use Rattle.plan_eval.proofs.hconcat.hconcat.Given as goal
 
--- what is there, and then the columns of the tables that are left, are all columns, and so are their types; the tables that are left are apart, and have no name that is there
+-- what is there, with the columns of the tables that are left, is what all give, and so are the types
 abbrev pub invariant-loop-table : goal.invariant-loop-table
 invariant-loop-table l = record {
-  shown : columns_shown l.columns ++ levelled l.height (map frame_of (drop l.table-index l.tables)) ≡ levelled l.height (map frame_of l.tables);
-  types : types_of l.columns ++ side_by_side (map schema_of (drop l.table-index l.tables)) ≡ side_by_side (map schema_of l.tables);
-  free : share_no_name (types_of l.columns) (side_by_side (map schema_of (drop l.table-index l.tables))) ≡ true;
-  apart : are_apart (map schema_of (drop l.table-index l.tables)) ≡ true;
+  shown : fold with_new_column (columns_shown l.columns) (levelled l.height (map frame_of (drop l.table-index l.tables))) ≡ fold with_new_column [] (levelled l.height (map frame_of l.tables));
+  types : fold with_new (types_of l.columns) (in_a_row (map schema_of (drop l.table-index l.tables))) ≡ side_by_side (map schema_of l.tables);
 }
