@@ -4,3 +4,4 @@ pub mod Follow
 mod Standing
 mod PickLemmas
 mod TestLemmas
+mod GroupTest

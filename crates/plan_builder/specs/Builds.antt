@@ -1,5 +1,5 @@
 -- Plans that a builder stands on, and the nodes that it puts on them.
-use Rattle.std.specs.Prelude.{◌≡◌, ◌++◌, List, [], ◌∷◌, length, unwrap_or}
+use Rattle.std.specs.Prelude.{◌≡◌, ◌++◌, Bool, List, [], ◌∷◌, length, unwrap_or}
 use Rattle.plan_core.specs.declared.arena.Node.{Node}
 use Rattle.plan_core.specs.declared.options.ProjectionOptions.{ProjectionOptions}
 use Rattle.plan_core.specs.Columns.{Columns}
@@ -9,8 +9,10 @@ use Rattle.plan_expr.specs.declared.expr_ir.OutputName.TheVariants.{None as Unna
 use Rattle.plan_expr.specs.Exprs.{all_named_at, expr_at}
 use Rattle.plan_expr.specs.Naming.{naming, own_output_name}
 use Rattle.plan_ir.specs.declared.ir.IR.{IR}
-use Rattle.plan_ir.specs.declared.ir.IR.TheVariants.{Select, HStack}
+use Rattle.plan_ir.specs.declared.ir.IR.TheVariants.{Select, HStack, GroupBy}
 use Rattle.plan_ir.specs.Parts.{IsPlan}
+use Rattle.plan_options.specs.declared.group.GroupbyOptions.{GroupbyOptions}
+use Rattle.plan_meaning.specs.Grouping.{group_exprs}
 use Rattle.plan_meaning.specs.PlanAt.{plan_at}
 use Rattle.plan_meaning.specs.Steps.{IsValid}
 use Rattle.plan_meaning.specs.Typing.{made_schema, schema}
@@ -47,6 +49,11 @@ selection lp ex root exprs options =
 abbrev pub addition : List IR → List AExpr → Node → List ExprIR → ProjectionOptions → IR
 addition lp ex root exprs options =
     HStack root exprs (made_schema (columns_at lp ex root) (all_named_at ex exprs) (columns_at lp ex root)) options
+
+-- the grouping by keys of the plan at a number, with what aggregates are over its groups
+abbrev pub grouping : List IR → List AExpr → Node → (keys aggs : List ExprIR) → Bool → GroupbyOptions → IR
+grouping lp ex root keys aggs ordered options =
+    GroupBy root keys aggs (made_schema [] (group_exprs (all_named_at ex keys) (all_named_at ex aggs)) (columns_at lp ex root)) ordered options
 
 -- the expression at a number, under the name that it gives itself
 abbrev pub own_expr : List AExpr → Node → ExprIR

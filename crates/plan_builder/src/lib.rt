@@ -3,6 +3,7 @@
 
 mod builder;
 mod functions;
+mod group_by;
 pub mod laws;
 mod made;
 mod simple;

@@ -4,10 +4,10 @@ ghost use Rattle.plan_expr.specs.Operands.{IsExpr};
 ghost use Rattle.plan_builder.specs.Builds.{addition, Adds, IsBuilt, MayFollow, own_expr, selection, Stays};
 
 use crate::builder::IRBuilder;
+use plan_check::made_schema;
 use plan_core::{Arena, Items, Node, ProjectionOptions, Schema, TryClone};
 use plan_expr::{AExpr, ExprIR};
 use plan_ir::IR;
-use plan_check::made_schema;
 use std::alloc::{AllocError, Global};
 
 /// The expressions at these numbers, each under the name that it gives itself. Refuses where memory is short and where one of

@@ -7,13 +7,14 @@ ghost use Rattle.plan_expr.specs.declared.expr_ir.OutputName.TheVariants.{Alias}
 ghost use Rattle.plan_ir.specs.declared.ir.IR.TheVariants.{DataFrameScan};
 
 use crate::IRBuilder;
+use plan_check::check_plan;
 use plan_core::{
     Arena, At, DataType, Items, Node, PlSmallStr, PlainType, PolarsError, PolarsResult,
     ProjectionOptions, Schema,
 };
 use plan_expr::{AExpr, ExprIR, OutputName};
 use plan_ir::{IR, UnpivotArgsIR};
-use plan_check::check_plan;
+use plan_options::GroupbyOptions;
 use std::alloc::{AllocError, Global};
 use std::test::Fail;
 
@@ -229,6 +230,24 @@ fn a_column_is_unpivoted(rt: HostRuntime) -> Result<(), Fail> {
     assert_eq!(rt; named(alloc, &schema)?.as_str(), "a variable value ");
     assert_eq!(rt; schema.get("variable"), Some(&DataType::String));
     assert_eq!(rt; schema.get("value"), Some(&DataType::Int64));
+    Ok(())
+}
+
+#[test]
+fn rows_are_grouped(rt: HostRuntime) -> Result<(), Fail> {
+    let alloc = rt.alloc();
+    let mut ex = Arena::new(alloc);
+    let key = ex.add(AExpr::Column(PlSmallStr::new(alloc, "a")?))?;
+    let agg = ex.add(AExpr::Column(PlSmallStr::new(alloc, "b")?))?;
+    let mut lp = Arena::new(alloc);
+    let mut builder = IRBuilder::from_lp(&mut lp, &ex, frame(alloc)?)?;
+    let keys = under(alloc, key, "a")?;
+    let aggs = under(alloc, agg, "b")?;
+    builder.group_by(alloc, keys, aggs, false, GroupbyOptions::default())?;
+    let schema = builder.schema(alloc)?;
+    assert_eq!(rt; named(alloc, &schema)?.as_str(), "a b ");
+    assert_eq!(rt; schema.get("a"), Some(&DataType::Int64));
+    assert_eq!(rt; schema.get("b"), Some(&DataType::List(PlainType::Int64)));
     Ok(())
 }
 

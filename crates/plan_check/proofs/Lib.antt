@@ -1,4 +1,6 @@
 -- The lemmas of this crate.
+mod ApartLemmas
+mod GroupFaults
 mod MadeLemmas
 mod ReadLemmas
 pub mod TreeFaultLemmas

@@ -17,7 +17,7 @@ or_false : (a : Bool) → (a || false) ≡ a
 or_false true = refl
 or_false false = refl
 
-has-append : (xs ys : List Name) (a : Name) → has (xs ++ ys) a ≡ (has xs a || has ys a)
+pub has-append : (xs ys : List Name) (a : Name) → has (xs ++ ys) a ≡ (has xs a || has ys a)
 has-append [] ys a = refl
 has-append (x ∷ xs) ys a = ap (λ (b : Bool). bytes_eq a x || b) (has-append xs ys a) ∙ sym (or_assoc (bytes_eq a x) (has xs a) (has ys a))
 

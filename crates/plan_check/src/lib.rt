@@ -5,6 +5,8 @@ mod columns;
 mod distinct;
 mod filter;
 mod frame_scan;
+mod group_by;
+mod hconcat;
 mod made;
 mod plan;
 mod projection;
@@ -17,6 +19,7 @@ mod union;
 
 pub use filter::check_filter;
 pub use frame_scan::check_frame_scan;
+pub use group_by::group_schema;
 pub use made::{check_made, made_schema};
 pub use plan::{check_nodes, check_plan};
 pub use projection::check_projection;

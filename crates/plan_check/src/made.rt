@@ -50,7 +50,12 @@ pub fn check_leaves(
 }
 
 /// Each expression has a type; the first expression stands at place 1.
-fn check_types(node: Node, exprs: &[ExprIR], ex: &Arena<AExpr>, schema: &Schema) -> PolarsResult<()>
+pub fn check_types(
+    node: Node,
+    exprs: &[ExprIR],
+    ex: &Arena<AExpr>,
+    schema: &Schema,
+) -> PolarsResult<()>
     requires { All (λ e. IsExpr ex.now e.node) exprs.now }
     ensures { Says result (first_fault node (type_checks (all_named_at ex.now exprs.now) schema.now)) }
 {
@@ -63,7 +68,12 @@ fn check_types(node: Node, exprs: &[ExprIR], ex: &Arena<AExpr>, schema: &Schema)
 }
 
 /// No expression has the name of one before it; the first expression stands at place 1.
-fn check_outputs(alloc: Global, node: Node, exprs: &[ExprIR], ex: &Arena<AExpr>) -> PolarsResult<()>
+pub fn check_outputs(
+    alloc: Global,
+    node: Node,
+    exprs: &[ExprIR],
+    ex: &Arena<AExpr>,
+) -> PolarsResult<()>
     ensures { Says result (first_fault node (once_checks (all_named_at ex.now exprs.now))) }
 {
     let mut before = Names::new(alloc);

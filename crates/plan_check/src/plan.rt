@@ -1,7 +1,7 @@
 //! The schema of a plan, or its first fault.
-ghost use Rattle.std.specs.Prelude.{◌≡◌, true, [], ◌∷◌, All, IfOk, None, length};
+ghost use Rattle.std.specs.Prelude.{◌≡◌, ◌||◌, true, [], ◌∷◌, All, IfOk, IsTrue, None, length};
 ghost use Rattle.plan_expr.specs.Operands.{IsExpr};
-ghost use Rattle.plan_ir.specs.Parts.{exprs_of, inputs_of, IsPlan};
+ghost use Rattle.plan_ir.specs.Parts.{exprs_of, inputs_of, is_group_by, is_sort, IsPlan};
 ghost use Rattle.plan_ir.specs.Plans.{op_at, plans_at};
 ghost use Rattle.plan_ir.specs.Reads.{is_scan};
 ghost use Rattle.plan_meaning.specs.PlanAt.{plan_at};
@@ -12,6 +12,8 @@ ghost use Rattle.plan_meaning.specs.Typed.{typed, IsNodeTyped, IsPlanTyped, IsTy
 use crate::distinct::distinct_schema;
 use crate::filter::filter_schema;
 use crate::frame_scan::frame_scan_schema;
+use crate::group_by::group_by_schema;
+use crate::hconcat::hconcat_schema;
 use crate::made::{hstack_schema, select_schema};
 use crate::projection::projection_schema;
 use crate::scan::scan_schema;
@@ -66,6 +68,45 @@ fn source_schema(alloc: Global, node: Node, entry: &IR, ex: &Arena<AExpr>) -> Po
     }
 }
 
+/// The columns of a sort or of a grouping over those of its input, or its first fault.
+fn keyed_schema(
+    alloc: Global,
+    node: Node,
+    entry: &IR,
+    ex: &Arena<AExpr>,
+    schema: Schema,
+) -> PolarsResult<Schema>
+    requires kind { IsTrue (is_sort entry.now || is_group_by entry.now) }
+    requires exprs { All (λ e. IsExpr ex.now e.node) (exprs_of entry.now) }
+    ensures { IsNodeTyped result node (op_at ex.now entry.now) (schema ∷ []) }
+{
+    match entry {
+        IR::Sort {
+            by_column,
+            slice,
+            sort_options,
+            ..
+        } => sort_schema(node, by_column.as_slice(), slice, sort_options, ex, schema),
+        IR::GroupBy {
+            keys,
+            aggs,
+            schema: stored,
+            options,
+            ..
+        } => group_by_schema(
+            alloc,
+            node,
+            keys.as_slice(),
+            aggs.as_slice(),
+            stored,
+            options,
+            ex,
+            &schema,
+        ),
+        _ => unreachable!(),
+    }
+}
+
 /// The columns of a node over those of its inputs, in order, or its first fault.
 fn node_schema(
     alloc: Global,
@@ -91,24 +132,13 @@ fn node_schema(
         IR::HStack { exprs, schema, .. } => {
             hstack_schema(alloc, node, exprs.as_slice(), schema, ex, &only(schemas))
         }
-        IR::Sort {
-            by_column,
-            slice,
-            sort_options,
-            ..
-        } => sort_schema(
-            node,
-            by_column.as_slice(),
-            slice,
-            sort_options,
-            ex,
-            only(schemas),
-        ),
+        IR::Sort { .. } | IR::GroupBy { .. } => keyed_schema(alloc, node, entry, ex, only(schemas)),
         IR::Distinct { options, .. } => distinct_schema(node, options, only(schemas)),
         IR::MapFunction { function, .. } => {
             function_schema(alloc, node, function, &only(schemas))
         }
         IR::Union { options, .. } => union_schema(node, options, schemas),
+        IR::HConcat { schema, .. } => hconcat_schema(alloc, node, schema, schemas.as_slice()),
         IR::Invalid => Err(PolarsError::ComputeError(at(node, 0))),
     }
 }

@@ -1,10 +1,12 @@
 //! The checks on one small plan, and on the same plan with a number met twice.
 use super::*;
 use plan_core::{
-    Arena, At, DataType, FileScanOptions, Items, Node, PlSmallStr, PolarsError, Schema, TryClone,
+    Arena, At, DataType, FileScanOptions, Items, Node, PlSmallStr, PlainType, PolarsError,
+    PolarsResult, Schema, TryClone,
 };
 use plan_expr::{AExpr, ExprIR, FunctionExpr, LiteralValue, Operator, OutputName};
 use plan_ir::{FileInfo, FileScan, IR, ScanSources, expr_depth, plan_depth};
+use plan_options::{GroupbyOptions, HConcatOptions};
 use std::alloc::{AllocError, Global};
 use std::test::Fail;
 
@@ -68,11 +70,15 @@ fn exprs(alloc: Global, right: usize) -> Result<Arena<AExpr>, AllocError> {
     Ok(ex)
 }
 
-fn bad_number(node: usize, place: u32) -> PolarsError {
-    PolarsError::ComputeError(At {
+fn at(node: usize, place: u32) -> At {
+    At {
         node: Some(Node(node)),
         place,
-    })
+    }
+}
+
+fn bad_number(node: usize, place: u32) -> PolarsError {
+    PolarsError::ComputeError(at(node, place))
 }
 
 #[test]
@@ -123,10 +129,7 @@ fn told_of(alloc: Global, right: AExpr) -> Result<Option<PolarsError>, AllocErro
 
 // The fault of an expression without a form, in the predicate of the small plan.
 fn no_form() -> PolarsError {
-    PolarsError::InvalidOperation(At {
-        node: Some(Node(1)),
-        place: 1,
-    })
+    PolarsError::InvalidOperation(at(1, 1))
 }
 
 #[test]
@@ -149,5 +152,77 @@ fn a_function_carries_its_own_options(rt: HostRuntime) -> Result<(), Fail> {
         options: FunctionExpr::Not.options(),
     };
     assert_eq!(rt; told_of(rt.alloc(), function)?, Some(no_form()));
+    Ok(())
+}
+
+// Column a as the key, and column b under a name: the list of its values in each group.
+fn grouping(alloc: Global, name: &str) -> Result<IR, AllocError> {
+    let mut keys = Items::new(alloc);
+    keys.push(ExprIR::new(Node(0), OutputName::ColumnLhs(text(alloc, "a")?)))?;
+    let mut aggs = Items::new(alloc);
+    aggs.push(ExprIR::new(Node(1), OutputName::Alias(text(alloc, name)?)))?;
+    let mut schema = numbers(alloc, &["a"])?;
+    schema.with_column(text(alloc, name)?, DataType::List(PlainType::Int64))?;
+    Ok(IR::GroupBy {
+        input: Node(1),
+        keys,
+        aggs,
+        schema,
+        maintain_order: true,
+        options: GroupbyOptions::default(),
+    })
+}
+
+#[test]
+fn a_grouping_gathers_values(rt: HostRuntime) -> Result<(), Fail> {
+    let alloc = rt.alloc();
+    let mut ex = Arena::new(alloc);
+    ex.add(AExpr::Column(text(alloc, "a")?))?;
+    ex.add(AExpr::Column(text(alloc, "b")?))?;
+    for (name, fault) in [("all", None), ("a", Some(PolarsError::Duplicate(at(0, 2))))] {
+        let mut lp = Arena::new(alloc);
+        lp.add(grouping(alloc, name)?)?;
+        lp.add(scan(alloc)?)?;
+        let answer = check_plan(alloc, Node(0), &lp, &ex);
+        if let Ok(schema) = &answer {
+            assert_eq!(rt; schema.len(), 2);
+            assert!(rt; schema.get(name).copied() == Some(DataType::List(PlainType::Int64)));
+        }
+        assert_eq!(rt; answer.err(), fault, "of {name}");
+    }
+    Ok(())
+}
+
+// What is told of two frames side by side, the second with this column, under the columns a and c.
+fn told_beside(alloc: Global, name: &str) -> PolarsResult<Schema> {
+    let mut inputs = Items::new(alloc);
+    inputs.push(Node(1))?;
+    inputs.push(Node(2))?;
+    let mut lp = Arena::new(alloc);
+    lp.add(IR::HConcat {
+        inputs,
+        schema: numbers(alloc, &["a", "c"])?,
+        options: HConcatOptions::default(),
+    })?;
+    for name in ["a", name] {
+        lp.add(IR::DataFrameScan {
+            df: Some(0),
+            schema: numbers(alloc, &[name])?,
+            output_schema: None,
+        })?;
+    }
+    check_plan(alloc, Node(0), &lp, &Arena::new(alloc))
+}
+
+#[test]
+fn frames_side_by_side_share_no_name(rt: HostRuntime) -> Result<(), Fail> {
+    let alloc = rt.alloc();
+    assert!(rt; told_beside(alloc, "c")? == numbers(alloc, &["a", "c"])?);
+    for (name, fault) in [
+        ("a", PolarsError::Duplicate(at(0, 0))),
+        ("b", PolarsError::SchemaMismatch(at(0, 0))),
+    ] {
+        assert_eq!(rt; told_beside(alloc, name).err(), Some(fault), "of {name}");
+    }
     Ok(())
 }

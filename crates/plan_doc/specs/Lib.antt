@@ -5,6 +5,7 @@ pub mod Parts
 pub mod Built
 pub mod Exprs
 pub mod Functions
+pub mod Scans
 pub mod Nodes
 pub mod Tables
 pub mod Document

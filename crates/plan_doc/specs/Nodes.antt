@@ -2,16 +2,9 @@
 use Rattle.std.specs.Prelude.{ℕ, List, [], ◌∷◌, true, Option, Some, None, if◌then◌else◌, codes, bytes_eq}
 use Rattle.serde_json.specs.Data.{Data}
 use Rattle.serde_json.specs.Find.{get}
-use Rattle.plan_core.specs.Options.{default_scan}
-use Rattle.plan_core.specs.declared.options.FileScanOptions.{FileScanOptions}
 use Rattle.plan_core.specs.declared.options.ProjectionOptions.{ProjectionOptions}
 use Rattle.plan_core.specs.Columns.{Columns}
 use Rattle.plan_expr.specs.declared.expr_ir.ExprIR.{ExprIR}
-use Rattle.plan_ir.specs.declared.scan.FileScan.{FileScan}
-use Rattle.plan_ir.specs.declared.scan.FileScan.TheVariants as kinds
-use Rattle.plan_ir.specs.declared.scan.ScanSources.{ScanSources}
-use Rattle.plan_ir.specs.declared.scan.ScanSources.TheVariants as sources
-use Rattle.plan_ir.specs.declared.scan.FileInfo.{FileInfo}
 use Rattle.plan_ir.specs.declared.ir.IR.{IR}
 use Rattle.plan_ir.specs.declared.ir.IR.TheVariants as nodes
 use Rattle.plan_options.specs.declared.distinct.DistinctOptionsIR.{DistinctOptionsIR}
@@ -22,8 +15,8 @@ use Rattle.plan_options.specs.declared.sort.SortMultipleOptions.{SortMultipleOpt
 use Rattle.plan_options.specs.declared.union.UnionOptions.{UnionOptions}
 use Rattle.plan_options.specs.Union.{default_union}
 use Rattle.plan_doc.specs.Parts.{◌>>=◌, object_of, nullable, name_of, number_of, link_of, links_of, integer_of, truth_of, truths_of, names_of, columns_of, output_of, outputs_of, slice_of, options_of}
-use Rattle.plan_doc.specs.Built.{one_path, null_fields}
 use Rattle.plan_doc.specs.Functions.{frame_function_of}
+use Rattle.plan_doc.specs.Scans.{frame_scan_of, scan_of}
 
 -- some rows of the input, one after another
 unfoldable pub slice_node_of : Data → Option IR
@@ -118,6 +111,34 @@ sort_of d = do
   options ← sort_options_of o
   Some (nodes.Sort i ks s options)
 
+-- the keys of a grouping's object
+unfoldable pub group_by_keys : List (List ℕ)
+group_by_keys = codes "aggs" ∷ codes "input" ∷ codes "keys" ∷ codes "maintain_order" ∷ codes "op" ∷ codes "schema" ∷ codes "slice" ∷ []
+
+-- the keys, the aggregates and the columns of a grouping
+unfoldable pub grouped_of : Data → Option (List ExprIR × List ExprIR × Columns)
+grouped_of o = do
+  keys ← get (codes "keys") o
+  ks ← outputs_of keys
+  aggs ← get (codes "aggs") o
+  others ← outputs_of aggs
+  schema ← get (codes "schema") o
+  s ← columns_of schema
+  Some (ks, others, s)
+
+-- a row for each group of rows that have the same keys
+unfoldable pub group_by_of : Data → Option IR
+group_by_of d = do
+  o ← object_of group_by_keys d
+  input ← get (codes "input") o
+  i ← link_of input
+  g ← grouped_of o
+  maintain_order ← get (codes "maintain_order") o
+  m ← truth_of maintain_order
+  slice ← get (codes "slice") o
+  s ← nullable slice_of slice
+  Some (nodes.GroupBy i g.0 g.1 g.2 m (record { slice = s }))
+
 -- which row of those that are the same is kept, as a text names it
 unfoldable pub keep_named : List ℕ → Option UniqueKeepStrategy
 keep_named s =
@@ -204,6 +225,18 @@ union_of d = do
   options ← union_options_of o
   Some (nodes.Union is options)
 
+-- the columns of the inputs, however many, side by side
+unfoldable pub hconcat_of : Data → Option IR
+hconcat_of d = do
+  o ← object_of (codes "inputs" ∷ codes "op" ∷ codes "parallel" ∷ codes "schema" ∷ []) d
+  inputs ← get (codes "inputs") o
+  is ← links_of inputs
+  schema ← get (codes "schema") o
+  s ← columns_of schema
+  parallel ← get (codes "parallel") o
+  p ← truth_of parallel
+  Some (nodes.HConcat is s (record { parallel = p }))
+
 -- the input, whose rows are kept for all caches of one number
 unfoldable pub cache_of : Data → Option IR
 cache_of d = do
@@ -216,85 +249,11 @@ cache_of d = do
   h ← number_of hits
   Some (nodes.Cache i n h)
 
--- the columns of a frame that is handed in
-unfoldable pub frame_scan_of : Data → Option IR
-frame_scan_of d = do
-  o ← object_of (codes "frame" ∷ codes "op" ∷ codes "output" ∷ codes "schema" ∷ []) d
-  frame ← get (codes "frame") o
-  n ← nullable number_of frame
-  schema ← get (codes "schema") o
-  s ← columns_of schema
-  output ← get (codes "output") o
-  out ← nullable columns_of output
-  Some (nodes.DataFrameScan n s out)
-
 -- what a node leaves behind that was taken
 unfoldable pub invalid_of : Data → Option IR
 invalid_of d = do
   o ← object_of (codes "op" ∷ []) d
   Some nodes.Invalid
-
--- the format of the files
-unfoldable pub kind_of : Data → Option FileScan
-kind_of d = do
-  s ← name_of d
-  if bytes_eq s (codes "Parquet") then Some kinds.Parquet else None
-
--- an object of paths
-unfoldable pub sources_of : Data → Option ScanSources
-sources_of d = do
-  o ← object_of (codes "paths" ∷ []) d
-  paths ← get (codes "paths") o
-  ps ← names_of paths
-  one ← one_path ps
-  Some (sources.Paths one)
-
--- where the files are, and their format
-unfoldable pub files_of : Data → Option (ScanSources × FileScan)
-files_of o = do
-  kind ← get (codes "kind") o
-  k ← kind_of kind
-  paths ← get (codes "sources") o
-  ps ← sources_of paths
-  Some (ps, k)
-
--- what the files hold
-unfoldable pub file_info_of : Data → Option FileInfo
-file_info_of o = do
-  schema ← get (codes "schema") o
-  s ← columns_of schema
-  reader ← get (codes "reader") o
-  r ← nullable columns_of reader
-  Some (record { schema = s; reader_schema = r })
-
--- what is read of the files; the rest is as by default
-unfoldable pub file_options_of : Data → Option FileScanOptions
-file_options_of o = do
-  columns ← get (codes "columns") o
-  c ← nullable names_of columns
-  rechunk ← get (codes "rechunk") o
-  r ← truth_of rechunk
-  slice ← get (codes "slice") o
-  s ← nullable slice_of slice
-  Some (record default_scan { slice = s; with_columns = c; rechunk = r })
-
--- the keys of a scan
-unfoldable pub scan_keys : List (List ℕ)
-scan_keys = codes "columns" ∷ codes "hive" ∷ codes "kind" ∷ codes "op" ∷ codes "output" ∷ codes "path_column" ∷ codes "predicate" ∷ codes "reader" ∷ codes "rechunk" ∷ codes "row_index" ∷ codes "schema" ∷ codes "slice" ∷ codes "sources" ∷ []
-
--- rows of files
-unfoldable pub scan_of : Data → Option IR
-scan_of d = do
-  o ← object_of scan_keys d
-  nothing ← null_fields o
-  files ← files_of o
-  output ← get (codes "output") o
-  out ← nullable columns_of output
-  predicate ← get (codes "predicate") o
-  p ← nullable output_of predicate
-  info ← file_info_of o
-  options ← file_options_of o
-  Some (nodes.Scan files.0 info p out files.1 options)
 
 -- the node of an entry
 unfoldable pub node_of : Data → Option IR
@@ -309,9 +268,11 @@ node_of d = do
       if bytes_eq s (codes "Select") then select_of d else (
       if bytes_eq s (codes "HStack") then hstack_of d else (
       if bytes_eq s (codes "Sort") then sort_of d else (
+      if bytes_eq s (codes "GroupBy") then group_by_of d else (
       if bytes_eq s (codes "Distinct") then distinct_of d else (
       if bytes_eq s (codes "MapFunction") then map_function_of d else (
       if bytes_eq s (codes "Sink") then sink_of d else (
       if bytes_eq s (codes "Union") then union_of d else (
+      if bytes_eq s (codes "HConcat") then hconcat_of d else (
       if bytes_eq s (codes "Cache") then cache_of d else (
-      if bytes_eq s (codes "Invalid") then invalid_of d else None)))))))))))))
+      if bytes_eq s (codes "Invalid") then invalid_of d else None)))))))))))))))

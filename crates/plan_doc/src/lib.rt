@@ -10,6 +10,7 @@ mod functions;
 mod nodes;
 mod optional;
 mod parts;
+mod scans;
 mod tables;
 
 pub use document::{Document, ReadError, read_document};

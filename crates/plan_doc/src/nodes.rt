@@ -3,23 +3,22 @@ ghost use Rattle.std.specs.Prelude.{◌≡◌};
 ghost use Rattle.serde_json.specs.View.{view};
 ghost use Rattle.plan_doc.specs.Gives.{Gives, Shows};
 ghost use Rattle.plan_doc.specs.Parts.{object_of};
-ghost use Rattle.plan_doc.specs.Nodes.{slice_node_of, filter_of, simple_projection_of, made_keys, made_of, select_of, hstack_of, sort_keys, sort_options_of, sort_of, keep_of, distinct_keys, distinct_options_of, distinct_of, map_function_of, sink_of, union_keys, union_options_of, union_of, cache_of, frame_scan_of, invalid_of, kind_of, sources_of, files_of, file_info_of, file_options_of, scan_keys, scan_of, node_of};
+ghost use Rattle.plan_doc.specs.Nodes.{slice_node_of, filter_of, simple_projection_of, made_keys, made_of, select_of, hstack_of, sort_keys, sort_options_of, sort_of, group_by_keys, grouped_of, group_by_of, keep_of, distinct_keys, distinct_options_of, distinct_of, map_function_of, sink_of, union_keys, union_options_of, union_of, hconcat_of, cache_of, invalid_of, node_of};
 
-use crate::built::{null_fields, one_path};
 use crate::fault::Fault;
 use crate::functions::frame_function;
-use crate::optional::{
-    optional_columns, optional_names, optional_number, optional_output, optional_slice,
-};
+use crate::optional::{optional_names, optional_slice};
 use crate::parts::{
-    columns, field, integer, link, links, names, number, object, options, output, outputs, text,
-    truth, truths,
+    columns, field, integer, link, links, number, object, options, output, outputs, text, truth,
+    truths,
 };
-use plan_core::{FileScanOptions, Items, ProjectionOptions, Schema};
+use crate::scans::{frame_scan, scan};
+use plan_core::{Items, ProjectionOptions, Schema};
 use plan_expr::ExprIR;
-use plan_ir::{FileInfo, FileScan, IR, ScanSources};
+use plan_ir::IR;
 use plan_options::{
-    DistinctOptionsIR, SinkType, SortMultipleOptions, UnionOptions, UniqueKeepStrategy,
+    DistinctOptionsIR, GroupbyOptions, HConcatOptions, SinkType, SortMultipleOptions, UnionOptions,
+    UniqueKeepStrategy,
 };
 use serde_json::Value;
 use std::alloc::Global;
@@ -163,6 +162,56 @@ fn sort(alloc: Global, value: &Value) -> Result<IR, Fault>
     })
 }
 
+/// An object with the keys of a grouping and no other.
+#[tactic(auto, unfolding(crate::specs::Nodes::group_by_keys))]
+fn group_by_object(value: &Value) -> Result<&Value, Fault>
+    ensures { Shows (λ v. view v.now) result (object_of group_by_keys (view value.now)) }
+{
+    object(
+        value,
+        &[
+            "aggs",
+            "input",
+            "keys",
+            "maintain_order",
+            "op",
+            "schema",
+            "slice",
+        ],
+    )
+}
+
+/// The keys, the aggregates and the columns of a grouping.
+#[tactic(auto, unfolding(crate::specs::Nodes::grouped_of))]
+fn grouped(alloc: Global, object: &Value) -> Result<(Items<ExprIR>, Items<ExprIR>, Schema), Fault>
+    ensures { Gives result (grouped_of (view object.now)) }
+{
+    let keys = outputs(alloc, field(object, "keys")?)?;
+    let aggs = outputs(alloc, field(object, "aggs")?)?;
+    let schema = columns(alloc, field(object, "schema")?)?;
+    Ok((keys, aggs, schema))
+}
+
+/// The grouping of an entry.
+#[tactic(auto, unfolding(crate::specs::Nodes::group_by_of))]
+fn group_by(alloc: Global, value: &Value) -> Result<IR, Fault>
+    ensures { Gives result (group_by_of (view value.now)) }
+{
+    let object = group_by_object(value)?;
+    let input = link(field(object, "input")?)?;
+    let (keys, aggs, schema) = grouped(alloc, object)?;
+    let maintain_order = truth(field(object, "maintain_order")?)?;
+    let slice = optional_slice(field(object, "slice")?)?;
+    Ok(IR::GroupBy {
+        input,
+        keys,
+        aggs,
+        schema,
+        maintain_order,
+        options: GroupbyOptions { slice },
+    })
+}
+
 /// Which row of those that are the same is kept, by its name.
 #[tactic(auto, unfolding(crate::specs::Nodes::keep_of, crate::specs::Nodes::keep_named))]
 fn keep(value: &Value) -> Result<UniqueKeepStrategy, Fault>
@@ -290,6 +339,22 @@ fn union(alloc: Global, value: &Value) -> Result<IR, Fault>
     Ok(IR::Union { inputs, options })
 }
 
+/// The concatenation side by side of an entry, however many its inputs are.
+#[tactic(auto, unfolding(crate::specs::Nodes::hconcat_of))]
+fn hconcat(alloc: Global, value: &Value) -> Result<IR, Fault>
+    ensures { Gives result (hconcat_of (view value.now)) }
+{
+    let object = object(value, &["inputs", "op", "parallel", "schema"])?;
+    let inputs = links(alloc, field(object, "inputs")?)?;
+    let schema = columns(alloc, field(object, "schema")?)?;
+    let parallel = truth(field(object, "parallel")?)?;
+    Ok(IR::HConcat {
+        inputs,
+        schema,
+        options: HConcatOptions { parallel },
+    })
+}
+
 /// The cache of an entry.
 #[tactic(auto, unfolding(crate::specs::Nodes::cache_of))]
 fn cache(value: &Value) -> Result<IR, Fault>
@@ -306,22 +371,6 @@ fn cache(value: &Value) -> Result<IR, Fault>
     })
 }
 
-/// The scan of a frame of an entry.
-#[tactic(auto, unfolding(crate::specs::Nodes::frame_scan_of))]
-fn frame_scan(alloc: Global, value: &Value) -> Result<IR, Fault>
-    ensures { Gives result (frame_scan_of (view value.now)) }
-{
-    let object = object(value, &["frame", "op", "output", "schema"])?;
-    let df = optional_number(field(object, "frame")?)?;
-    let schema = columns(alloc, field(object, "schema")?)?;
-    let output_schema = optional_columns(alloc, field(object, "output")?)?;
-    Ok(IR::DataFrameScan {
-        df,
-        schema,
-        output_schema,
-    })
-}
-
 /// The entry that stands for no node.
 #[tactic(auto, unfolding(crate::specs::Nodes::invalid_of))]
 fn invalid(value: &Value) -> Result<IR, Fault>
@@ -329,114 +378,6 @@ fn invalid(value: &Value) -> Result<IR, Fault>
 {
     let _ = object(value, &["op"])?;
     Ok(IR::Invalid)
-}
-
-/// The file format of a name.
-#[tactic(auto, unfolding(crate::specs::Nodes::kind_of))]
-fn kind(value: &Value) -> Result<FileScan, Fault>
-    ensures { Gives result (kind_of (view value.now)) }
-{
-    match text(value)? {
-        "Parquet" => Ok(FileScan::Parquet),
-        _ => Err(Fault::Form),
-    }
-}
-
-/// The sources of a scan: the paths of an object.
-#[tactic(auto, unfolding(crate::specs::Nodes::sources_of))]
-fn sources(alloc: Global, value: &Value) -> Result<ScanSources, Fault>
-    ensures { Gives result (sources_of (view value.now)) }
-{
-    let object = object(value, &["paths"])?;
-    let paths = one_path(names(alloc, field(object, "paths")?)?)?;
-    Ok(ScanSources::Paths(paths))
-}
-
-/// Where the files are, and their format.
-#[tactic(auto, unfolding(crate::specs::Nodes::files_of))]
-fn files(alloc: Global, object: &Value) -> Result<(ScanSources, FileScan), Fault>
-    ensures { Gives result (files_of (view object.now)) }
-{
-    let kind = kind(field(object, "kind")?)?;
-    let sources = sources(alloc, field(object, "sources")?)?;
-    Ok((sources, kind))
-}
-
-/// The columns of a scan's files, from the object of the scan.
-#[tactic(auto, unfolding(crate::specs::Nodes::file_info_of))]
-fn file_info(alloc: Global, object: &Value) -> Result<FileInfo, Fault>
-    ensures { Gives result (file_info_of (view object.now)) }
-{
-    let schema = columns(alloc, field(object, "schema")?)?;
-    let reader_schema = optional_columns(alloc, field(object, "reader")?)?;
-    Ok(FileInfo {
-        schema,
-        reader_schema,
-    })
-}
-
-/// The options of a scan, from the object of the scan; those that a document can't say are the default ones.
-#[tactic(auto, unfolding(crate::specs::Nodes::file_options_of))]
-fn file_options(alloc: Global, object: &Value) -> Result<FileScanOptions, Fault>
-    ensures { Gives result (file_options_of (view object.now)) }
-{
-    let with_columns = optional_names(alloc, field(object, "columns")?)?;
-    let rechunk = truth(field(object, "rechunk")?)?;
-    let slice = optional_slice(field(object, "slice")?)?;
-    Ok(FileScanOptions {
-        slice,
-        with_columns,
-        rechunk,
-        ..FileScanOptions::default()
-    })
-}
-
-/// An object with the keys of a scan and no other.
-#[tactic(auto, unfolding(crate::specs::Nodes::scan_keys))]
-fn scan_object(value: &Value) -> Result<&Value, Fault>
-    ensures { Shows (λ v. view v.now) result (object_of scan_keys (view value.now)) }
-{
-    object(
-        value,
-        &[
-            "columns",
-            "hive",
-            "kind",
-            "op",
-            "output",
-            "path_column",
-            "predicate",
-            "reader",
-            "rechunk",
-            "row_index",
-            "schema",
-            "slice",
-            "sources",
-        ],
-    )
-}
-
-/// The scan of an entry.
-#[tactic(auto, unfolding(crate::specs::Nodes::scan_of))]
-fn scan(alloc: Global, value: &Value) -> Result<IR, Fault>
-    ensures { Gives result (scan_of (view value.now)) }
-{
-    let object = scan_object(value)?;
-    null_fields(object)?;
-    let (sources, scan_type) = files(alloc, object)?;
-    let output_value = field(object, "output")?;
-    let output_schema = optional_columns(alloc, output_value)?;
-    let predicate = optional_output(alloc, field(object, "predicate")?)?;
-    let file_info = file_info(alloc, object)?;
-    let file_options = file_options(alloc, object)?;
-    Ok(IR::Scan {
-        sources,
-        file_info,
-        predicate,
-        output_schema,
-        scan_type,
-        file_options,
-    })
 }
 
 /// The node of an entry, by its `op`.
@@ -453,10 +394,12 @@ pub fn node(alloc: Global, value: &Value) -> Result<IR, Fault>
         "Select" => select(alloc, value),
         "HStack" => hstack(alloc, value),
         "Sort" => sort(alloc, value),
+        "GroupBy" => group_by(alloc, value),
         "Distinct" => distinct(alloc, value),
         "MapFunction" => map_function(alloc, value),
         "Sink" => sink(value),
         "Union" => union(alloc, value),
+        "HConcat" => hconcat(alloc, value),
         "Cache" => cache(value),
         "Invalid" => invalid(value),
         _ => Err(Fault::Form),

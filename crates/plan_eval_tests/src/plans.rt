@@ -1,6 +1,7 @@
 //! Small plans, and what they give over small tables.
 
 use crate::tables::{add, table};
+use plan_check::check_plan;
 use plan_core::{
     Arena, DataType, FileScanOptions, Items, Node, PlSmallStr, ProjectionOptions, Schema, TryClone,
 };
@@ -8,7 +9,6 @@ use plan_eval::evaluate;
 use plan_expr::{AExpr, ExprIR, LiteralValue, Operator, OutputName};
 use plan_fit::fits;
 use plan_ir::{FileInfo, FileScan, IR, ScanSources};
-use plan_check::check_plan;
 use plan_table::{AnyValue, SourceKey, Table, Tables};
 use std::alloc::{AllocError, Global};
 

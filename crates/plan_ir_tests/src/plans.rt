@@ -1,10 +1,10 @@
 //! Parts, copies and reads of a small plan: a projection to a over a filter b > 1 over a scan of a, b and c.
 
 use crate::made::{filter, greater, projection, scan, texts, union};
+use plan_check::check_tree;
 use plan_core::{Arena, Items, Node, PlSmallStr, PolarsError, TryClone};
 use plan_expr::{AExpr, LiteralValue};
 use plan_ir::{ArenaLpIter, IR, PlanCopy, reads, renumbered, scan_reads};
-use plan_check::check_tree;
 use plan_tree::{Step, walk};
 use std::alloc::{AllocError, Global};
 use std::test::Fail;

@@ -1,11 +1,12 @@
 -- Groupings: aggregates with one value for a group, their names, leaves and types.
-use Rattle.std.proofs.Common.{◌≡◌, Bool, true, false, cond, List, [], ◌∷◌, ◌++◌, map, Option, Some, None, is_some, unwrap_or, refl, sym, ap, ap₂, ◌∙◌, subst, append-nil}
+use Rattle.std.proofs.Common.{◌≡◌, Bool, true, false, cond, List, [], ◌∷◌, ◌++◌, map, Option, Some, None, is_some, unwrap_or, refl, sym, ap, ap₂, ◌∙◌, subst, append-nil, append_assoc, inl, inr, ◌⊎◌, ⊎_elim}
 use Rattle.std.specs.Prelude.{option_and_then}
 use Rattle.std.specs.List.{AllByRecursion}
 use Rattle.std.proofs.lemmas.List.{map-append}
 use Rattle.plan_core.specs.declared.data_type.DataType.{DataType}
 use Rattle.plan_core.specs.declared.data_type.DataType.TheVariants as types
 use Rattle.plan_core.specs.Columns.{Columns, with_types}
+use Rattle.plan_core.specs.Names.{has}
 use Rattle.plan_tree.specs.Rose.{Roses, rose, no_roses, more}
 use Rattle.plan_expr.specs.declared.agg.Aggregate.TheVariants.{Implode}
 use Rattle.plan_expr.specs.Exprs.{ExprOp, aggregate, window, Expr, Named}
@@ -18,6 +19,7 @@ use Rattle.plan_meaning.specs.Grouping.{gathered, gathered_expr, group_exprs, na
 use Rattle.plan_meaning.specs.Typing.{made_column, made_schema, out_names}
 use Rattle.plan_meaning.specs.Relating.{Asked}
 use Rattle.plan_meaning.specs.Asked.{is_asked, kept_exprs, all_leaves}
+use Rattle.plan_meaning.proofs.NameSets.{has_front, has_back, has_either}
 
 -- what holds of each of two lists' items holds of each list's
 pub all_front : {X : Type 0} (P : X → Type 0) (xs ys : List X) → AllByRecursion P (xs ++ ys) → AllByRecursion P xs
@@ -41,6 +43,53 @@ gathered-leaves e = at (is_scalar e)
 pub gathered_known : (aggs : List Named) (s : Columns) → AllByRecursion (λ (e : Named). all_known (leaves e.expr) s ≡ true) (map gathered aggs) → AllByRecursion (λ (e : Named). all_known (leaves e.expr) s ≡ true) aggs
 gathered_known [] s h = tt
 gathered_known (e ∷ aggs) s h = (ap (λ (l : List Name). all_known l s) (sym (gathered-leaves e.expr)) ∙ h.0, gathered_known aggs s h.1)
+
+-- the leaves of two lists of expressions, one after the other
+pub leaves-join : (xs ys : List Named) → all_leaves (xs ++ ys) ≡ all_leaves xs ++ all_leaves ys
+leaves-join [] ys = refl
+leaves-join (e ∷ xs) ys = ap (λ (l : List Name). leaves e.expr ++ l) (leaves-join xs ys) ∙ sym (append_assoc (leaves e.expr) (all_leaves xs) (all_leaves ys))
+
+all-gathered : (aggs : List Named) → all_leaves (map gathered aggs) ≡ all_leaves aggs
+all-gathered [] = refl
+all-gathered (e ∷ aggs) = ap₂ (λ (l m : List Name). l ++ m) (gathered-leaves e.expr) (all-gathered aggs)
+
+-- what a grouping's expressions read, its keys and its aggregates read
+pub group_reads : (keys aggs : List Named) (b : Name) → has (all_leaves (group_exprs keys aggs)) b ≡ true → has (all_leaves (aggs ++ keys)) b ≡ true
+group_reads keys aggs b i =
+    subst (λ (l : List Name). has l b ≡ true) (sym (leaves-join aggs keys))
+    (⊎_elim
+    (λ (j : has (all_leaves keys) b ≡ true). has_back (all_leaves aggs) (all_leaves keys) b j)
+    (λ (j : has (all_leaves (map gathered aggs)) b ≡ true). has_front (all_leaves aggs) (all_leaves keys) b (subst (λ (l : List Name). has l b ≡ true) (all-gathered aggs) j))
+    (has_either (all_leaves keys) (all_leaves (map gathered aggs)) b (subst (λ (l : List Name). has l b ≡ true) (leaves-join keys (map gathered aggs)) i)))
+
+nameless-leaves : (keys : List Named) → leaves_all (nameless keys) ≡ all_leaves keys
+nameless-leaves [] = refl
+nameless-leaves (e ∷ keys) = ap (λ (l : List Name). leaves e.expr ++ l) (nameless-leaves keys)
+
+over_reads : (keys aggs : List Named) (b : Name) → has (all_leaves (map (over_keys keys) aggs)) b ≡ true → (has (all_leaves aggs) b ≡ true) ⊎ (has (all_leaves keys) b ≡ true)
+over_reads keys [] b i = cc
+over_reads keys (e ∷ aggs) b i = ⊎_elim
+    (λ (j : has (leaves (gathered_expr e.expr) ++ leaves_all (nameless keys)) b ≡ true). ⊎_elim
+    (λ (k : has (leaves (gathered_expr e.expr)) b ≡ true). inl (has_front (leaves e.expr) (all_leaves aggs) b (subst (λ (l : List Name). has l b ≡ true) (gathered-leaves e.expr) k)))
+    (λ (k : has (leaves_all (nameless keys)) b ≡ true). inr (subst (λ (l : List Name). has l b ≡ true) (nameless-leaves keys) k))
+    (has_either (leaves (gathered_expr e.expr)) (leaves_all (nameless keys)) b j))
+    (λ (j : has (all_leaves (map (over_keys keys) aggs)) b ≡ true). ⊎_elim
+    (λ (k : has (all_leaves aggs) b ≡ true). inl (has_back (leaves e.expr) (all_leaves aggs) b k))
+    (λ (k : has (all_leaves keys) b ≡ true). inr k)
+    (over_reads keys aggs b j))
+    (has_either (leaves (gathered_expr e.expr) ++ leaves_all (nameless keys)) (all_leaves (map (over_keys keys) aggs)) b i)
+
+-- and no more is read in each row
+pub row_reads : (keys aggs : List Named) (b : Name) → has (all_leaves (row_exprs keys aggs)) b ≡ true → has (all_leaves (aggs ++ keys)) b ≡ true
+row_reads keys aggs b i =
+    subst (λ (l : List Name). has l b ≡ true) (sym (leaves-join aggs keys))
+    (⊎_elim
+    (λ (j : has (all_leaves keys) b ≡ true). has_back (all_leaves aggs) (all_leaves keys) b j)
+    (λ (j : has (all_leaves (map (over_keys keys) aggs)) b ≡ true). ⊎_elim
+    (λ (k : has (all_leaves aggs) b ≡ true). has_front (all_leaves aggs) (all_leaves keys) b k)
+    (λ (k : has (all_leaves keys) b ≡ true). has_back (all_leaves aggs) (all_leaves keys) b k)
+    (over_reads keys aggs b j))
+    (has_either (all_leaves keys) (all_leaves (map (over_keys keys) aggs)) b (subst (λ (l : List Name). has l b ≡ true) (leaves-join keys (map (over_keys keys) aggs)) i)))
 
 -- names
 

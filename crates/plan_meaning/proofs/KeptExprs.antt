@@ -101,7 +101,7 @@ distinct_join (x ∷ xs) ys d e apart = (
 )
 
 -- the names of kept expressions are the names that are asked
-names-kept : (a : Asked) (es : List Named) → out_names (kept_exprs a es) ≡ only_where (is_asked a) (out_names es)
+pub names-kept : (a : Asked) (es : List Named) → out_names (kept_exprs a es) ≡ only_where (is_asked a) (out_names es)
 names-kept a [] = refl
 names-kept a (e ∷ es) = at (is_asked a (name_of e.name)) (names-kept a es)
   where
@@ -127,7 +127,7 @@ distinct_first (e ∷ es) = at (is_scalar e.expr) (distinct_first es)
     at true r = r
     at false r = (tt, tt)
 
-names-join : (xs ys : List Named) → out_names (xs ++ ys) ≡ out_names xs ++ out_names ys
+pub names-join : (xs ys : List Named) → out_names (xs ++ ys) ≡ out_names xs ++ out_names ys
 names-join [] ys = refl
 names-join (x ∷ xs) ys = ap (λ (l : List Name). name_of x.name ∷ l) (names-join xs ys)
 

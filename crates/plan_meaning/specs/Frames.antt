@@ -120,9 +120,13 @@ highest fs = fold max 0 (map (λ (f : Frame). f.height) fs)
 abbrev pub levelled : ℕ → List Frame → List Column
 levelled h fs = flat_map (λ (f : Frame). picked_columns (range_with_len 0 h) f.columns) fs
 
--- frames beside one another, as high as the highest; the others have null in the rows that they lack
+-- columns, and one more where none of them has its name
+abbrev pub with_new_column : List Column → Column → List Column
+with_new_column cs c = if has (column_names cs) c.name then cs else cs ++ c ∷ []
+
+-- frames beside one another, as high as the highest: their columns in a row, of each name the first, with null in the rows that a frame lacks
 abbrev pub beside : List Frame → Frame
-beside fs = record { height = highest fs; columns = levelled (highest fs) fs }
+beside fs = record { height = highest fs; columns = fold with_new_column [] (levelled (highest fs) fs) }
 
 -- two frames of one height: each of these columns of the second is in the first, as it is called there
 pub record AgreeBy (now : Name → Name) (names : List Name) (f g : Frame) : Type 0 where

@@ -1,5 +1,5 @@
 -- Which plans are valid: the schema of a plan, and the checks on its nodes in the order in which faults are told.
-use Rattle.std.specs.Prelude.{◌≡◌, ℕ, ℤ, suc, ◌==◌, min, Bool, true, false, not, ◌&&◌, ◌||◌, List, [], ◌∷◌, ◌++◌, map, length, Option, Some, None, is_some, unwrap_or, if◌then◌else◌, Result, Ok, Err}
+use Rattle.std.specs.Prelude.{◌≡◌, ℕ, ℤ, suc, ◌==◌, min, Bool, true, false, not, ◌&&◌, ◌||◌, List, [], ◌∷◌, ◌++◌, map, fold, length, Option, Some, None, is_some, unwrap_or, if◌then◌else◌, Result, Ok, Err}
 use Rattle.std.specs.List.{list_all}
 use Rattle.plan_core.specs.declared.arena.Node.{Node}
 use Rattle.plan_core.specs.declared.error.At.{At}
@@ -53,10 +53,18 @@ made_column s e = (name_of e.name, unwrap_or (expr_type e.expr s) types.Int64)
 abbrev pub made_schema : Columns → List Named → Columns → Columns
 made_schema base es s = with_types base (map (made_column s) es)
 
--- columns beside one another, in order
+-- the columns of inputs, those of one after those of another
+abbrev pub in_a_row : List Columns → Columns
+in_a_row [] = []
+in_a_row (s ∷ ss) = s ++ in_a_row ss
+
+-- columns, and one more where none of them has its name
+abbrev pub with_new : Columns → Name × DataType → Columns
+with_new s c = if has (names_of s) c.0 then s else s ++ c ∷ []
+
+-- inputs beside one another: their columns in a row, of each name the first
 abbrev pub side_by_side : List Columns → Columns
-side_by_side [] = []
-side_by_side (s ∷ ss) = s ++ side_by_side ss
+side_by_side ss = fold with_new [] (in_a_row ss)
 
 -- the columns of a node, from those of its inputs
 abbrev pub schema_by : Op → List Columns → Columns
@@ -344,7 +352,7 @@ share_no_name s t = list_all (λ (a : Name). not (has (names_of t) a)) (names_of
 -- no two of several have a column of one name
 unfoldable pub are_apart : List Columns → Bool
 are_apart [] = true
-are_apart (s ∷ ss) = share_no_name s (side_by_side ss) && are_apart ss
+are_apart (s ∷ ss) = share_no_name s (in_a_row ss) && are_apart ss
 
 -- the checks where a node has no inputs; else one that fails
 abbrev pub with_none : List Columns → List Check → List Check

@@ -1,21 +1,21 @@
 -- Lists of asked names, of which none stands for everything, against what is asked.
-use Rattle.std.proofs.Common.{◌≡◌, false, List, [], ◌∷◌, Option, refl, sym, ap, ◌∙◌, subst}
+use Rattle.std.proofs.Common.{◌≡◌, false, List, [], ◌∷◌, map, Option, refl, sym, ap, ap₂, ◌∙◌, subst}
 use Rattle.plan_core.specs.Columns.{Columns, names_of}
 use Rattle.plan_core.specs.Names.{with_names}
 use Rattle.plan_tree.specs.Rose.{Roses, rose, no_roses, more}
 use Rattle.plan_expr.specs.Exprs.{Named}
 use Rattle.plan_ir.specs.declared.functions.FunctionIR.{FunctionIR}
-use Rattle.plan_ir.specs.Plans.{Op, slice, filter, scan, frame_scan, simple_projection, select, hstack, sort, distinct, map_function, sink, union, cache, invalid}
+use Rattle.plan_ir.specs.Plans.{Op, slice, filter, scan, frame_scan, simple_projection, select, hstack, sort, group_by, distinct, map_function, sink, union, hconcat, cache, invalid}
 use Rattle.plan_meaning.specs.Typing.{is_empty, names_or, first_schema, schema_by, schemas, checks, AllHold, AllValid}
 use Rattle.plan_meaning.specs.Relating.{Asked, all, names, cached}
-use Rattle.plan_meaning.specs.Asked.{set_of, with_more, asks_columns, kept_exprs, selected_exprs, all_leaves, needed_names, asks_selected, asks_added, asks_stacked, asks_function, asks_alike, asks as asks_of, IsFair}
+use Rattle.plan_meaning.specs.Asked.{set_of, with_more, asks_columns, kept_exprs, selected_exprs, all_leaves, needed_names, asks_selected, asks_added, asks_stacked, asks_function, asks_grouped, asks_held, grouping_names, asks_alike, asks as asks_of, IsFair}
 use Rattle.plan_meaning.specs.Asked as asked
 use Rattle.plan_meaning.specs.Counting.{is_closed, stand_ins, first_stand_in}
 use Rattle.plan_meaning.proofs.NameSets.{has_first, keeps_names}
 use Rattle.plan_meaning.proofs.StandIns.{are_stand_ins}
 use Rattle.plan_meaning.proofs.Fairness.{some_name, fair_asks, FairAll}
 use Rattle.plan_expr.specs.Leaves.{Name, leaves}
-use Rattle.plan_narrowing.specs.Pruned.{asked_with, kept, added_names, stacked_names, mapped_names, asks, asks_plans}
+use Rattle.plan_narrowing.specs.Pruned.{asked_with, kept, added_names, stacked_names, mapped_names, names_alike, held_names, asks_plans}
 use Rattle.plan_schema.specs.Stored.{stored_all}
 use Rattle.plan_schema.proofs.StoredLemmas.{stored-schemas}
 
@@ -41,14 +41,15 @@ pub more-is : (l others : List Name) → with_more others (set_of l) ≡ set_of 
 more-is [] others = refl
 more-is (a ∷ l) others = sym (set_some (with_names (a ∷ l) others) (some_name (with_names (a ∷ l) others) a (keeps_names (a ∷ l) others a (has_first a l))))
 
--- what a filter asks
-pub filter_asks : (p : Named) (l : List Name) (ss : List Columns) (os : List (Option Name)) → with_more (leaves p.expr) (set_of l) ≡ set_of (asks l (filter p) ss os)
-filter_asks p l ss os = more-is l (leaves p.expr)
-
 -- what a projection asks
-pub projection_asks : (cs : Columns) (l : List Name) (ss : List Columns) (os : List (Option Name)) → asks_columns cs (set_of l) ≡ set_of (asks l (simple_projection cs) ss os)
-projection_asks cs [] ss os = ap (λ (x : Columns). set_of (with_names [] (names_of x))) (kept_all cs)
-projection_asks cs (a ∷ l) ss os = refl
+projection_asks : (cs : Columns) (l : List Name) → asks_columns cs (set_of l) ≡ set_of (with_names [] (names_of (kept l cs)))
+projection_asks cs [] = ap (λ (x : Columns). set_of (with_names [] (names_of x))) (kept_all cs)
+projection_asks cs (a ∷ l) = refl
+
+-- what lists of names ask
+abbrev pub sets_of : List (List Name) → List Asked
+sets_of [] = []
+sets_of (l ∷ lists) = set_of l ∷ sets_of lists
 
 -- the same asked of each of some plans
 abbrev pub each_asked : Asked → Roses (Unit {0}) Op → List Asked
@@ -75,57 +76,66 @@ pub function_asks : (f : FunctionIR) (l : List Name) (s : Columns) → asks_func
 function_asks f [] s = refl
 function_asks f (a ∷ l) s = refl
 
+-- what a grouping asks
+pub grouped_asks : (keys aggs : List Named) (l : List Name) (s : Columns) → asks_grouped keys aggs (set_of l) s ≡ set_of (grouping_names keys (kept_exprs (set_of l) aggs) l s)
+grouped_asks keys aggs [] s = refl
+grouped_asks keys aggs (a ∷ l) s = refl
+
+-- what a concatenation asks of each input
+
+held_asks : (l : List Name) (s : Columns) → asks_held (set_of l) s ≡ set_of (held_names l s)
+held_asks [] s = refl
+held_asks (a ∷ l) s = refl
+
+pub held_sets : (l : List Name) (ss : List Columns) → map (asks_held (set_of l)) ss ≡ sets_of (map (held_names l) ss)
+held_sets l [] = refl
+held_sets l (s ∷ ss) = ap₂ (λ (x : Asked) (xs : List Asked). x ∷ xs) (held_asks l s) (held_sets l ss)
+
 -- the same asked of each input of a union
+
+alike_sets : (l : List Name) (ss : List Columns) → asks_alike (set_of l) ss ≡ sets_of (names_alike l ss)
+alike_sets l [] = refl
+alike_sets l (s ∷ ss) = ap (λ (x : List Asked). set_of l ∷ x) (alike_sets l ss)
+
 alike_each : (a : Asked) (ts : Roses (Unit {0}) Op) → asks_alike a (schemas ts) ≡ each_asked a ts
 alike_each a no_roses = refl
 alike_each a (more (rose n op us) rest) = ap (λ (x : List Asked). a ∷ x) (alike_each a rest)
 
+alike_stored : (l : List Name) (ts : Roses (Unit {0}) Op) → AllValid ts → asks_alike (set_of l) (schemas ts) ≡ sets_of (names_alike l (stored_all ts))
+alike_stored l ts v = alike_sets l (schemas ts) ∙ ap (λ (ss : List Columns). sets_of (names_alike l ss)) (sym (stored-schemas ts v))
+
+pub stored_each : (l : List Name) (ts : Roses (Unit {0}) Op) → AllValid ts → sets_of (names_alike l (stored_all ts)) ≡ each_asked (set_of l) ts
+stored_each l ts v = sym (alike_stored l ts v) ∙ alike_each (set_of l) ts
+
+-- the same asked of one input
+one_asked : {a b : Asked} → a ≡ b → a ∷ [] ≡ b ∷ []
+one_asked e = ap (λ (x : Asked). x ∷ []) e
+
 -- what a node that isn't closed asks its inputs
-pub asks-each : (l : List Name) (op : Op) (ts : Roses (Unit {0}) Op) → is_closed op ≡ false → AllHold (checks op (schemas ts)) → AllValid ts → asks_of op (set_of l) (schemas ts) (stand_ins ts (schemas ts)) ≡ each_asked (set_of (asks_plans l op ts)) ts
-asks-each l (filter p) (more (rose n op us) no_roses) opens good v = ap (λ (x : Asked). x ∷ []) (filter_asks p l (stored_all (more (rose n op us) no_roses)) [])
-asks-each l (filter p) (more (rose n op us) (more (rose m o vs) rest)) opens good v = cc
-asks-each l (filter p) no_roses opens good v = cc
-asks-each l (simple_projection cs) (more (rose n op us) no_roses) opens good v = ap (λ (x : Asked). x ∷ []) (projection_asks cs l (stored_all (more (rose n op us) no_roses)) [])
-asks-each l (simple_projection cs) (more (rose n op us) (more (rose m o vs) rest)) opens good v = cc
-asks-each l (simple_projection cs) no_roses opens good v = cc
-asks-each l (scan sources info predicate output kind options) no_roses opens good v = refl
-asks-each l (scan sources info predicate output kind options) (more (rose n op us) rest) opens good v = cc
-asks-each l (slice o n) (more (rose m op us) no_roses) opens good v = refl
-asks-each l (slice o n) (more (rose m op us) (more (rose k q vs) rest)) opens good v = cc
-asks-each l (slice o n) no_roses opens good v = cc
-asks-each l (frame_scan df schema output) no_roses opens good v = refl
-asks-each l (frame_scan df schema output) (more (rose n op us) rest) opens good v = cc
-asks-each l (select es schema options) (more (rose m op us) no_roses) opens good v =
-    let t = more (rose m op us) no_roses in
-    ap (λ (x : Asked). x ∷ []) (selected_asks es (first_stand_in (stand_ins t (schemas t))) l
-    ∙ ap (λ (ss : List Columns). set_of (needed_names es (first_stand_in (stand_ins t ss)) (selected_exprs (set_of l) es))) (sym (stored-schemas t v)))
-asks-each l (select es schema options) (more (rose m op us) (more (rose k q vs) rest)) opens good v = cc
-asks-each l (select es schema options) no_roses opens good v = cc
-asks-each l (hstack es schema options) (more (rose m op us) no_roses) opens good v =
-    let t = more (rose m op us) no_roses in
-    ap (λ (x : Asked). x ∷ []) (stacked_asks es l (first_schema (schemas t)) ∙ ap (λ (ss : List Columns). set_of (stacked_names l es (first_schema ss))) (sym (stored-schemas t v)))
-asks-each l (hstack es schema options) (more (rose m op us) (more (rose k q vs) rest)) opens good v = cc
-asks-each l (hstack es schema options) no_roses opens good v = cc
-asks-each l (sort keys part options) (more (rose m op us) no_roses) opens good v = ap (λ (x : Asked). x ∷ []) (more-is l (all_leaves keys))
-asks-each l (sort keys part options) (more (rose m op us) (more (rose k q vs) rest)) opens good v = cc
-asks-each l (sort keys part options) no_roses opens good v = cc
-asks-each l (distinct options) (more (rose m op us) no_roses) opens good v =
-    let t = more (rose m op us) no_roses in
-    ap (λ (x : Asked). x ∷ []) (more-is l (names_or options.subset (names_of (first_schema (schemas t)))) ∙ ap (λ (ss : List Columns). set_of (asked_with l (names_or options.subset (names_of (first_schema ss))))) (sym (stored-schemas t v)))
-asks-each l (distinct options) (more (rose m op us) (more (rose k q vs) rest)) opens good v = cc
-asks-each l (distinct options) no_roses opens good v = cc
-asks-each l (map_function function) (more (rose m op us) no_roses) opens good v =
-    let t = more (rose m op us) no_roses in
-    ap (λ (x : Asked). x ∷ []) (function_asks function l (first_schema (schemas t)) ∙ ap (λ (ss : List Columns). set_of (mapped_names l function (first_schema ss))) (sym (stored-schemas t v)))
-asks-each l (map_function function) (more (rose m op us) (more (rose k q vs) rest)) opens good v = cc
-asks-each l (map_function function) no_roses opens good v = cc
-asks-each l (sink payload) (more (rose m op us) no_roses) opens good v = refl
-asks-each l (sink payload) (more (rose m op us) (more (rose k q vs) rest)) opens good v = cc
-asks-each l (sink payload) no_roses opens good v = cc
-asks-each l (union options) ts opens good v = alike_each (set_of l) ts
-asks-each l (cache id hits) ts opens good v = cc
-asks-each l invalid ts opens good v = cc
+pub asks-each : (l : List Name) (op : Op) (ts : Roses (Unit {0}) Op) → is_closed op ≡ false → AllValid ts → asks_of op (set_of l) (schemas ts) (stand_ins ts (schemas ts)) ≡ sets_of (asks_plans l op ts)
+asks-each l (filter p) ts opens v = one_asked (more-is l (leaves p.expr))
+asks-each l (simple_projection cs) ts opens v = one_asked (projection_asks cs l)
+asks-each l (scan sources info predicate output kind options) ts opens v = refl
+asks-each l (slice o n) ts opens v = refl
+asks-each l (frame_scan df schema output) ts opens v = refl
+asks-each l (select es schema options) ts opens v =
+    one_asked (selected_asks es (first_stand_in (stand_ins ts (schemas ts))) l
+    ∙ ap (λ (ss : List Columns). set_of (needed_names es (first_stand_in (stand_ins ts ss)) (selected_exprs (set_of l) es))) (sym (stored-schemas ts v)))
+asks-each l (hstack es schema options) ts opens v =
+    one_asked (stacked_asks es l (first_schema (schemas ts)) ∙ ap (λ (ss : List Columns). set_of (stacked_names l es (first_schema ss))) (sym (stored-schemas ts v)))
+asks-each l (sort keys part options) ts opens v = one_asked (more-is l (all_leaves keys))
+asks-each l (group_by keys aggs schema ordered options) ts opens v =
+    one_asked (grouped_asks keys aggs l (first_schema (schemas ts)) ∙ ap (λ (ss : List Columns). set_of (grouping_names keys (kept_exprs (set_of l) aggs) l (first_schema ss))) (sym (stored-schemas ts v)))
+asks-each l (distinct options) ts opens v =
+    one_asked (more-is l (names_or options.subset (names_of (first_schema (schemas ts)))) ∙ ap (λ (ss : List Columns). set_of (asked_with l (names_or options.subset (names_of (first_schema ss))))) (sym (stored-schemas ts v)))
+asks-each l (map_function function) ts opens v =
+    one_asked (function_asks function l (first_schema (schemas ts)) ∙ ap (λ (ss : List Columns). set_of (mapped_names l function (first_schema ss))) (sym (stored-schemas ts v)))
+asks-each l (sink payload) ts opens v = refl
+asks-each l (union options) ts opens v = alike_stored l ts v
+asks-each l (hconcat schema options) ts opens v = held_sets l (schemas ts) ∙ ap (λ (ss : List Columns). sets_of (map (held_names l) ss)) (sym (stored-schemas ts v))
+asks-each l (cache id hits) ts opens v = cc
+asks-each l invalid ts opens v = refl
 
 -- what a node that isn't closed asks can be asked of its inputs
-pub fair_each : (l : List Name) (op : Op) (ts : Roses (Unit {0}) Op) → is_closed op ≡ false → AllHold (checks op (schemas ts)) → AllValid ts → IsFair (set_of l) (schema_by op (schemas ts)) → FairAll (each_asked (set_of (asks_plans l op ts)) ts) (schemas ts)
-fair_each l op ts opens good v f = subst (λ (x : List Asked). FairAll x (schemas ts)) (asks-each l op ts opens good v) (fair_asks op (set_of l) (schemas ts) (stand_ins ts (schemas ts)) good (are_stand_ins ts) f)
+pub fair_each : (l : List Name) (op : Op) (ts : Roses (Unit {0}) Op) → is_closed op ≡ false → AllHold (checks op (schemas ts)) → AllValid ts → IsFair (set_of l) (schema_by op (schemas ts)) → FairAll (sets_of (asks_plans l op ts)) (schemas ts)
+fair_each l op ts opens good v f = subst (λ (x : List Asked). FairAll x (schemas ts)) (asks-each l op ts opens v) (fair_asks op (set_of l) (schemas ts) (stand_ins ts (schemas ts)) good (are_stand_ins ts) f)

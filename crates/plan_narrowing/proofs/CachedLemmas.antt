@@ -1,15 +1,20 @@
 -- Below a cache everything is asked as cached: all that is there is read and made.
-use Rattle.std.proofs.Common.{◌≡◌, ◌≤◌, List, [], ◌∷◌, ◌++◌, length, refl, sym, ap, subst, arith, append_assoc}
+use Rattle.std.proofs.Common.{◌≡◌, ◌≤◌, List, [], ◌∷◌, ◌++◌, length, map, refl, sym, ap, subst, arith, append_assoc}
+use Rattle.plan_core.specs.Columns.{Columns}
 use Rattle.plan_tree.specs.Rose.{Roses, rose, no_roses, more}
-use Rattle.plan_ir.specs.Plans.{Op, slice, filter, scan, frame_scan, simple_projection, select, hstack, sort, distinct, map_function, sink, union, cache, invalid}
+use Rattle.plan_ir.specs.Plans.{Op, slice, filter, scan, frame_scan, simple_projection, select, hstack, sort, group_by, distinct, map_function, sink, union, hconcat, cache, invalid}
 use Rattle.plan_meaning.specs.Typing.{schemas, checks, AllHold, AllValid}
 use Rattle.plan_meaning.specs.Relating.{Asked, cached}
 use Rattle.plan_meaning.specs.Scans.{own_scan, scans_in}
-use Rattle.plan_meaning.specs.Asked.{asks, asks_alike, own_site, sites, Site}
+use Rattle.plan_meaning.specs.Asked.{asks, asks_alike, asks_held, own_site, sites, Site}
 use Rattle.plan_meaning.specs.Counting.{stand_ins}
 use Rattle.plan_meaning.specs.Work.{reckoned_exprs, own_made, made_in, own_kept, kept_in}
 use Rattle.plan_meaning.proofs.KeptExprs.{kept-all, selected-all}
 use Rattle.plan_narrowing.specs.Reads.{ReadWithin}
+
+held_cached : (ss : List Columns) → map (asks_held cached) ss ≡ asks_alike cached ss
+held_cached [] = refl
+held_cached (s ∷ ss) = ap (λ (x : List Asked). cached ∷ x) (held_cached ss)
 
 -- a valid node below a cache asks each of its inputs the same
 pub asks-cached : (op : Op) (ts : Roses (Unit {0}) Op) → AllHold (checks op (schemas ts)) → asks op cached (schemas ts) (stand_ins ts (schemas ts)) ≡ asks_alike cached (schemas ts)
@@ -19,6 +24,7 @@ asks-cached (simple_projection cs) (more (rose n o us) no_roses) good = refl
 asks-cached (select es stored options) (more (rose n o us) no_roses) good = refl
 asks-cached (hstack es stored options) (more (rose n o us) no_roses) good = refl
 asks-cached (sort keys part options) (more (rose n o us) no_roses) good = refl
+asks-cached (group_by keys aggs schema ordered options) (more (rose n o us) no_roses) good = refl
 asks-cached (distinct options) (more (rose n o us) no_roses) good = refl
 asks-cached (map_function function) (more (rose n o us) no_roses) good = refl
 asks-cached (sink payload) (more (rose n o us) no_roses) good = refl
@@ -26,6 +32,7 @@ asks-cached (cache id hits) (more (rose n o us) no_roses) good = refl
 asks-cached (scan sources info predicate output kind options) no_roses good = refl
 asks-cached (frame_scan df schema output) no_roses good = refl
 asks-cached (union options) ts good = refl
+asks-cached (hconcat schema options) ts good = held_cached (schemas ts)
 asks-cached (scan sources info predicate output kind options) (more (rose n o us) rest) good = cc
 asks-cached (frame_scan df schema output) (more (rose n o us) rest) good = cc
 asks-cached invalid ts good = cc
@@ -49,10 +56,12 @@ own_reads (simple_projection cs) = tt
 own_reads (select es stored options) = tt
 own_reads (hstack es stored options) = tt
 own_reads (sort keys part options) = tt
+own_reads (group_by keys aggs schema ordered options) = tt
 own_reads (distinct options) = tt
 own_reads (map_function function) = tt
 own_reads (sink payload) = tt
 own_reads (union options) = tt
+own_reads (hconcat schema options) = tt
 own_reads (cache id hits) = tt
 own_reads invalid = tt
 
@@ -77,10 +86,12 @@ own_makes (slice offset len) = omega arith
 own_makes (filter p) = omega arith
 own_makes (simple_projection cs) = omega arith
 own_makes (sort keys part options) = omega arith
+own_makes (group_by keys aggs schema ordered options) = let e = ap length (kept-all aggs) in omega (arith, e)
 own_makes (distinct options) = omega arith
 own_makes (map_function function) = omega arith
 own_makes (sink payload) = omega arith
 own_makes (union options) = omega arith
+own_makes (hconcat schema options) = omega arith
 own_makes (cache id hits) = omega arith
 own_makes invalid = omega arith
 

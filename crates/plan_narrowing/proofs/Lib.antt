@@ -16,9 +16,11 @@ mod ExplodeNarrows
 mod FunctionNarrows
 mod SelectNarrows
 mod StackNarrows
+mod GroupNarrows
 mod FrameNarrows
 mod CoverNarrows
 pub mod UnionNarrows
+mod BesideNarrows
 mod CachedLemmas
 pub mod PrunedNarrows
 pub mod PrunedReads

@@ -27,6 +27,7 @@ use Rattle.plan_meaning.proofs.FrameLemmas.{agree_fewer, agree_rows}
 use Rattle.plan_meaning.proofs.Depends.{val_depends, type_within}
 use Rattle.plan_meaning.proofs.CheckParts.{pass_each, pass_names, keys_good, good_keys}
 use Rattle.plan_narrowing.proofs.NarrowLemmas.{Local, holding_fewer, holding_same, one_step, same_one, same_cached}
+use Rattle.plan_meaning.proofs.BesideLemmas.{names-are}
 use Rattle.plan_narrowing.proofs.MadeNarrows.{SameLeaves, front_leaves, back_leaves, same_known}
 
 -- sinks
@@ -53,7 +54,7 @@ same_plain [] r s h k = tt
 same_plain (e ∷ es) r s h k = (ap is_plain_type (type_within e.expr r s (front_leaves e es r s h)) ∙ k.0, same_plain es r s (back_leaves e es r s h) k.1)
 
 -- over frames that agree on what keys read they are the same
-same_keys : (es : List Named) (f g : Frame) → Agree (all_leaves es) f g → key_cells es f ≡ key_cells es g
+pub same_keys : (es : List Named) (f g : Frame) → Agree (all_leaves es) f g → key_cells es f ≡ key_cells es g
 same_keys [] f g a = refl
 same_keys (e ∷ es) f g a =
     let here = agree_fewer (leaves e.expr) (all_leaves (e ∷ es)) f g (λ b i. has_front (leaves e.expr) (all_leaves es) b i) a in
@@ -127,13 +128,6 @@ alike_same l m f g sets same = fun_ext (λ (i : ℕ). fun_ext (λ (j : ℕ).
     bool_same (are_alike (columns_of l f) i j) (are_alike (columns_of m g) i j)
     (alike_from l m f g i j (λ a k. sets a ∙ k) same)
     (alike_from m l g f i j (λ a k. sym (sets a) ∙ k) (λ a k. sym (same a (sym (sets a) ∙ k))))))
-
--- the names of a frame's columns
-pub names-are : (h : ℕ) (cs : List Column) (s : Columns) → HaveTypes h cs s → column_names cs ≡ names_of s
-names-are h [] [] k = refl
-names-are h (c ∷ cs) (s ∷ ss) k = ap₂ (λ (a : Name) (l : List Name). a ∷ l) k.0 (names-are h cs ss k.3)
-names-are h [] (s ∷ ss) k = absurd k
-names-are h (c ∷ cs) [] k = absurd k
 
 module _ (options : DistinctOptionsIR) (wanted : List Name) (r s : Columns) (good : AllHold (checks (distinct options) (s ∷ []))) (h : Holding (with_names wanted (names_or options.subset (names_of s))) r s) where
   abbrev told : List Name

@@ -1,8 +1,9 @@
 -- A pruned plan narrows: one case for each kind of node, and one induction.
-use Rattle.std.proofs.Common.{◌≡◌, ℕ, ℤ, Bool, true, false, List, [], ◌∷◌, Option, Some, refl, sym, ap, ◌∙◌, subst}
+use Rattle.std.proofs.Common.{◌≡◌, ℕ, ℤ, Bool, true, false, List, [], ◌∷◌, ◌++◌, map, Option, Some, refl, sym, ap, ◌∙◌, subst}
 use Rattle.plan_core.specs.declared.options.FileScanOptions.{FileScanOptions}
 use Rattle.plan_core.specs.declared.options.ProjectionOptions.{ProjectionOptions}
 use Rattle.plan_options.specs.declared.distinct.DistinctOptionsIR.{DistinctOptionsIR}
+use Rattle.plan_options.specs.declared.group.GroupbyOptions.{GroupbyOptions}
 use Rattle.plan_options.specs.declared.sink.SinkType.{SinkType}
 use Rattle.plan_options.specs.declared.sort.SortMultipleOptions.{SortMultipleOptions}
 use Rattle.plan_core.specs.Columns.{Columns, names_of, with_types}
@@ -13,12 +14,13 @@ use Rattle.plan_ir.specs.declared.scan.FileScan.{FileScan}
 use Rattle.plan_ir.specs.declared.scan.ScanSources.{ScanSources}
 use Rattle.plan_expr.specs.Exprs.{Named}
 use Rattle.plan_ir.specs.declared.functions.FunctionIR.{FunctionIR}
-use Rattle.plan_ir.specs.Plans.{Op, slice, filter, scan, frame_scan, simple_projection, select, hstack, sort, distinct, map_function, sink, union, cache, invalid, Plan}
-use Rattle.plan_meaning.specs.Typing.{columns_or, file_columns, first_schema, names_or, out_names, made_schema, schema_by, schema, schemas, checks, AllHold, AllValid}
+use Rattle.plan_ir.specs.Plans.{Op, slice, filter, scan, frame_scan, simple_projection, select, hstack, sort, group_by, distinct, map_function, sink, union, hconcat, cache, invalid, Plan}
+use Rattle.plan_meaning.specs.Typing.{columns_or, file_columns, first_schema, names_or, out_names, made_schema, side_by_side, schema_by, schema, schemas, checks, AllHold, AllValid}
 use Rattle.plan_meaning.specs.Functions.{function_schema}
+use Rattle.plan_meaning.specs.Grouping.{group_exprs}
 use Rattle.plan_meaning.specs.Steps.{made, IsValid}
 use Rattle.plan_meaning.specs.Relating.{Refines, Asked, all, names, NarrowColumns, AgreeOn, Narrows}
-use Rattle.plan_meaning.specs.Asked.{set_of, kept_exprs, selected_exprs, needed_names, all_leaves, asks_added, Fair, IsFair}
+use Rattle.plan_meaning.specs.Asked.{set_of, kept_exprs, selected_exprs, needed_names, all_leaves, grouping_names, asks_added, Fair, IsFair}
 use Rattle.plan_meaning.specs.Asked as asked
 use Rattle.plan_meaning.specs.Counting.{is_closed, stand_ins, first_stand_in}
 use Rattle.plan_meaning.specs.Frames.{Agree}
@@ -26,14 +28,16 @@ use Rattle.plan_meaning.proofs.Refining.{relates_refines}
 use Rattle.plan_meaning.proofs.Related.{SchemasRelated, AllRelate, relates_node, relates_top, relates_drop}
 use Rattle.plan_meaning.proofs.Fairness.{FairAll}
 use Rattle.plan_meaning.proofs.KeptExprs.{selected-all}
-use Rattle.plan_expr.specs.Leaves.{Name}
-use Rattle.plan_narrowing.specs.Pruned.{asked_with, kept, pruned_output, typed_names, reading, projected, stacked_names, mapped_names, pruned_select, stacked, pruned_hstack, asks, asks_plans, left_below, rebuilt, top_below, top_after, pruned, pruned_all}
+use Rattle.plan_expr.specs.Leaves.{Name, leaves}
+use Rattle.plan_narrowing.specs.Pruned.{asked_with, kept, pruned_output, typed_names, reading, projected, stacked_names, mapped_names, held_names, pruned_select, pruned_group_by, stacked, pruned_hstack, asks_plans, left_below, rebuilt, top_below, top_after, pruned, pruned_all}
 use Rattle.plan_schema.specs.Stored.{stored_all}
-use Rattle.plan_narrowing.proofs.AskedNames.{set_some, kept-is, more-is, filter_asks, stacked_asks, function_asks, each_asked, fair_each}
+use Rattle.plan_narrowing.proofs.AskedNames.{set_some, kept-is, more-is, stacked_asks, function_asks, sets_of, stored_each, fair_each}
 use Rattle.plan_narrowing.proofs.NarrowLemmas.{Local, same_one, same_none, local_filter, local_slice}
 use Rattle.plan_narrowing.proofs.MadeNarrows.{SameLeaves, none_selected, needed_types, needed_frames}
 use Rattle.plan_narrowing.proofs.CoverNarrows.{narrows_self, covered_narrows}
 use Rattle.plan_narrowing.proofs.UnionNarrows.{union_narrows}
+use Rattle.plan_narrowing.proofs.GroupNarrows.{local_grouped, whole_grouped}
+use Rattle.plan_narrowing.proofs.BesideNarrows.{hconcat_narrows}
 use Rattle.plan_narrowing.proofs.OrderNarrows.{local_sort, local_distinct, local_sink}
 use Rattle.plan_narrowing.proofs.FunctionNarrows.{local_function}
 use Rattle.plan_narrowing.proofs.SelectNarrows.{local_selected, whole_selected}
@@ -68,30 +72,30 @@ one_narrows o op a b rs t s is v h by =
 
 -- filters
 
-filter_narrows : (p : Named) (l : List Name) (rs : Roses (Unit {0}) Op) (t : Plan) (s : Columns) → schemas (more t no_roses) ≡ s ∷ [] → IsValid (rose tt (filter p) (more t no_roses)) → AllNarrow (set_of (asks l (filter p) [] []) ∷ []) rs (more t no_roses) → Narrows (rose tt (filter p) rs) (rose tt (filter p) (more t no_roses)) (set_of l)
+filter_narrows : (p : Named) (l : List Name) (rs : Roses (Unit {0}) Op) (t : Plan) (s : Columns) → schemas (more t no_roses) ≡ s ∷ [] → IsValid (rose tt (filter p) (more t no_roses)) → AllNarrow (set_of (asked_with l (leaves p.expr)) ∷ []) rs (more t no_roses) → Narrows (rose tt (filter p) rs) (rose tt (filter p) (more t no_roses)) (set_of l)
 filter_narrows p l rs t s is v h =
-    let a = set_of (asks l (filter p) [] []) in
+    let a = set_of (asked_with l (leaves p.expr)) in
     let good : AllHold (checks (filter p) (s ∷ [])) = subst (λ (ss : List Columns). AllHold (checks (filter p) ss)) is v.0 in
     one_narrows (filter p) (filter p) a (set_of l) rs t s is v h (λ r q.
-    subst (λ (x : Asked). Local (filter p) (filter p) (x ∷ []) (set_of l) (r ∷ []) (s ∷ [])) (filter_asks p l [] [])
-    (local_filter p (set_of l) r s good (subst (λ (x : Asked). NarrowColumns x r s) (sym (filter_asks p l [] [])) q)))
+    subst (λ (x : Asked). Local (filter p) (filter p) (x ∷ []) (set_of l) (r ∷ []) (s ∷ [])) (more-is l (leaves p.expr))
+    (local_filter p (set_of l) r s good (subst (λ (x : Asked). NarrowColumns x r s) (sym (more-is l (leaves p.expr))) q)))
 
 -- projections
 
-local_kept : (cs : Columns) (l : List Name) (r s : Columns) → AllHold (checks (simple_projection cs) (s ∷ [])) → IsFair (set_of l) cs → NarrowColumns (set_of (asks l (simple_projection cs) [] [])) r s → Local (simple_projection (kept l cs)) (simple_projection cs) (set_of (asks l (simple_projection cs) [] []) ∷ []) (set_of l) (r ∷ []) (s ∷ [])
+local_kept : (cs : Columns) (l : List Name) (r s : Columns) → AllHold (checks (simple_projection cs) (s ∷ [])) → IsFair (set_of l) cs → NarrowColumns (set_of (with_names [] (names_of (kept l cs)))) r s → Local (simple_projection (kept l cs)) (simple_projection cs) (set_of (with_names [] (names_of (kept l cs))) ∷ []) (set_of l) (r ∷ []) (s ∷ [])
 local_kept cs l r s good fair h =
     let ks = asked.kept (set_of l) cs in
-    let is : set_of (asks l (simple_projection cs) [] []) ≡ names (with_names [] (names_of ks)) =
+    let is : set_of (with_names [] (names_of (kept l cs))) ≡ names (with_names [] (names_of ks)) =
     ap (λ (x : Columns). set_of (with_names [] (names_of x))) (kept-is l cs) ∙ set_some (with_names [] (names_of ks)) (asked_some cs (set_of l) s good fair) in
     subst (λ (x : Asked). Local (simple_projection (kept l cs)) (simple_projection cs) (x ∷ []) (set_of l) (r ∷ []) (s ∷ [])) (sym is)
     (subst (λ (x : Columns). Local (simple_projection x) (simple_projection cs) (names (with_names [] (names_of ks)) ∷ []) (set_of l) (r ∷ []) (s ∷ [])) (sym (kept-is l cs))
     (local_columns cs (set_of l) r s good fair (subst (λ (x : Asked). NarrowColumns x r s) is h)))
 
-projection_narrows : (cs : Columns) (l : List Name) (rs : Roses (Unit {0}) Op) (t : Plan) (s : Columns) → schemas (more t no_roses) ≡ s ∷ [] → IsValid (rose tt (simple_projection cs) (more t no_roses)) → IsFair (set_of l) cs → AllNarrow (set_of (asks l (simple_projection cs) [] []) ∷ []) rs (more t no_roses) → Narrows (rose tt (simple_projection (kept l cs)) rs) (rose tt (simple_projection cs) (more t no_roses)) (set_of l)
+projection_narrows : (cs : Columns) (l : List Name) (rs : Roses (Unit {0}) Op) (t : Plan) (s : Columns) → schemas (more t no_roses) ≡ s ∷ [] → IsValid (rose tt (simple_projection cs) (more t no_roses)) → IsFair (set_of l) cs → AllNarrow (set_of (with_names [] (names_of (kept l cs))) ∷ []) rs (more t no_roses) → Narrows (rose tt (simple_projection (kept l cs)) rs) (rose tt (simple_projection cs) (more t no_roses)) (set_of l)
 projection_narrows cs l rs t s is v fair h =
     let o = simple_projection (kept l cs) in
     let op = simple_projection cs in
-    let a = set_of (asks l op [] []) in
+    let a = set_of (with_names [] (names_of (kept l cs))) in
     let good : AllHold (checks op (s ∷ [])) = subst (λ (ss : List Columns). AllHold (checks op ss)) is v.0 in
     one_narrows o op a (set_of l) rs t s is v h (λ r q. local_kept cs l r s good fair q)
 
@@ -163,6 +167,20 @@ function_narrows f l rs t s is v fair h =
     subst (λ (x : Asked). Local op op (x ∷ []) (set_of l) (r ∷ []) (s ∷ [])) (function_asks f l s)
     (local_function f (set_of l) r s good fair (subst (λ (x : Asked). NarrowColumns x r s) (sym (function_asks f l s)) q)))
 
+-- groupings
+
+group_by_narrows : (keys aggs : List Named) (stored : Columns) (ordered : Bool) (options : GroupbyOptions) (l : List Name) (rs : Roses (Unit {0}) Op) (t : Plan) (s : Columns) → schemas (more t no_roses) ≡ s ∷ [] → IsValid (rose tt (group_by keys aggs stored ordered options) (more t no_roses)) → IsFair (set_of l) (made_schema [] (group_exprs keys aggs) s) → AllNarrow (set_of (grouping_names keys (kept_exprs (set_of l) aggs) l s) ∷ []) rs (more t no_roses) → Narrows (pruned_group_by l keys aggs stored ordered options rs) (rose tt (group_by keys aggs stored ordered options) (more t no_roses)) (set_of l)
+group_by_narrows keys aggs stored ordered options [] rs t s is v fair h =
+    let op = group_by keys aggs stored ordered options in
+    let good : AllHold (checks op (s ∷ [])) = subst (λ (ss : List Columns). AllHold (checks op ss)) is v.0 in
+    one_narrows op op (set_of (grouping_names keys (kept_exprs all aggs) [] s)) all rs t s is v h (λ r q. whole_grouped keys aggs stored ordered options s good r q)
+group_by_narrows keys aggs stored ordered options (b ∷ l) rs t s is v fair h =
+    let op = group_by keys aggs stored ordered options in
+    let kept = kept_exprs (names (b ∷ l)) aggs in
+    let good : AllHold (checks op (s ∷ [])) = subst (λ (ss : List Columns). AllHold (checks op ss)) is v.0 in
+    one_narrows (group_by keys kept (with_types [] (typed_names stored (out_names (keys ++ kept)))) ordered options) op (set_of (grouping_names keys kept (b ∷ l) s)) (names (b ∷ l)) rs t s is v h
+    (λ r q. local_grouped keys aggs stored ordered options s good (b ∷ l) fair r q)
+
 -- selections
 
 select_narrows : (es : List Named) (stored : Columns) (options : ProjectionOptions) (o : Option Name) (l : List Name) (rs : Roses (Unit {0}) Op) (t : Plan) (s : Columns) → schemas (more t no_roses) ≡ s ∷ [] → IsValid (rose tt (select es stored options) (more t no_roses)) → IsFair (set_of l) (made_schema [] es s) → AllNarrow (set_of (needed_names es o (selected_exprs (set_of l) es)) ∷ []) rs (more t no_roses) → Narrows (pruned_select l es stored options rs) (rose tt (select es stored options) (more t no_roses)) (set_of l)
@@ -186,8 +204,8 @@ select_narrows es stored options o (b ∷ l) rs t s is v fair h =
 -- additions
 
 module _ (es : List Named) (stored : Columns) (options : ProjectionOptions) (n : Unit {0}) (o : Op) (us : Roses (Unit {0}) Op) (v : IsValid (rose tt (hstack es stored options) (more (rose n o us) no_roses))) where
-  abbrev op : Op
-  op = hstack es stored options
+  abbrev adding : Op
+  adding = hstack es stored options
 
   abbrev t : Roses (Unit {0}) Op
   t = more (rose n o us) no_roses
@@ -200,7 +218,7 @@ module _ (es : List Named) (stored : Columns) (options : ProjectionOptions) (n :
   kept_here wanted fair [] is no_roses h = absurd h
   kept_here wanted fair [] is (more r (more r' rs)) h = absurd h.1
   kept_here wanted fair [] is (more r no_roses) h =
-      relates_drop Asked NarrowColumns AgreeOn op (names wanted) (names wanted) r (rose n o us) v (dropped_holds es s wanted is (schema r) h.0.schema)
+      relates_drop Asked NarrowColumns AgreeOn adding (names wanted) (names wanted) r (rose n o us) v (dropped_holds es s wanted is (schema r) h.0.schema)
       (λ c f g fit has ag. (made g.height g.columns es g, refl, dropped_agrees es s wanted is f g ag)) h.0
   kept_here wanted fair (e ∷ stay) is no_roses h = absurd h
   kept_here wanted fair (e ∷ stay) is (more r (more r' rs)) h = absurd h.1
@@ -210,12 +228,12 @@ module _ (es : List Named) (stored : Columns) (options : ProjectionOptions) (n :
       let vr = h.0.valid in
       let a = asks_added (e ∷ stay) wanted s in
       let made_op : Columns → Op = λ x. hstack (e ∷ stay) (with_types x (typed_names stored (out_names (e ∷ stay)))) options in
-      subst (λ (ss : List Columns). Narrows (rose tt (made_op (first_schema ss)) rs) (rose tt op t) (names wanted)) (sym (stored-schemas rs (vr.0, vr.1, tt)))
-      (relates_node Asked NarrowColumns AgreeOn (made_op r) op (a ∷ []) (names wanted) rs t v h (λ j. local_added es stored options s wanted v.0 fair r (e ∷ stay) is j.0))
+      subst (λ (ss : List Columns). Narrows (rose tt (made_op (first_schema ss)) rs) (rose tt adding t) (names wanted)) (sym (stored-schemas rs (vr.0, vr.1, tt)))
+      (relates_node Asked NarrowColumns AgreeOn (made_op r) adding (a ∷ []) (names wanted) rs t v h (λ j. local_added es stored options s wanted v.0 fair r (e ∷ stay) is j.0))
 
   stack_narrows : (l : List Name) (rs : Roses (Unit {0}) Op) → IsFair (set_of l) (made_schema (schema_by o (schemas us)) es (schema_by o (schemas us))) → AllNarrow (set_of (stacked_names l es (first_schema (stored_all (more (rose n o us) no_roses)))) ∷ []) rs (more (rose n o us) no_roses) → Narrows (pruned_hstack l es stored options rs) (rose tt (hstack es stored options) (more (rose n o us) no_roses)) (set_of l)
   stack_narrows [] rs fair h =
-      one_narrows op op all all rs (rose n o us) s refl v h (λ r q. subst (λ (x : Columns). Local op op (all ∷ []) all (x ∷ []) (s ∷ [])) (sym q) (same_one op s v.0))
+      one_narrows adding adding all all rs (rose n o us) s refl v h (λ r q. subst (λ (x : Columns). Local adding adding (all ∷ []) all (x ∷ []) (s ∷ [])) (sym q) (same_one adding s v.0))
   stack_narrows (b ∷ l) rs fair h =
       kept_here (b ∷ l) fair (kept_exprs (names (b ∷ l)) es) refl rs
       (subst (λ (x : Asked). AllNarrow (x ∷ []) rs t) (ap (λ (ss : List Columns). set_of (stacked_names (b ∷ l) es (first_schema ss))) (stored-schemas t v.1) ∙ sym (stacked_asks es (b ∷ l) s)) h)
@@ -232,7 +250,7 @@ frame_narrows (a ∷ l) df columns output rs v fair h =
     relates_node Asked NarrowColumns AgreeOn left given [] (names (a ∷ l)) rs no_roses v h (λ k. none_here left given (names (a ∷ l)) (schemas rs) k (local_frame df columns output (a ∷ l) v.0 fair))
 
 -- a node that is rebuilt over inputs that narrow at what it asks narrows at what it is asked
-rebuilt_narrows : (top : Bool) (l : List Name) (op : Op) (rs ts : Roses (Unit {0}) Op) → is_closed op ≡ false → IsValid (rose tt op ts) → IsFair (set_of l) (schema_by op (schemas ts)) → AllNarrow (each_asked (set_of (asks_plans l op ts)) ts) rs ts → Narrows (rebuilt top l op rs) (rose tt op ts) (set_of l)
+rebuilt_narrows : (top : Bool) (l : List Name) (op : Op) (rs ts : Roses (Unit {0}) Op) → is_closed op ≡ false → IsValid (rose tt op ts) → IsFair (set_of l) (schema_by op (schemas ts)) → AllNarrow (sets_of (asks_plans l op ts)) rs ts → Narrows (rebuilt top l op rs) (rose tt op ts) (set_of l)
 rebuilt_narrows top l (filter p) rs (more (rose n o us) no_roses) opens v fair h = filter_narrows p l rs (rose n o us) (schema_by o (schemas us)) refl v h
 rebuilt_narrows top l (filter p) rs (more (rose n o us) (more (rose m o' us') rest)) opens v fair h = cc
 rebuilt_narrows top l (filter p) rs no_roses opens v fair h = cc
@@ -260,6 +278,11 @@ rebuilt_narrows top l (distinct options) rs (more (rose n o us) no_roses) opens 
     (subst (λ (ss : List Columns). AllNarrow (set_of (asked_with l (names_or options.subset (names_of (first_schema ss)))) ∷ []) rs (more (rose n o us) no_roses)) (stored-schemas (more (rose n o us) no_roses) v.1) h)
 rebuilt_narrows top l (distinct options) rs (more (rose n o us) (more (rose m o' us') rest)) opens v fair h = cc
 rebuilt_narrows top l (distinct options) rs no_roses opens v fair h = cc
+rebuilt_narrows top l (group_by keys aggs stored ordered options) rs (more (rose n o us) no_roses) opens v fair h =
+    group_by_narrows keys aggs stored ordered options l rs (rose n o us) (schema_by o (schemas us)) refl v fair
+    (subst (λ (ss : List Columns). AllNarrow (set_of (grouping_names keys (kept_exprs (set_of l) aggs) l (first_schema ss)) ∷ []) rs (more (rose n o us) no_roses)) (stored-schemas (more (rose n o us) no_roses) v.1) h)
+rebuilt_narrows top l (group_by keys aggs stored ordered options) rs (more (rose n o us) (more (rose m o' us') rest)) opens v fair h = cc
+rebuilt_narrows top l (group_by keys aggs stored ordered options) rs no_roses opens v fair h = cc
 rebuilt_narrows top l (map_function function) rs (more (rose n o us) no_roses) opens v fair h =
     function_narrows function l rs (rose n o us) (schema_by o (schemas us)) refl v fair
     (subst (λ (ss : List Columns). AllNarrow (set_of (mapped_names l function (first_schema ss)) ∷ []) rs (more (rose n o us) no_roses)) (stored-schemas (more (rose n o us) no_roses) v.1) h)
@@ -268,7 +291,9 @@ rebuilt_narrows top l (map_function function) rs no_roses opens v fair h = cc
 rebuilt_narrows top l (sink payload) rs (more (rose n o us) no_roses) opens v fair h = sink_narrows payload l rs (rose n o us) (schema_by o (schemas us)) refl v h
 rebuilt_narrows top l (sink payload) rs (more (rose n o us) (more (rose m o' us') rest)) opens v fair h = cc
 rebuilt_narrows top l (sink payload) rs no_roses opens v fair h = cc
-rebuilt_narrows top l (union options) rs ts opens v fair h = union_narrows options l rs ts v fair h
+rebuilt_narrows top l (union options) rs ts opens v fair h = union_narrows options l rs ts v fair (subst (λ (x : List Asked). AllNarrow x rs ts) (stored_each l ts v.1) h)
+rebuilt_narrows top l (hconcat stored options) rs ts opens v fair h =
+    hconcat_narrows stored options l rs ts v fair (subst (λ (ss : List Columns). AllNarrow (sets_of (map (held_names l) ss)) rs ts) (stored-schemas ts v.1) h)
 rebuilt_narrows top l (cache id hits) rs ts opens v fair h = cc
 rebuilt_narrows top l invalid rs ts opens v fair h = cc
 
@@ -279,24 +304,26 @@ closed_narrows top (a ∷ l) (cache id hits) ts closed v fair = covered_narrows 
 closed_narrows top l op ts closed v fair = absurd (cc)
 
 -- a node over inputs that are left as they are below it
-left_narrows : (top : Bool) (l : List Name) (op : Op) (rs ts : Roses (Unit {0}) Op) → IsValid (rose tt op ts) → IsFair (set_of l) (schema_by op (schemas ts)) → (is_closed op ≡ false → AllNarrow (each_asked (set_of (asks_plans l op ts)) ts) rs ts) → Narrows (rebuilt top l op (left_below (is_closed op) ts rs)) (rose tt op ts) (set_of l)
+left_narrows : (top : Bool) (l : List Name) (op : Op) (rs ts : Roses (Unit {0}) Op) → IsValid (rose tt op ts) → IsFair (set_of l) (schema_by op (schemas ts)) → (is_closed op ≡ false → AllNarrow (sets_of (asks_plans l op ts)) rs ts) → Narrows (rebuilt top l op (left_below (is_closed op) ts rs)) (rose tt op ts) (set_of l)
 left_narrows top l op rs ts v fair h = at (is_closed op) refl
   where
     at : (b : Bool) → is_closed op ≡ b → Narrows (rebuilt top l op (left_below b ts rs)) (rose tt op ts) (set_of l)
     at true e = closed_narrows top l op ts e v fair
     at false e = rebuilt_narrows top l op rs ts e v fair (h e)
 
--- pruned plans narrow at what they are asked
-pub all_narrow : (top : Bool) (l : List Name) (ts : Roses (Unit {0}) Op) → AllValid ts → FairAll (each_asked (set_of l) ts) (schemas ts) → AllNarrow (each_asked (set_of l) ts) (pruned_all top l ts) ts
-all_narrow top l no_roses v f = tt
-all_narrow top l (more (rose n op ts) rest) v f = (
+-- pruned plans narrow at what they are asked, each by a list of its own
+pub all_narrow : (top : Bool) (lists : List (List Name)) (ts : Roses (Unit {0}) Op) → AllValid ts → FairAll (sets_of lists) (schemas ts) → AllNarrow (sets_of lists) (pruned_all top lists ts) ts
+all_narrow top [] no_roses v f = tt
+all_narrow top (l ∷ lists) (more (rose n op ts) rest) v f = (
   left_narrows top l op (pruned_all (top_below top op) (asks_plans l op ts) ts) ts (v.0, v.1) f.0 (λ opens. all_narrow (top_below top op) (asks_plans l op ts) ts v.1 (fair_each l op ts opens v.0 v.1 f.0)),
-  all_narrow (top_after top (rose n op ts)) l rest v.2 f.1,
+  all_narrow (top_after top (rose n op ts)) lists rest v.2 f.1,
 )
+all_narrow top (l ∷ lists) no_roses v f = absurd f
+all_narrow top [] (more (rose n op ts) rest) v f = absurd f
 
 -- a pruned plan narrows at what it is asked
 pub pruned_narrows : (top : Bool) (l : List Name) (p : Plan) → IsValid p → IsFair (set_of l) (schema p) → Narrows (pruned top l p) p (set_of l)
-pruned_narrows top l (rose n op ts) v f = (all_narrow top l (more (rose n op ts) no_roses) (v.0, v.1, tt) (f, tt)).0
+pruned_narrows top l (rose n op ts) v f = (all_narrow top (l ∷ []) (more (rose n op ts) no_roses) (v.0, v.1, tt) (f, tt)).0
 
 -- a plan that is pruned to everything refines
 pub pruned_refines : (top : Bool) (p : Plan) → IsValid p → Refines (pruned top [] p) p

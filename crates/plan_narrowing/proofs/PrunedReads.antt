@@ -8,7 +8,7 @@ use Rattle.plan_core.specs.declared.options.ProjectionOptions.{ProjectionOptions
 use Rattle.plan_meaning.proofs.NameSets.{has_cons, has_first, has_later}
 use Rattle.plan_tree.specs.Rose.{Roses, rose, no_roses, more, size}
 use Rattle.plan_expr.specs.Exprs.{Named}
-use Rattle.plan_ir.specs.Plans.{Op, slice, filter, scan, frame_scan, simple_projection, select, hstack, sort, distinct, map_function, sink, union, cache, invalid, Plan}
+use Rattle.plan_ir.specs.Plans.{Op, slice, filter, scan, frame_scan, simple_projection, select, hstack, sort, group_by, distinct, map_function, sink, union, hconcat, cache, invalid, Plan}
 use Rattle.plan_meaning.specs.Typing.{schemas, checks, AllHold, AllValid}
 use Rattle.plan_meaning.specs.PlanAt.{one_plan}
 use Rattle.plan_meaning.specs.Steps.{IsValid}
@@ -19,9 +19,9 @@ use Rattle.plan_meaning.specs.Scans.{scans, scans_in, KeepScans, Keeps, nodes}
 use Rattle.plan_meaning.proofs.Fairness.{plan_sites_fair}
 use Rattle.plan_meaning.proofs.Keeping.{sites-scans}
 use Rattle.plan_expr.specs.Leaves.{Name}
-use Rattle.plan_narrowing.specs.Pruned.{are_several, covered, covered_each, covered_if, left_below, typed_names, stacked, asks_plans, rebuilt, top_below, top_after, pruned, pruned_all}
+use Rattle.plan_narrowing.specs.Pruned.{are_several, covered, covered_each, covered_if, left_below, typed_names, stacked, asks_plans, rebuilt, top_below, top_after, first_names, rest_names, pruned, pruned_all}
 use Rattle.plan_narrowing.specs.Reads.{ReadWithin, tops_each, own_tops, tops_in, tops}
-use Rattle.plan_narrowing.proofs.AskedNames.{each_asked, asks-each}
+use Rattle.plan_narrowing.proofs.AskedNames.{sets_of, asks-each}
 use Rattle.plan_narrowing.proofs.CachedLemmas.{reads_append, asks-cached, cached_reads}
 use Rattle.plan_narrowing.proofs.UnionNarrows.{covered_none}
 
@@ -45,23 +45,25 @@ abbrev FewFor : Op → Roses (Unit {0}) Op → Type 0
 FewFor (hstack es schema options) rs = AtMostOne rs
 FewFor op rs = Unit {0}
 
-few_for : (top : Bool) (l : List Name) (op : Op) (ts : Roses (Unit {0}) Op) → AllHold (checks op (schemas ts)) → FewFor op (pruned_all top l ts)
-few_for top l (hstack es schema options) no_roses good = tt
-few_for top l (hstack es schema options) (more p no_roses) good = tt
-few_for top l (hstack es schema options) (more (rose n o us) (more (rose m q vs) rest)) good = cc
-few_for top l (slice offset len) ts good = tt
-few_for top l (filter p) ts good = tt
-few_for top l (scan sources info predicate output kind options) ts good = tt
-few_for top l (frame_scan df schema output) ts good = tt
-few_for top l (simple_projection cs) ts good = tt
-few_for top l (select es schema options) ts good = tt
-few_for top l (sort keys part options) ts good = tt
-few_for top l (distinct options) ts good = tt
-few_for top l (map_function function) ts good = tt
-few_for top l (sink payload) ts good = tt
-few_for top l (union options) ts good = tt
-few_for top l (cache id hits) ts good = tt
-few_for top l invalid ts good = tt
+few_for : (top : Bool) (lists : List (List Name)) (op : Op) (ts : Roses (Unit {0}) Op) → AllHold (checks op (schemas ts)) → FewFor op (pruned_all top lists ts)
+few_for top lists (hstack es schema options) no_roses good = tt
+few_for top lists (hstack es schema options) (more p no_roses) good = tt
+few_for top lists (hstack es schema options) (more (rose n o us) (more (rose m q vs) rest)) good = cc
+few_for top lists (slice offset len) ts good = tt
+few_for top lists (filter p) ts good = tt
+few_for top lists (scan sources info predicate output kind options) ts good = tt
+few_for top lists (frame_scan df schema output) ts good = tt
+few_for top lists (simple_projection cs) ts good = tt
+few_for top lists (select es schema options) ts good = tt
+few_for top lists (sort keys part options) ts good = tt
+few_for top lists (group_by keys aggs schema ordered options) ts good = tt
+few_for top lists (distinct options) ts good = tt
+few_for top lists (map_function function) ts good = tt
+few_for top lists (sink payload) ts good = tt
+few_for top lists (union options) ts good = tt
+few_for top lists (hconcat schema options) ts good = tt
+few_for top lists (cache id hits) ts good = tt
+few_for top lists invalid ts good = tt
 
 one-scans : (rs : Roses (Unit {0}) Op) → AtMostOne rs → scans_in rs ≡ scans (one_plan rs)
 one-scans no_roses few = refl
@@ -97,10 +99,14 @@ rebuilt_reads top (b ∷ l) (frame_scan df schema output) rs zs few h = (refl, (
 rebuilt_reads top l (filter p) rs zs few h = h
 rebuilt_reads top l (simple_projection cs) rs zs few h = h
 rebuilt_reads top l (sort keys part options) rs zs few h = h
+rebuilt_reads top [] (group_by keys aggs schema ordered options) rs zs few h = h
+rebuilt_reads top (b ∷ l) (group_by keys aggs schema ordered options) rs zs few h = h
 rebuilt_reads top l (distinct options) rs zs few h = h
 rebuilt_reads top l (map_function function) rs zs few h = h
 rebuilt_reads top l (sink payload) rs zs few h = h
 rebuilt_reads top l (union options) rs zs few h = subst (λ (os : List Op). ReadWithin os zs) (sym (if_scans (are_several rs) l rs)) h
+rebuilt_reads top [] (hconcat schema options) rs zs few h = h
+rebuilt_reads top (b ∷ l) (hconcat schema options) rs zs few h = h
 rebuilt_reads top l (cache id hits) rs zs few h = subst (λ (os : List Op). ReadWithin os zs) (sym (covered_scans l (rose tt (cache id hits) rs))) h
 rebuilt_reads top l invalid rs zs few h = h
 rebuilt_reads top [] (scan sources info predicate output kind options) rs zs few h = ((refl, refl), (λ a i. i), h)
@@ -109,7 +115,7 @@ rebuilt_reads true (b ∷ l) (scan sources info predicate output kind options) r
     ((refl, refl), (λ a i. i), subst (λ (os : List Op). ReadWithin os zs) (sym (append-nil (scans_in rs))) h)
 
 -- a node over inputs that are left as they are below it
-left_reads : (top : Bool) (l : List Name) (op : Op) (rs ts : Roses (Unit {0}) Op) → AllHold (checks op (schemas ts)) → AllValid ts → FewFor op rs → (is_closed op ≡ false → ReadWithin (scans_in rs) (sites ts (each_asked (set_of (asks_plans l op ts)) ts))) → ReadWithin (scans (rebuilt top l op (left_below (is_closed op) ts rs))) (own_site op (set_of l) ++ sites ts (asks_of op (set_of l) (schemas ts) (stand_ins ts (schemas ts))))
+left_reads : (top : Bool) (l : List Name) (op : Op) (rs ts : Roses (Unit {0}) Op) → AllHold (checks op (schemas ts)) → AllValid ts → FewFor op rs → (is_closed op ≡ false → ReadWithin (scans_in rs) (sites ts (sets_of (asks_plans l op ts)))) → ReadWithin (scans (rebuilt top l op (left_below (is_closed op) ts rs))) (own_site op (set_of l) ++ sites ts (asks_of op (set_of l) (schemas ts) (stand_ins ts (schemas ts))))
 left_reads top l op rs ts good v few h = at (is_closed op) refl
   where
     below : List Site
@@ -121,26 +127,33 @@ left_reads top l op rs ts good v few h = at (is_closed op) refl
 
     at : (b : Bool) → is_closed op ≡ b → ReadWithin (scans (rebuilt top l op (left_below b ts rs))) (own_site op (set_of l) ++ below)
     at true e = closed op e good
-    at false e = rebuilt_reads top l op rs below few (subst (λ (x : List Asked). ReadWithin (scans_in rs) (sites ts x)) (sym (asks-each l op ts e good v)) (h e))
+    at false e = rebuilt_reads top l op rs below few (subst (λ (x : List Asked). ReadWithin (scans_in rs) (sites ts x)) (sym (asks-each l op ts e v)) (h e))
 
 -- the scans of pruned plans stand one for one for those of the plans, and read what is asked of them
-all_read : (top : Bool) (l : List Name) (ts : Roses (Unit {0}) Op) → AllValid ts → ReadWithin (scans_in (pruned_all top l ts)) (sites ts (each_asked (set_of l) ts))
-all_read top l no_roses v = tt
-all_read top l (more (rose n op ts) rest) v =
+all_read : (top : Bool) (lists : List (List Name)) (ts : Roses (Unit {0}) Op) → AllValid ts → ReadWithin (scans_in (pruned_all top lists ts)) (sites ts (sets_of lists))
+all_read top lists no_roses v = tt
+all_read top lists (more (rose n op ts) rest) v =
+    let l = first_names lists in
+    let after = rest_names lists in
     let a = set_of l in
     let b = asks_plans l op ts in
     let low = top_below top op in
     let next = top_after top (rose n op ts) in
     let own = own_site op a in
     let below = sites ts (asks_of op a (schemas ts) (stand_ins ts (schemas ts))) in
-    let others = sites rest (each_asked a rest) in
+    let others = sites rest (sets_of after) in
     let here = left_reads top l op (pruned_all low b ts) ts v.0 v.1 (few_for low b op ts v.0) (λ opens. all_read low b ts v.1) in
-    subst (λ (x : List Site). ReadWithin (scans_in (pruned_all top l (more (rose n op ts) rest))) x) (append_assoc own below others)
-    (reads_append (scans (pruned top l (rose n op ts))) (scans_in (pruned_all next l rest)) (own ++ below) others here (all_read next l rest v.2))
+    listed (scans_in (pruned_all top lists (more (rose n op ts) rest))) lists
+    (subst (λ (x : List Site). ReadWithin (scans_in (pruned_all top lists (more (rose n op ts) rest))) x) (append_assoc own below others)
+    (reads_append (scans (pruned top l (rose n op ts))) (scans_in (pruned_all next after rest)) (own ++ below) others here (all_read next after rest v.2)))
+  where
+    listed : (os : List Op) (ls : List (List Name)) → ReadWithin os (own_site op (set_of (first_names ls)) ++ (sites ts (asks_of op (set_of (first_names ls)) (schemas ts) (stand_ins ts (schemas ts))) ++ sites rest (sets_of (rest_names ls)))) → ReadWithin os (sites (more (rose n op ts) rest) (sets_of ls))
+    listed os [] h = h
+    listed os (l ∷ ls) h = h
 
 pub pruned_reads : (top : Bool) (p : Plan) → IsValid p → ReadWithin (scans (pruned top [] p)) (sites_of p)
 pruned_reads top (rose n op ts) v =
-    subst (λ (os : List Op). ReadWithin os (sites_of (rose n op ts))) (append-nil (scans (pruned top [] (rose n op ts)))) (all_read top [] (more (rose n op ts) no_roses) (v.0, v.1, tt))
+    subst (λ (os : List Op). ReadWithin os (sites_of (rose n op ts))) (append-nil (scans (pruned top [] (rose n op ts)))) (all_read top ([] ∷ []) (more (rose n op ts) no_roses) (v.0, v.1, tt))
 
 -- what reads only what is asked reads only what was read
 read_keeps : (os : List Op) (ss : List Site) → ReadWithin os ss → AllByRecursion SiteFair ss → KeepScans os (map (λ (s : Site). s.at_scan) ss)
@@ -173,9 +186,9 @@ abbrev width : Roses (Unit {0}) Op → ℕ
 width no_roses = 0
 width (more r rs) = suc (width rs)
 
-width_pruned : (top : Bool) (l : List Name) (ts : Roses (Unit {0}) Op) → width (pruned_all top l ts) ≡ length (schemas ts)
-width_pruned top l no_roses = refl
-width_pruned top l (more (rose n op us) ts) = ap suc (width_pruned (top_after top (rose n op us)) l ts)
+width_pruned : (top : Bool) (lists : List (List Name)) (ts : Roses (Unit {0}) Op) → width (pruned_all top lists ts) ≡ length (schemas ts)
+width_pruned top lists no_roses = refl
+width_pruned top lists (more (rose n op us) ts) = ap suc (width_pruned (top_after top (rose n op us)) (rest_names lists) ts)
 
 covered_nodes : (a : Name) (l : List Name) (p : Plan) → nodes (covered (a ∷ l) p) ≡ 1 + nodes p
 covered_nodes a l (rose n op ts) = omega arith
@@ -210,11 +223,15 @@ rebuilt_nodes top (b ∷ l) (hstack es schema options) ss rs w = let h = stacked
 rebuilt_nodes top l (filter p) ss rs w = omega arith
 rebuilt_nodes top l (simple_projection cs) ss rs w = omega arith
 rebuilt_nodes top l (sort keys part options) ss rs w = omega arith
+rebuilt_nodes top [] (group_by keys aggs schema ordered options) ss rs w = omega arith
+rebuilt_nodes top (b ∷ l) (group_by keys aggs schema ordered options) ss rs w = omega arith
 rebuilt_nodes top l (distinct options) ss rs w = omega arith
 rebuilt_nodes top l (map_function function) ss rs w = omega arith
 rebuilt_nodes top l (sink payload) ss rs w = omega arith
 rebuilt_nodes top l invalid ss rs w = omega arith
 rebuilt_nodes top l (union options) ss rs w = let e = union_nodes l ss rs (w refl) in omega (arith, e)
+rebuilt_nodes top [] (hconcat schema options) ss rs w = omega arith
+rebuilt_nodes top (b ∷ l) (hconcat schema options) ss rs w = omega arith
 rebuilt_nodes top [] (cache id hits) ss rs w = omega arith
 rebuilt_nodes top (b ∷ l) (cache id hits) ss rs w = omega arith
 rebuilt_nodes top [] (scan sources info predicate output kind options) ss rs w = omega arith
@@ -222,27 +239,34 @@ rebuilt_nodes false (b ∷ l) (scan sources info predicate output kind options) 
 rebuilt_nodes true (b ∷ l) (scan sources info predicate output kind options) ss rs w = omega arith
 
 -- a node over inputs that are left as they are below it
-left_nodes : (top : Bool) (l : List Name) (op : Op) (rs ts : Roses (Unit {0}) Op) → AllHold (checks op (schemas ts)) → AllValid ts → width rs ≡ length (schemas ts) → size rs ≤ size ts + tops_in ts (each_asked (set_of (asks_plans l op ts)) ts) → nodes (rebuilt top l op (left_below (is_closed op) ts rs)) ≤ 1 + own_tops op (set_of l) (schemas ts) + (size ts + tops_in ts (asks_of op (set_of l) (schemas ts) (stand_ins ts (schemas ts))))
-left_nodes top l op rs ts good v w h = at (is_closed op) refl
+left_nodes : (top : Bool) (l : List Name) (op : Op) (rs ts : Roses (Unit {0}) Op) → AllValid ts → width rs ≡ length (schemas ts) → size rs ≤ size ts + tops_in ts (sets_of (asks_plans l op ts)) → nodes (rebuilt top l op (left_below (is_closed op) ts rs)) ≤ 1 + own_tops op (set_of l) (schemas ts) + (size ts + tops_in ts (asks_of op (set_of l) (schemas ts) (stand_ins ts (schemas ts))))
+left_nodes top l op rs ts v w h = at (is_closed op) refl
   where
     at : (b : Bool) → is_closed op ≡ b → nodes (rebuilt top l op (left_below b ts rs)) ≤ 1 + own_tops op (set_of l) (schemas ts) + (size ts + tops_in ts (asks_of op (set_of l) (schemas ts) (stand_ins ts (schemas ts))))
     at true e = let k = rebuilt_nodes top l op (schemas ts) ts (λ (opens : is_closed op ≡ false). cc) in omega (arith, k)
     at false e =
         let k = rebuilt_nodes top l op (schemas ts) rs (λ opens. w) in
-        let under : size rs ≤ size ts + tops_in ts (asks_of op (set_of l) (schemas ts) (stand_ins ts (schemas ts))) = subst (λ (x : List Asked). size rs ≤ size ts + tops_in ts x) (sym (asks-each l op ts e good v)) h in
+        let under : size rs ≤ size ts + tops_in ts (asks_of op (set_of l) (schemas ts) (stand_ins ts (schemas ts))) = subst (λ (x : List Asked). size rs ≤ size ts + tops_in ts x) (sym (asks-each l op ts e v)) h in
         omega (arith, k, under)
 
-all_nodes : (top : Bool) (l : List Name) (ts : Roses (Unit {0}) Op) → AllValid ts → size (pruned_all top l ts) ≤ size ts + tops_in ts (each_asked (set_of l) ts)
-all_nodes top l no_roses v = omega arith
-all_nodes top l (more (rose n op ts) rest) v =
+all_nodes : (top : Bool) (lists : List (List Name)) (ts : Roses (Unit {0}) Op) → AllValid ts → size (pruned_all top lists ts) ≤ size ts + tops_in ts (sets_of lists)
+all_nodes top lists no_roses v = omega arith
+all_nodes top lists (more (rose n op ts) rest) v =
+    let l = first_names lists in
+    let after = rest_names lists in
     let b = asks_plans l op ts in
     let low = top_below top op in
     let next = top_after top (rose n op ts) in
     let rs = pruned_all low b ts in
-    let split : size (pruned_all top l (more (rose n op ts) rest)) ≡ nodes (pruned top l (rose n op ts)) + size (pruned_all next l rest) = size-more (pruned top l (rose n op ts)) (pruned_all next l rest) in
-    let here = left_nodes top l op rs ts v.0 v.1 (width_pruned low b ts) (all_nodes low b ts v.1) in
-    let others = all_nodes next l rest v.2 in
-    omega arith
+    let split : size (pruned_all top lists (more (rose n op ts) rest)) ≡ nodes (pruned top l (rose n op ts)) + size (pruned_all next after rest) = size-more (pruned top l (rose n op ts)) (pruned_all next after rest) in
+    let here = left_nodes top l op rs ts v.1 (width_pruned low b ts) (all_nodes low b ts v.1) in
+    let others = all_nodes next after rest v.2 in
+    let whole = listed lists in
+    omega (arith, split, here, others, whole)
+  where
+    listed : (ls : List (List Name)) → tops_in (more (rose n op ts) rest) (sets_of ls) ≡ own_tops op (set_of (first_names ls)) (schemas ts) + (tops_in ts (asks_of op (set_of (first_names ls)) (schemas ts) (stand_ins ts (schemas ts))) + tops_in rest (sets_of (rest_names ls)))
+    listed [] = refl
+    listed (l ∷ ls) = refl
 
 pub pruned_nodes : (top : Bool) (p : Plan) → IsValid p → nodes (pruned top [] p) ≤ nodes p + tops p all
-pruned_nodes top (rose n op ts) v = all_nodes top [] (more (rose n op ts) no_roses) (v.0, v.1, tt)
+pruned_nodes top (rose n op ts) v = all_nodes top ([] ∷ []) (more (rose n op ts) no_roses) (v.0, v.1, tt)

@@ -4,7 +4,7 @@ use Rattle.plan_core.specs.declared.options.ProjectionOptions.{ProjectionOptions
 use Rattle.plan_core.specs.Columns.{Columns}
 use Rattle.plan_tree.specs.Rose.{Roses, rose, no_roses, more}
 use Rattle.plan_expr.specs.Exprs.{Named}
-use Rattle.plan_ir.specs.Plans.{Op, slice, filter, scan, frame_scan, simple_projection, select, hstack, sort, distinct, map_function, sink, union, cache, invalid, Plan}
+use Rattle.plan_ir.specs.Plans.{Op, slice, filter, scan, frame_scan, simple_projection, select, hstack, sort, group_by, distinct, map_function, sink, union, hconcat, cache, invalid, Plan}
 use Rattle.plan_expr.specs.Leaves.{Name}
 use Rattle.plan_meaning.specs.Typing.{schemas, checks, AllHold, AllValid}
 use Rattle.plan_meaning.specs.PlanAt.{one_plan}
@@ -14,8 +14,8 @@ use Rattle.plan_meaning.specs.Asked.{set_of, kept_exprs, asks as asks_of}
 use Rattle.plan_meaning.specs.Counting.{is_closed, stand_ins}
 use Rattle.plan_meaning.specs.Work.{reckoned_exprs, made_in, made, own_kept, kept_in, kept}
 use Rattle.plan_meaning.proofs.KeptExprs.{kept-all, selected-all}
-use Rattle.plan_narrowing.specs.Pruned.{are_several, covered, covered_each, covered_if, left_below, stacked, asks_plans, rebuilt, top_below, top_after, pruned, pruned_all}
-use Rattle.plan_narrowing.proofs.AskedNames.{each_asked, asks-each}
+use Rattle.plan_narrowing.specs.Pruned.{are_several, covered, covered_each, covered_if, left_below, stacked, asks_plans, rebuilt, top_below, top_after, first_names, rest_names, pruned, pruned_all}
+use Rattle.plan_narrowing.proofs.AskedNames.{sets_of, asks-each}
 use Rattle.plan_narrowing.proofs.CachedLemmas.{asks-cached, cached_made}
 
 made-more : (p : Plan) (ps : Roses (Unit {0}) Op) → made_in (more p ps) ≡ made p + made_in ps
@@ -58,10 +58,14 @@ rebuilt_made top (b ∷ l) (hstack es schema options) rs = let h = stacked_made 
 rebuilt_made top l (filter p) rs = omega arith
 rebuilt_made top l (simple_projection cs) rs = omega arith
 rebuilt_made top l (sort keys part options) rs = omega arith
+rebuilt_made top [] (group_by keys aggs schema ordered options) rs = let e : length (kept_exprs all aggs) ≡ length aggs = ap length (kept-all aggs) in omega arith
+rebuilt_made top (b ∷ l) (group_by keys aggs schema ordered options) rs = omega arith
 rebuilt_made top l (distinct options) rs = omega arith
 rebuilt_made top l (map_function function) rs = omega arith
 rebuilt_made top l (sink payload) rs = omega arith
 rebuilt_made top l (union options) rs = let e = if_made (are_several rs) l rs in omega (arith, e)
+rebuilt_made top [] (hconcat schema options) rs = omega arith
+rebuilt_made top (b ∷ l) (hconcat schema options) rs = omega arith
 rebuilt_made top l (cache id hits) rs = let e = covered_made l (rose tt (cache id hits) rs) in omega (arith, e)
 rebuilt_made top l invalid rs = omega arith
 rebuilt_made top [] (scan sources info predicate output kind options) rs = omega arith
@@ -69,7 +73,7 @@ rebuilt_made false (b ∷ l) (scan sources info predicate output kind options) r
 rebuilt_made true (b ∷ l) (scan sources info predicate output kind options) rs = omega arith
 
 -- a node over inputs that are left as they are below it
-left_made : (top : Bool) (l : List Name) (op : Op) (rs ts : Roses (Unit {0}) Op) → AllHold (checks op (schemas ts)) → AllValid ts → made_in rs ≤ kept_in ts (each_asked (set_of (asks_plans l op ts)) ts) → made (rebuilt top l op (left_below (is_closed op) ts rs)) ≤ own_kept op (set_of l) + kept_in ts (asks_of op (set_of l) (schemas ts) (stand_ins ts (schemas ts)))
+left_made : (top : Bool) (l : List Name) (op : Op) (rs ts : Roses (Unit {0}) Op) → AllHold (checks op (schemas ts)) → AllValid ts → made_in rs ≤ kept_in ts (sets_of (asks_plans l op ts)) → made (rebuilt top l op (left_below (is_closed op) ts rs)) ≤ own_kept op (set_of l) + kept_in ts (asks_of op (set_of l) (schemas ts) (stand_ins ts (schemas ts)))
 left_made top l op rs ts good v h = at (is_closed op) refl
   where
     closed : (o : Op) → is_closed o ≡ true → AllHold (checks o (schemas ts)) → made (rebuilt top l o ts) ≤ own_kept o (set_of l) + kept_in ts (asks_of o (set_of l) (schemas ts) (stand_ins ts (schemas ts)))
@@ -83,22 +87,29 @@ left_made top l op rs ts good v h = at (is_closed op) refl
     at true e = closed op e good
     at false e =
         let k = rebuilt_made top l op rs in
-        let under : made_in rs ≤ kept_in ts (asks_of op (set_of l) (schemas ts) (stand_ins ts (schemas ts))) = subst (λ (x : List Asked). made_in rs ≤ kept_in ts x) (sym (asks-each l op ts e good v)) h in
+        let under : made_in rs ≤ kept_in ts (asks_of op (set_of l) (schemas ts) (stand_ins ts (schemas ts))) = subst (λ (x : List Asked). made_in rs ≤ kept_in ts x) (sym (asks-each l op ts e v)) h in
         omega (arith, k, under)
 
 -- pruned plans make at most what they are asked
-all_made : (top : Bool) (l : List Name) (ts : Roses (Unit {0}) Op) → AllValid ts → made_in (pruned_all top l ts) ≤ kept_in ts (each_asked (set_of l) ts)
-all_made top l no_roses v = omega arith
-all_made top l (more (rose n op ts) rest) v =
+all_made : (top : Bool) (lists : List (List Name)) (ts : Roses (Unit {0}) Op) → AllValid ts → made_in (pruned_all top lists ts) ≤ kept_in ts (sets_of lists)
+all_made top lists no_roses v = omega arith
+all_made top lists (more (rose n op ts) rest) v =
+    let l = first_names lists in
+    let after = rest_names lists in
     let b = asks_plans l op ts in
     let low = top_below top op in
     let next = top_after top (rose n op ts) in
     let rs = pruned_all low b ts in
-    let split : made_in (pruned_all top l (more (rose n op ts) rest)) ≡ made (pruned top l (rose n op ts)) + made_in (pruned_all next l rest) = made-more (pruned top l (rose n op ts)) (pruned_all next l rest) in
+    let split : made_in (pruned_all top lists (more (rose n op ts) rest)) ≡ made (pruned top l (rose n op ts)) + made_in (pruned_all next after rest) = made-more (pruned top l (rose n op ts)) (pruned_all next after rest) in
     let here = left_made top l op rs ts v.0 v.1 (all_made low b ts v.1) in
-    let others = all_made next l rest v.2 in
-    omega arith
+    let others = all_made next after rest v.2 in
+    let whole = listed lists in
+    omega (arith, split, here, others, whole)
+  where
+    listed : (ls : List (List Name)) → kept_in (more (rose n op ts) rest) (sets_of ls) ≡ own_kept op (set_of (first_names ls)) + (kept_in ts (asks_of op (set_of (first_names ls)) (schemas ts) (stand_ins ts (schemas ts))) + kept_in rest (sets_of (rest_names ls)))
+    listed [] = refl
+    listed (l ∷ ls) = refl
 
 -- a pruned plan makes at most the columns that its nodes are asked
 pub pruned_made : (top : Bool) (p : Plan) → IsValid p → made (pruned top [] p) ≤ kept p
-pruned_made top (rose n op ts) v = all_made top [] (more (rose n op ts) no_roses) (v.0, v.1, tt)
+pruned_made top (rose n op ts) v = all_made top ([] ∷ []) (more (rose n op ts) no_roses) (v.0, v.1, tt)

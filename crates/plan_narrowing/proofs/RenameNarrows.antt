@@ -19,7 +19,7 @@ use Rattle.plan_meaning.proofs.NameSets.{named, same_named, has_cons, has_first,
 use Rattle.plan_meaning.proofs.CheckParts.{hold_front, hold_back, hold_join}
 use Rattle.plan_function.proofs.RenameLemmas.{apart_one, fewer_apart, names-renamed, type-renamed, from_renamed, to_renamed}
 use Rattle.plan_narrowing.proofs.FunctionParts.{FunctionKept}
-use Rattle.plan_narrowing.proofs.OrderNarrows.{names-are}
+use Rattle.plan_meaning.proofs.BesideLemmas.{names-are}
 
 -- the name that becomes one, by what it becomes
 

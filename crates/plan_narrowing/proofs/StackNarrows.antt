@@ -24,7 +24,7 @@ use Rattle.plan_narrowing.proofs.NarrowLemmas.{Local, one_step}
 use Rattle.plan_narrowing.proofs.ProjectionNarrows.{some_is}
 use Rattle.plan_narrowing.proofs.MadeNarrows.{SameLeaves, set_types, set_within, set_frames, same_made, same_values, once_names, left_stored, left_made}
 
-none_is : {X : Type 0} (o : Option X) → is_some o ≡ false → o ≡ None
+pub none_is : {X : Type 0} (o : Option X) → is_some o ≡ false → o ≡ None
 none_is None e = refl
 none_is (Some x) e = cc
 

@@ -141,7 +141,7 @@ frames_equal no_roses (f ∷ fs) gs h = absurd h
 frames_equal (more t ts) [] gs h = absurd h
 frames_equal (more t ts) (f ∷ fs) [] h = absurd h
 
-same_all : (op : Op) (ts : Roses (Unit {0}) Op) (rs : List Columns) → AllHold (checks op (schemas ts)) → SchemasRelated Asked NarrowColumns AgreeOn (each_asked all ts) rs (schemas ts) → Local op op (each_asked all ts) all rs (schemas ts)
+pub same_all : (op : Op) (ts : Roses (Unit {0}) Op) (rs : List Columns) → AllHold (checks op (schemas ts)) → SchemasRelated Asked NarrowColumns AgreeOn (each_asked all ts) rs (schemas ts) → Local op op (each_asked all ts) all rs (schemas ts)
 same_all op ts rs good h = record {
   good = subst (λ (x : List Columns). AllHold (checks op x)) (sym (schemas_equal ts rs h)) good;
   schema = ap (schema_by op) (schemas_equal ts rs h);

@@ -1,5 +1,5 @@
 -- What pruning makes of a plan. Names are asked of a node, and it asks names of its inputs; no names stand for every column.
-use Rattle.std.specs.Prelude.{Bool, true, false, not, ◌&&◌, List, [], ◌∷◌, Option, None, Some, option_map, filter as filter_list}
+use Rattle.std.specs.Prelude.{Bool, true, false, not, ◌&&◌, List, [], ◌∷◌, ◌++◌, map, Option, None, Some, option_map, filter as filter_list}
 use Rattle.std.specs.List.{filter_map}
 use Rattle.plan_core.specs.Columns.{Columns, names_of, type_of}
 use Rattle.plan_core.specs.Names.{has, with_names}
@@ -10,16 +10,18 @@ use Rattle.plan_ir.specs.declared.scan.FileInfo.{FileInfo}
 use Rattle.plan_ir.specs.declared.scan.FileScan.{FileScan}
 use Rattle.plan_ir.specs.declared.scan.ScanSources.{ScanSources}
 use Rattle.plan_expr.specs.Exprs.{Named}
-use Rattle.plan_ir.specs.Plans.{Op, slice, filter, scan, frame_scan, simple_projection, select, hstack, sort, distinct, map_function, sink, union, cache, invalid, Plan}
+use Rattle.plan_ir.specs.Plans.{Op, slice, filter, scan, frame_scan, simple_projection, select, hstack, sort, group_by, distinct, map_function, sink, union, hconcat, cache, invalid, Plan}
 use Rattle.plan_core.specs.declared.options.ProjectionOptions.{ProjectionOptions}
+use Rattle.plan_options.specs.declared.group.GroupbyOptions.{GroupbyOptions}
+use Rattle.plan_options.specs.declared.union.HConcatOptions.{HConcatOptions}
 use Rattle.plan_core.specs.Columns.{with_types}
 use Rattle.plan_expr.specs.Leaves.{Name, leaves}
-use Rattle.plan_meaning.specs.Typing.{first_schema, names_or, out_names}
+use Rattle.plan_meaning.specs.Typing.{first_schema, names_or, out_names, side_by_side}
 use Rattle.plan_meaning.specs.PlanAt.{one_plan}
 use Rattle.plan_meaning.specs.Relating.{names as these}
 use Rattle.plan_meaning.specs.Counting.{is_closed, is_count, meets_count, stand_ins, first_stand_in}
 use Rattle.plan_ir.specs.declared.functions.FunctionIR.{FunctionIR}
-use Rattle.plan_meaning.specs.Asked.{function_names, set_of, kept_exprs, selected_exprs, all_leaves, needed_names}
+use Rattle.plan_meaning.specs.Asked.{function_names, set_of, kept_exprs, selected_exprs, all_leaves, needed_names, grouping_names}
 use Rattle.plan_schema.specs.Stored.{stored_all}
 
 -- the asked names with more, each last unless it is there; asked nothing, nothing
@@ -119,26 +121,59 @@ abbrev pub pruned_hstack : List Name → List Named → Columns → ProjectionOp
 pruned_hstack [] es schema options inputs = rose tt (hstack es schema options) inputs
 pruned_hstack (a ∷ asked) es schema options inputs = stacked (kept_exprs (these (a ∷ asked)) es) schema options inputs
 
+-- a grouping of its keys and of the aggregates that it keeps; asked nothing, it stays
+abbrev pub pruned_group_by : List Name → (keys aggs : List Named) → Columns → Bool → GroupbyOptions → Roses (Unit {0}) Op → Plan
+pruned_group_by [] keys aggs schema ordered options inputs = rose tt (group_by keys aggs schema ordered options) inputs
+pruned_group_by (a ∷ asked) keys aggs schema ordered options inputs =
+    let kept = kept_exprs (these (a ∷ asked)) aggs in
+    rose tt (group_by keys kept (with_types [] (typed_names schema (out_names (keys ++ kept)))) ordered options) inputs
+
+-- a concatenation with the columns of its inputs; asked nothing, it stays
+abbrev pub pruned_hconcat : List Name → Columns → HConcatOptions → Roses (Unit {0}) Op → Plan
+pruned_hconcat [] schema options inputs = rose tt (hconcat schema options) inputs
+pruned_hconcat (a ∷ asked) schema options inputs = rose tt (hconcat (side_by_side (stored_all inputs)) options) inputs
+
+-- what a concatenation asks an input with these columns: the asked names that it has
+abbrev pub held_names : List Name → Columns → List Name
+held_names asked s = filter_list (has (names_of s)) asked
+
 -- what a function asks: asked something, the names that it needs; asked nothing, nothing
 abbrev pub mapped_names : List Name → FunctionIR → Columns → List Name
 mapped_names [] function s = []
 mapped_names (a ∷ asked) function s = function_names function (a ∷ asked) s
 
--- what a node that is asked names asks its inputs, by the columns that these say they have and those that stand in for their rows
-abbrev pub asks : List Name → Op → List Columns → List (Option Name) → List Name
-asks asked (slice offset len) ss os = asked
-asks asked (filter predicate) ss os = asked_with asked (leaves predicate.expr)
+-- the same names for each of some inputs
+abbrev pub names_alike : {A : Type 0} → List Name → List A → List (List Name)
+names_alike names [] = []
+names_alike names (x ∷ xs) = names ∷ names_alike names xs
+
+-- the first of some lists of names; no names where there is none
+abbrev pub first_names : List (List Name) → List Name
+first_names [] = []
+first_names (names ∷ lists) = names
+
+-- the lists of names after the first
+abbrev pub rest_names : List (List Name) → List (List Name)
+rest_names [] = []
+rest_names (names ∷ lists) = lists
+
+-- what a node that is asked names asks each of its inputs, by the columns that these say they have and those that stand in for their rows
+abbrev pub asks : List Name → Op → List Columns → List (Option Name) → List (List Name)
+asks asked (slice offset len) ss os = asked ∷ []
+asks asked (filter predicate) ss os = asked_with asked (leaves predicate.expr) ∷ []
 asks asked (scan sources info predicate output kind options) ss os = []
 asks asked (frame_scan df schema output) ss os = []
-asks asked (select exprs schema options) ss os = needed_names exprs (first_stand_in os) (selected_exprs (set_of asked) exprs)
-asks asked (hstack exprs schema options) ss os = stacked_names asked exprs (first_schema ss)
-asks asked (simple_projection columns) ss os = with_names [] (names_of (kept asked columns))
-asks asked (sort keys part options) ss os = asked_with asked (all_leaves keys)
-asks asked (distinct options) ss os = asked_with asked (names_or options.subset (names_of (first_schema ss)))
-asks asked (map_function function) ss os = mapped_names asked function (first_schema ss)
-asks asked (sink payload) ss os = asked
-asks asked (union options) ss os = asked
-asks asked (cache id hits) ss os = []
+asks asked (select exprs schema options) ss os = needed_names exprs (first_stand_in os) (selected_exprs (set_of asked) exprs) ∷ []
+asks asked (hstack exprs schema options) ss os = stacked_names asked exprs (first_schema ss) ∷ []
+asks asked (simple_projection columns) ss os = with_names [] (names_of (kept asked columns)) ∷ []
+asks asked (sort keys part options) ss os = asked_with asked (all_leaves keys) ∷ []
+asks asked (group_by keys aggs schema ordered options) ss os = grouping_names keys (kept_exprs (set_of asked) aggs) asked (first_schema ss) ∷ []
+asks asked (distinct options) ss os = asked_with asked (names_or options.subset (names_of (first_schema ss))) ∷ []
+asks asked (map_function function) ss os = mapped_names asked function (first_schema ss) ∷ []
+asks asked (sink payload) ss os = asked ∷ []
+asks asked (union options) ss os = names_alike asked ss
+asks asked (hconcat schema options) ss os = map (held_names asked) ss
+asks asked (cache id hits) ss os = [] ∷ []
 asks asked invalid ss os = []
 
 -- a node that is asked names, over its pruned inputs
@@ -151,15 +186,17 @@ rebuilt top asked (select exprs schema options) inputs = pruned_select asked exp
 rebuilt top asked (hstack exprs schema options) inputs = pruned_hstack asked exprs schema options inputs
 rebuilt top asked (simple_projection columns) inputs = rose tt (simple_projection (kept asked columns)) inputs
 rebuilt top asked (sort keys part options) inputs = rose tt (sort keys part options) inputs
+rebuilt top asked (group_by keys aggs schema ordered options) inputs = pruned_group_by asked keys aggs schema ordered options inputs
 rebuilt top asked (distinct options) inputs = rose tt (distinct options) inputs
 rebuilt top asked (map_function function) inputs = rose tt (map_function function) inputs
 rebuilt top asked (sink payload) inputs = rose tt (sink payload) inputs
 rebuilt top asked (union options) inputs = rose tt (union options) (covered_if (are_several inputs) asked inputs)
+rebuilt top asked (hconcat schema options) inputs = pruned_hconcat asked schema options inputs
 rebuilt top asked (cache id hits) inputs = covered asked (rose tt (cache id hits) inputs)
 rebuilt top asked invalid inputs = rose tt invalid inputs
 
--- what a node asks of plans
-abbrev pub asks_plans : {N : Type 0} → List Name → Op → Roses N Op → List Name
+-- what a node asks of each of its plans
+abbrev pub asks_plans : {N : Type 0} → List Name → Op → Roses N Op → List (List Name)
 asks_plans asked op ts = asks asked op (stored_all ts) (stand_ins ts (stored_all ts))
 
 -- whether projections go on top below a node: below a count of rows they don't
@@ -175,11 +212,11 @@ abbrev pub left_below : Bool → Roses (Unit {0}) Op → Roses (Unit {0}) Op →
 left_below true inputs others = inputs
 left_below false inputs others = others
 
--- a plan pruned to the asked names, with projections on top of its scans or without; from the first count of rows on, in the order of plans and their inputs, without
+-- a plan pruned to the asked names, and plans each to a list of its own, with projections on top of their scans or without; from the first count of rows on, in the order of plans and their inputs, without
 abbrev mutual
   pub pruned : Bool → List Name → Plan → Plan
   pruned top asked (rose n op inputs) = rebuilt top asked op (left_below (is_closed op) inputs (pruned_all (top_below top op) (asks_plans asked op inputs) inputs))
 
-  pub pruned_all : Bool → List Name → Roses (Unit {0}) Op → Roses (Unit {0}) Op
-  pruned_all top asked no_roses = no_roses
-  pruned_all top asked (more plan plans) = more (pruned top asked plan) (pruned_all (top_after top plan) asked plans)
+  pub pruned_all : Bool → List (List Name) → Roses (Unit {0}) Op → Roses (Unit {0}) Op
+  pruned_all top lists no_roses = no_roses
+  pruned_all top lists (more plan plans) = more (pruned top (first_names lists) plan) (pruned_all (top_after top plan) (rest_names lists) plans)

@@ -3,7 +3,7 @@ use Rattle.std.specs.Prelude.{◌≡◌, ℕ, ◌+◌, true, List, [], ◌∷◌
 use Rattle.plan_core.specs.Columns.{Columns}
 use Rattle.plan_core.specs.Names.{has}
 use Rattle.plan_tree.specs.Rose.{Roses, rose, no_roses, more}
-use Rattle.plan_ir.specs.Plans.{Op, slice, filter, scan, frame_scan, simple_projection, select, hstack, sort, distinct, map_function, sink, union, cache, invalid, Plan}
+use Rattle.plan_ir.specs.Plans.{Op, slice, filter, scan, frame_scan, simple_projection, select, hstack, sort, group_by, distinct, map_function, sink, union, hconcat, cache, invalid, Plan}
 use Rattle.plan_expr.specs.Leaves.{Name}
 use Rattle.plan_meaning.specs.Typing.{schemas}
 use Rattle.plan_meaning.specs.Relating.{Asked, all, names, cached}
@@ -41,10 +41,12 @@ own_tops (select exprs schema options) a ss = 0
 own_tops (hstack exprs schema options) a ss = 0
 own_tops (simple_projection columns) a ss = 0
 own_tops (sort keys part options) a ss = 0
+own_tops (group_by keys aggs schema ordered options) a ss = 0
 own_tops (distinct options) a ss = 0
 own_tops (map_function function) a ss = 0
 own_tops (sink payload) a ss = 0
 own_tops (union options) a ss = tops_each a ss
+own_tops (hconcat schema options) a ss = 0
 own_tops (cache id hits) a ss = one_if_asked a
 own_tops invalid a ss = 0
 

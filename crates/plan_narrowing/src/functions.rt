@@ -8,8 +8,8 @@ ghost use Rattle.plan_meaning.specs.Functions.{former, renamed};
 
 use crate::names::{add_listed, copied_names};
 use plan_core::{Names, PlSmallStr, Schema};
-use plan_ir::{FunctionIR, UnpivotArgsIR};
 use plan_function::Renaming;
+use plan_ir::{FunctionIR, UnpivotArgsIR};
 use std::alloc::{AllocError, Global};
 
 /// The names that are columns, in their order.

@@ -1,10 +1,8 @@
 -- The inputs of a node, pruned one after another, each under a projection to the asked names or none; and a closed node.
-use Rattle.std.proofs.Common.{◌≡◌, ℕ, zero, suc, length-set, ◌+◌, ◌<◌, ◌≤◌, ◌&&◌, ◌||◌, Bool, true, false, not, List, [], ◌∷◌, ◌++◌, length, take, Some, Option, unwrap_or, refl, sym, ap, ap₂, ◌∙◌, arith, subst, append-nil, add-one}
+use Rattle.std.proofs.Common.{◌≡◌, ℕ, zero, suc, length-set, ◌+◌, ◌<◌, ◌≤◌, ◌&&◌, ◌||◌, Bool, true, false, not, List, [], ◌∷◌, ◌++◌, length, take, get_or, Some, None, Option, unwrap_or, refl, sym, ap, ap₂, ◌∙◌, arith, subst, append-nil, add-one}
 use Rattle.std.specs.List.{slice_get, slice_set}
-use Rattle.std.proofs.Math.Dec.{ltb}
-use Rattle.std.proofs.lemmas.Bool.{lt-ltb, le-ltb}
 use Rattle.std.proofs.lemmas.List.{take_all}
-use Rattle.std.proofs.lemmas.Option.{slice_get_within}
+use Rattle.std.proofs.lemmas.Option.{slice_get-get_or, slice_get_within}
 use Rattle.plan_core.specs.declared.arena.Node.{Node}
 use Rattle.plan_core.specs.Columns.{Columns}
 use Rattle.plan_options.specs.declared.union.UnionOptions.{UnionOptions}
@@ -16,53 +14,55 @@ use Rattle.plan_tree.proofs.Frames.{front, front-more, front-all, front-none, Re
 use Rattle.plan_expr.specs.declared.aexpr.AExpr.{AExpr}
 use Rattle.plan_ir.specs.declared.ir.IR.{IR}
 use Rattle.plan_ir.specs.declared.ir.IR.TheVariants as nodes
-use Rattle.plan_ir.specs.Parts.{plan_shape, inputs_of, roots_in, IsPlan}
+use Rattle.plan_ir.specs.Parts.{plan_shape, inputs_of, is_invalid, roots_of, roots_in, IsPlan}
 use Rattle.plan_ir.specs.Plans.{Op, op_at, plans_of, bare}
 use Rattle.plan_ir.proofs.PlanLemmas.{plan_down}
 use Rattle.plan_expr.specs.Leaves.{Name}
 use Rattle.plan_meaning.specs.Typing.{first_schema}
-use Rattle.plan_meaning.specs.Counting.{is_count, meet_count}
-use Rattle.plan_narrowing.specs.Pruned.{are_several, asked_columns, covered_each, covered_if, pruned_all, top_below, typed_names}
+use Rattle.plan_meaning.specs.Counting.{is_closed, is_count, meet_count}
+use Rattle.plan_narrowing.specs.Pruned.{are_several, asked_columns, asks_plans, covered_each, covered_if, names_alike, pruned_all, rebuilt, top_below, typed_names}
 use Rattle.plan_schema.specs.Stored.{stored_all}
 use Rattle.plan_narrowing.proofs.ListSteps.{take-next}
 use Rattle.plan_narrowing.proofs.UnionNarrows.{covered_none}
 use Rattle.plan_prune.specs.Prunes.{TakePlace, Prunes, MarksAt}
 use Rattle.plan_prune.specs.Scans.{covered_at, with_columns_on, with_top}
-use Rattle.plan_prune.specs.Steps.{columns_at}
+use Rattle.plan_prune.specs.Steps.{columns_at, covering}
 use Rattle.plan_prune.proofs.PlaceLemmas.{place_equal, place_both, place_before, place_trans}
-use Rattle.plan_prune.proofs.PruneLemmas.{Asks, goes_under, under}
-use Rattle.plan_prune.proofs.JoinPruned.{or_assoc, plans-join, roots-join, meet-join, pruned-join, covered_if-join, several_pruned}
+use Rattle.plan_prune.proofs.PruneLemmas.{Asks, goes_under, left_open, under}
+use Rattle.plan_prune.proofs.JoinPruned.{or_assoc, plans-join, roots-join, meet-join, covered_by, covered_by-join, lists_after, names_after, one_pruned, pruned-join, several_pruned}
 
--- trees over numbers became others, in place and over expressions of their own: pruned to the asked names, each under a projection to these or none
-pub record PrunesEach (top covers : Bool) (asked : List Name) (old new : List IR) (ex : List AExpr) (ns : List Node) (f : Trees IR) : Type 0 where
+-- trees over numbers became others, in place and over expressions of their own: pruned each to a list of names, and under projections to names or none
+pub record PrunesEach (top : Bool) (covers : Option (List Name)) (lists : List (List Name)) (old new : List IR) (ex : List AExpr) (ns : List Node) (f : Trees IR) : Type 0 where
   pub trees : Trees IR
   pub rewrites : Rewrites plan_shape old new ns f trees
   pub exprs : TakePlace ex (roots_in trees) (roots_in f)
-  pub pruned : bare (plans_of ex trees) ≡ covered_if covers asked (pruned_all top asked (bare (plans_of ex f)))
+  pub pruned : bare (plans_of ex trees) ≡ covered_by covers (pruned_all top lists (bare (plans_of ex f)))
 
 -- nothing pruned yet
 
-covered_if_nothing : (covers : Bool) (asked : List Name) → no_roses ≡ covered_if covers asked no_roses
-covered_if_nothing true asked = refl
-covered_if_nothing false asked = refl
+covered_by_nothing : (covers : Option (List Name)) → no_roses ≡ covered_by covers no_roses
+covered_by_nothing (Some names) = refl
+covered_by_nothing None = refl
 
-pub each_none : (top covers : Bool) (asked : List Name) (a : List IR) (ex : List AExpr) (ns : List Node) (f : Trees IR) → PrunesEach top covers asked a a ex (take 0 ns) (front plan_shape f 0)
-each_none top covers asked a ex ns f =
+pub each_none : (top : Bool) (covers : Option (List Name)) (lists : List (List Name)) (a : List IR) (ex : List AExpr) (ns : List Node) (f : Trees IR) → PrunesEach top covers lists a a ex (take 0 ns) (front plan_shape f 0)
+each_none top covers lists a ex ns f =
     rw (front-none plan_shape f) (record {
       trees = no_roses;
       rewrites = Rewrites-refl plan_shape a [] no_roses (record { stands = tt; once = tt });
       exprs = λ before after h. h;
-      pruned = covered_if_nothing covers asked;
+      pruned = covered_by_nothing covers;
     })
 
 -- one more
-pub each_next : (top low covers : Bool) (asked : List Name) (a b c : List IR) (ex : List AExpr) (ns : List Node) (n : Node) (j : ℕ) (f : Trees IR) → StandsOnce plan_shape a ns f → slice_get ns j ≡ Some n → low ≡ (top && not (meet_count (bare (plans_of ex (front plan_shape f j))))) → PrunesEach top covers asked a b ex (take j ns) (front plan_shape f j) → PrunesEach low covers asked b c ex (n ∷ []) (nth plan_shape f j) → PrunesEach top covers asked a c ex (take (j + 1) ns) (front plan_shape f (j + 1))
-each_next top low covers asked a b c ex ns n j f h e low_is x y =
+pub each_next : (top low : Bool) (covers : Option (List Name)) (lists : List (List Name)) (names : List Name) (a b c : List IR) (ex : List AExpr) (ns : List Node) (n : Node) (j : ℕ) (f : Trees IR) → StandsOnce plan_shape a ns f → slice_get ns j ≡ Some n → slice_get lists j ≡ Some names → low ≡ (top && not (meet_count (bare (plans_of ex (front plan_shape f j))))) → PrunesEach top covers lists a b ex (take j ns) (front plan_shape f j) → PrunesEach low covers (names ∷ []) b c ex (n ∷ []) (nth plan_shape f j) → PrunesEach top covers lists a c ex (take (j + 1) ns) (front plan_shape f (j + 1))
+each_next top low covers lists names a b c ex ns n j f h e at low_is x y =
     let lt : j < length ns = slice_get_within ns j n e in
     let longer = take-next ns j n e in
     let split : front plan_shape f (j + 1) ≡ join (front plan_shape f j) (nth plan_shape f j) = rw (add-one j) (front-more plan_shape a ns f j h.stands lt) in
     let plans = bare (plans_of ex (front plan_shape f j)) in
     let plan = bare (plans_of ex (nth plan_shape f j)) in
+    let left = lists_after plans lists in
+    let own = one_pruned (top && not (meet_count plans)) left names a ex n (nth plan_shape f j) (Stands-nth plan_shape a ns f j n h.stands e) (names_after a ex ns f j lists names h.stands lt at) in
     record {
       trees = join x.trees y.trees;
       rewrites = Rewrites-next plan_shape a b c ns n j f x.trees y.trees h e longer x.rewrites y.rewrites;
@@ -73,27 +73,27 @@ each_next top low covers asked a b c ex ns n j f h e low_is x y =
           (place_equal ex (roots_in (front plan_shape f j) ++ roots_in (nth plan_shape f j)) (roots_in (front plan_shape f (j + 1))) (sym (ap roots_in split ∙ roots-join (front plan_shape f j) (nth plan_shape f j)))));
       pruned =
           plans-join ex x.trees y.trees
-          ∙ ap₂ (λ (u v : Roses (Unit {0}) Op). join u v) x.pruned (y.pruned ∙ ap (λ (w : Bool). covered_if covers asked (pruned_all w asked plan)) low_is)
-          ∙ sym (covered_if-join covers asked (pruned_all top asked plans) (pruned_all (top && not (meet_count plans)) asked plan))
-          ∙ ap (covered_if covers asked) (sym (pruned-join top asked plans plan))
-          ∙ ap (λ (g : Roses (Unit {0}) Op). covered_if covers asked (pruned_all top asked g)) (sym (ap (λ (t : Trees IR). bare (plans_of ex t)) split ∙ plans-join ex (front plan_shape f j) (nth plan_shape f j)));
+          ∙ ap₂ (λ (u v : Roses (Unit {0}) Op). join u v) x.pruned (y.pruned ∙ ap (λ (w : Bool). covered_by covers (pruned_all w (names ∷ []) plan)) low_is ∙ ap (covered_by covers) own)
+          ∙ sym (covered_by-join covers (pruned_all top lists plans) (pruned_all (top && not (meet_count plans)) left plan))
+          ∙ ap (covered_by covers) (sym (pruned-join top lists plans plan))
+          ∙ ap (λ (g : Roses (Unit {0}) Op). covered_by covers (pruned_all top lists g)) (sym (ap (λ (t : Trees IR). bare (plans_of ex t)) split ∙ plans-join ex (front plan_shape f j) (nth plan_shape f j)));
     }
 
 -- one plan, as it was pruned
-pub one_plain : (top : Bool) (asked : List Name) (b c : List IR) (ex : List AExpr) (n : Node) (t : Trees IR) → Prunes top asked b c ex n t → PrunesEach top false asked b c ex (n ∷ []) t
+pub one_plain : (top : Bool) (asked : List Name) (b c : List IR) (ex : List AExpr) (n : Node) (t : Trees IR) → Prunes top asked b c ex n t → PrunesEach top None (asked ∷ []) b c ex (n ∷ []) t
 one_plain top asked b c ex n t x = record { trees = x.trees; rewrites = x.rewrites; exprs = x.exprs; pruned = x.pruned }
 
--- and under a projection to the asked names
+-- and under a projection to names
 
 found : (xs : List IR) (k : ℕ) (p : IR) → slice_get xs k ≡ Some p → unwrap_or (slice_get xs k) nodes.Invalid ≡ p
 found xs k p e = ap (λ (o : Option IR). unwrap_or o nodes.Invalid) e
 
-pub one_covered : (top : Bool) (asked : List Name) (b c d : List IR) (ex : List AExpr) (n : Node) (q : IR) (t : Trees IR) → slice_get c n.0 ≡ Some q → d ≡ covered_at (asked_columns asked (columns_at c ex n)) c n → Prunes top asked b c ex n t → PrunesEach top true asked b d ex (n ∷ []) t
-one_covered top [] b c d ex n q t e is x =
-    rw is (record { trees = x.trees; rewrites = x.rewrites; exprs = x.exprs; pruned = x.pruned ∙ sym (covered_none (pruned_all top [] (bare (plans_of ex t)))) })
-one_covered top (a ∷ asked) b c d ex n q t e is x =
+pub one_covered : (top : Bool) (asked names : List Name) (b c d : List IR) (ex : List AExpr) (n : Node) (q : IR) (t : Trees IR) → slice_get c n.0 ≡ Some q → d ≡ covered_at (asked_columns names (columns_at c ex n)) c n → Prunes top asked b c ex n t → PrunesEach top (Some names) (asked ∷ []) b d ex (n ∷ []) t
+one_covered top asked [] b c d ex n q t e is x =
+    rw is (record { trees = x.trees; rewrites = x.rewrites; exprs = x.exprs; pruned = x.pruned ∙ sym (covered_none (pruned_all top (asked ∷ []) (bare (plans_of ex t)))) })
+one_covered top asked (w ∷ names) b c d ex n q t e is x =
     let o = opened plan_shape c n q x.trees x.rewrites.stands e in
-    let cs : Columns = typed_names (columns_at c ex n) (a ∷ asked) in
+    let cs : Columns = typed_names (columns_at c ex n) (w ∷ names) in
     let whole : Trees IR = more (rose n q o.kids) no_roses in
     let taken : List IR = slice_set c n.0 nodes.Invalid in
     let m : Node = record { 0 = length taken } in
@@ -109,11 +109,11 @@ one_covered top (a ∷ asked) b c d ex n q t e is x =
       exprs = place_trans ex (roots_in (under n m cs q o.kids)) (roots_in whole) (roots_in t) (place_equal ex (roots_in (under n m cs q o.kids)) (roots_in whole) (append-nil (roots_in whole))) roots;
       pruned =
           ap (λ (s : Columns). covered_with s plans) columns
-          ∙ ap (covered_each (a ∷ asked)) (sym (ap (λ (u : Trees IR). bare (plans_of ex u)) o.is) ∙ x.pruned);
+          ∙ ap (covered_each (w ∷ names)) (sym (ap (λ (u : Trees IR). bare (plans_of ex u)) o.is) ∙ x.pruned);
     })
   where
     covered_with : Columns → Roses (Unit {0}) Op → Roses (Unit {0}) Op
-    covered_with s plans = more (rose tt (op_at ex (nodes.SimpleProjection n (typed_names s (a ∷ asked)))) plans) no_roses
+    covered_with s plans = more (rose tt (op_at ex (nodes.SimpleProjection n (typed_names s (w ∷ names)))) plans) no_roses
 
 -- what a call on one of the inputs of a node asks, once the node is taken and the inputs before that are pruned
 pub each_asks : (a b c : List IR) (ex : List AExpr) (n i : Node) (p d : IR) (j : ℕ) (h : IsPlan a ex n) → slice_get a n.0 ≡ Some p → b ≡ slice_set a n.0 d → slice_get (inputs_of p) j ≡ Some i → ((kids : Trees IR) → StandsOnce plan_shape b (inputs_of p) kids → (g : Trees IR) × Rewrites plan_shape b c (take j (inputs_of p)) (front plan_shape kids j) g) → Asks a c ex n i
@@ -134,15 +134,21 @@ each_asks a b c ex n i p d j h e taken k done =
       };
     }
 
--- whether there is more than one plan, by how many numbers there are
-pub several_len : (lp : List IR) (ex : List AExpr) (ns : List Node) (f : Trees IR) (k : ℕ) → Stands plan_shape lp ns f → k ≡ length ns → ltb 1 k ≡ are_several (bare (plans_of ex f))
-several_len lp ex [] no_roses k s e = le-ltb 1 k (omega (arith, e))
-several_len lp ex (n ∷ []) (more (rose m p kids) no_roses) k s e = le-ltb 1 k (omega (arith, e))
-several_len lp ex (n ∷ n1 ∷ ns) (more (rose m p kids) (more (rose m1 p1 kids1) rest)) k s e = lt-ltb 1 k (omega (arith, e))
-several_len lp ex [] (more (rose m p kids) rest) k s e = absurd s
-several_len lp ex (n ∷ ns) no_roses k s e = absurd s
-several_len lp ex (n ∷ []) (more (rose m p kids) (more (rose m1 p1 kids1) rest)) k s e = absurd s.4
-several_len lp ex (n ∷ n1 ∷ ns) (more (rose m p kids) no_roses) k s e = absurd s.4
+-- what a union asks its inputs and puts on top of them, by their numbers and by their plans
+pub alike_at : (lp : List IR) (ex : List AExpr) (ns : List Node) (f : Trees IR) (asked : List Name) → Stands plan_shape lp ns f → names_alike asked ns ≡ names_alike asked (stored_all (bare (plans_of ex f)))
+alike_at lp ex [] no_roses asked s = refl
+alike_at lp ex (n ∷ ns) (more (rose m p kids) rest) asked s = ap (λ (l : List (List Name)). asked ∷ l) (alike_at lp ex ns rest asked s.4)
+alike_at lp ex [] (more (rose m p kids) rest) asked s = absurd s
+alike_at lp ex (n ∷ ns) no_roses asked s = absurd s
+
+covering_at : (lp : List IR) (ex : List AExpr) (ns : List Node) (f : Trees IR) (asked : List Name) (plans : Roses (Unit {0}) Op) → Stands plan_shape lp ns f → covered_by (covering ns asked) plans ≡ covered_if (are_several (bare (plans_of ex f))) asked plans
+covering_at lp ex [] no_roses asked plans s = refl
+covering_at lp ex (n ∷ []) (more (rose m p kids) no_roses) asked plans s = refl
+covering_at lp ex (n ∷ n1 ∷ ns) (more (rose m p kids) (more (rose m1 p1 kids1) rest)) asked plans s = refl
+covering_at lp ex [] (more (rose m p kids) rest) asked plans s = absurd s
+covering_at lp ex (n ∷ ns) no_roses asked plans s = absurd s
+covering_at lp ex (n ∷ []) (more (rose m p kids) (more (rose m1 p1 kids1) rest)) asked plans s = absurd s.4
+covering_at lp ex (n ∷ n1 ∷ ns) (more (rose m p kids) no_roses) asked plans s = absurd s.4
 
 -- an entry that is written where it stands, and one that is written over another
 pub set_same : (xs : List IR) (k : ℕ) (p : IR) → slice_get xs k ≡ Some p → slice_set xs k p ≡ xs
@@ -155,42 +161,68 @@ set_twice [] k p q = refl
 set_twice (x ∷ xs) zero p q = refl
 set_twice (x ∷ xs) (suc k) p q = ap (λ (ys : List IR). x ∷ ys) (set_twice xs k p q)
 
--- a union stands over its inputs, once all are pruned
-pub each_finish : (top low covers : Bool) (asked : List Name) (a b c : List IR) (ex : List AExpr) (n : Node) (inputs : List Node) (options : UnionOptions) (t : Trees IR) (k : ℕ) → StandsOnce plan_shape a (n ∷ []) t → slice_get a n.0 ≡ Some (nodes.Union inputs options) → b ≡ slice_set a n.0 (nodes.Union inputs options) → low ≡ top_below top (op_at ex (nodes.Union inputs options)) → k ≡ length inputs → covers ≡ ltb 1 k → ((kids : Trees IR) → StandsOnce plan_shape b inputs kids → PrunesEach low covers asked b c ex inputs kids) → Prunes top asked a c ex n t
-each_finish top low covers asked a b c ex n inputs options t k h e taken low_is many covers_is below =
-    let p : IR = nodes.Union inputs options in
+-- from the inputs of a node to the node, which is put back over them, once all are pruned
+pub each_finish : (top low : Bool) (asked : List Name) (covers : Option (List Name)) (lists : List (List Name)) (a b c z : List IR) (ex : List AExpr) (n : Node) (p q d : IR) (t : Trees IR) → StandsOnce plan_shape a (n ∷ []) t → slice_get a n.0 ≡ Some p → b ≡ slice_set a n.0 d → z ≡ slice_set c n.0 q → inputs_of q ≡ inputs_of p → is_invalid q ≡ false → TakePlace ex (roots_of q) (roots_of p) → is_closed (op_at ex p) ≡ false → ((kids : Trees IR) → StandsOnce plan_shape b (inputs_of p) kids → (x : PrunesEach low covers lists b c ex (inputs_of p) kids) × (rose tt (op_at ex q) (bare (plans_of ex x.trees)) ≡ rebuilt top asked (op_at ex p) (pruned_all (top_below top (op_at ex p)) (asks_plans asked (op_at ex p) (bare (plans_of ex kids))) (bare (plans_of ex kids))))) → Prunes top asked a z ex n t
+each_finish top low asked covers lists a b c z ex n p q d t h e taken put same valid roots opens below =
     let o = opened plan_shape a n p t h e in
-    let under : StandsOnce plan_shape b inputs o.kids = rw taken (StandsOnce-set plan_shape a inputs o.kids n.0 p o.inputs o.above) in
-    let x = below o.kids under in
+    let under : StandsOnce plan_shape b (inputs_of p) o.kids = rw taken (StandsOnce-set plan_shape a (inputs_of p) o.kids n.0 d o.inputs o.above) in
+    let made = below o.kids under in
+    let x = made.0 in
     let kids : Roses (Unit {0}) Op = bare (plans_of ex o.kids) in
-    let several : covers ≡ are_several (pruned_all (top_below top (op_at ex p)) asked kids) = covers_is ∙ several_len b ex inputs o.kids k under.stands many ∙ sym (several_pruned (top_below top (op_at ex p)) asked kids) in
-    let small : n.0 < length a = slice_get_within a n.0 p e in
-    let long : length b ≡ length a = rw taken (length-set a n.0 p) in
-    let here : slice_get b n.0 ≡ Some p = rw taken (slice_get-set_same plan_shape a n.0 p small) in
-    let there : slice_get c n.0 ≡ Some p = x.rewrites.keeps.same n.0 (omega (arith, small, long)) o.above ∙ here in
-    rw o.is (record {
-      trees = more (rose n p x.trees) no_roses;
-      rewrites = subst (λ (z : List IR). Rewrites plan_shape a z (n ∷ []) (more (rose n p o.kids) no_roses) (more (rose n p x.trees) no_roses)) (set_same c n.0 p there)
-          (Rewrites-back plan_shape a b c n p p p o.kids x.trees (rw o.is at h) taken x.rewrites refl refl);
-      exprs = place_before ex [] (roots_in x.trees) (roots_in o.kids) x.exprs;
+    rw (put, o.is) (record {
+      trees = more (rose n q x.trees) no_roses;
+      rewrites = Rewrites-back plan_shape a b c n p q d o.kids x.trees (rw o.is at h) taken x.rewrites same valid;
+      exprs = place_both ex (roots_of q) (roots_of p) (roots_in x.trees ++ []) (roots_in o.kids ++ []) roots (place_before ex [] (roots_in x.trees) (roots_in o.kids) x.exprs);
       pruned =
-          ap (λ (f : Roses (Unit {0}) Op). more (rose tt (op_at ex p) f) no_roses)
-          (x.pruned
-          ∙ ap (λ (w : Bool). covered_if covers asked (pruned_all w asked kids)) low_is
-          ∙ ap (λ (w : Bool). covered_if w asked (pruned_all (top_below top (op_at ex p)) asked kids)) several);
+          ap (λ r. more r no_roses) made.1
+          ∙ ap (λ (f : Roses (Unit {0}) Op). more (rebuilt top asked (op_at ex p) f) no_roses) (left_open (op_at ex p) kids (pruned_all (top_below top (op_at ex p)) (asks_plans asked (op_at ex p) kids) kids) opens);
     })
 
--- the mark after a union, once its inputs were marked
-or_false : (b : Bool) → b ≡ (b || false)
-or_false true = refl
-or_false false = refl
+-- a union stays over its inputs, once all are pruned
+module _ (top low : Bool) (asked : List Name) (covers : Option (List Name)) (lists : List (List Name)) (a b c : List IR) (ex : List AExpr) (n : Node) (inputs : List Node) (options : UnionOptions) (taken : b ≡ slice_set a n.0 (nodes.Union inputs options)) (low_is : low ≡ top_below top (op_at ex (nodes.Union inputs options))) (lists_are : lists ≡ names_alike asked inputs) (covers_is : covers ≡ covering inputs asked) (below : (kids : Trees IR) → StandsOnce plan_shape b inputs kids → PrunesEach low covers lists b c ex inputs kids) where
+  abbrev whole : IR
+  whole = nodes.Union inputs options
 
-pub each_marks : (before mid after : Bool) (lp b : List IR) (ex : List AExpr) (n : Node) (inputs : List Node) (options : UnionOptions) (d : IR) → slice_get lp n.0 ≡ Some (nodes.Union inputs options) → b ≡ slice_set lp n.0 d → mid ≡ (before || is_count (op_at ex (nodes.Union inputs options))) → ((kids : Trees IR) → StandsOnce plan_shape b inputs kids → after ≡ (mid || meet_count (bare (plans_of ex kids)))) → MarksAt before after lp ex n
-each_marks before mid after lp b ex n inputs options d e taken is below t h =
-    let o = opened plan_shape lp n (nodes.Union inputs options) t h e in
-    let under : StandsOnce plan_shape b inputs o.kids = rw taken (StandsOnce-set plan_shape lp inputs o.kids n.0 d o.inputs o.above) in
+  union_built : (f : Trees IR) (s : StandsOnce plan_shape b inputs f) (x : PrunesEach low covers lists b c ex inputs f) → rose tt (op_at ex (nodes.Union inputs options)) (bare (plans_of ex x.trees)) ≡ rebuilt top asked (op_at ex (nodes.Union inputs options)) (pruned_all (top_below top (op_at ex (nodes.Union inputs options))) (asks_plans asked (op_at ex (nodes.Union inputs options)) (bare (plans_of ex f))) (bare (plans_of ex f)))
+  union_built f s x =
+      let kids : Roses (Unit {0}) Op = bare (plans_of ex f) in
+      let under : Bool = top_below top (op_at ex whole) in
+      let own : List (List Name) = names_alike asked (stored_all kids) in
+      let plans : Roses (Unit {0}) Op = pruned_all under own kids in
+      ap (λ (g : Roses (Unit {0}) Op). rose tt (op_at ex whole) g)
+      (x.pruned
+      ∙ ap₂ (λ (w : Bool) (l : List (List Name)). covered_by covers (pruned_all w l kids)) low_is (lists_are ∙ alike_at b ex inputs f asked s.stands)
+      ∙ ap (λ (o : Option (List Name)). covered_by o plans) covers_is
+      ∙ covering_at b ex inputs f asked plans s.stands
+      ∙ ap (λ (w : Bool). covered_if w asked plans) (sym (several_pruned under own kids)))
+
+  pub union_pruned : (t : Trees IR) → StandsOnce plan_shape a (n ∷ []) t → slice_get a n.0 ≡ Some (nodes.Union inputs options) → Prunes top asked a c ex n t
+  union_pruned t h e =
+      let o = opened plan_shape a n whole t h e in
+      let under : StandsOnce plan_shape b inputs o.kids = rw taken (StandsOnce-set plan_shape a inputs o.kids n.0 whole o.inputs o.above) in
+      let x = below o.kids under in
+      let small : n.0 < length a = slice_get_within a n.0 whole e in
+      let long : length b ≡ length a = rw taken (length-set a n.0 whole) in
+      let here : slice_get b n.0 ≡ Some whole = rw taken (slice_get-set_same plan_shape a n.0 whole small) in
+      let there : slice_get c n.0 ≡ Some whole = x.rewrites.keeps.same n.0 (omega (arith, small, long)) o.above ∙ here in
+      each_finish top low asked covers lists a b c c ex n whole whole whole t h e taken (sym (set_same c n.0 whole there)) refl refl (λ before after y. y) refl
+      (λ kids s. let y = below kids s in (y, union_built kids s y))
+
+-- the mark after a node over inputs, once these were marked: it is set where the node counts rows, and then where its inputs do, which aren't left out
+pub marked_twice : (x y z c : Bool) → c ≡ false → ((x || y) || z) ≡ (x || (y || ((not c && z) || false)))
+marked_twice true y z c e = refl
+marked_twice false true z c e = refl
+marked_twice false false true false e = refl
+marked_twice false false false false e = refl
+marked_twice false false z true e = cc
+
+pub each_marks : (before mid after : Bool) (lp b : List IR) (ex : List AExpr) (n : Node) (inputs : List Node) (p d : IR) → slice_get lp n.0 ≡ Some p → b ≡ slice_set lp n.0 d → inputs_of p ≡ inputs → is_closed (op_at ex p) ≡ false → mid ≡ (before || is_count (op_at ex p)) → ((kids : Trees IR) → StandsOnce plan_shape b inputs kids → after ≡ (mid || meet_count (bare (plans_of ex kids)))) → MarksAt before after lp ex n
+each_marks before mid after lp b ex n inputs p d e taken own opens is below t h =
+    let o = opened plan_shape lp n p t h e in
+    let under : StandsOnce plan_shape b (inputs_of p) o.kids = rw taken (StandsOnce-set plan_shape lp (inputs_of p) o.kids n.0 d o.inputs o.above) in
+    let at_inputs : StandsOnce plan_shape b inputs o.kids = subst (λ (ns : List Node). StandsOnce plan_shape b ns o.kids) own under in
     let k : Bool = meet_count (bare (plans_of ex o.kids)) in
-    below o.kids under ∙ ap (λ (m : Bool). m || k) (is ∙ sym (or_false before)) ∙ ap (λ (m : Bool). before || m) (or_false k) ∙ ap (λ (u : Trees IR). before || meet_count (bare (plans_of ex u))) (sym o.is)
+    below o.kids at_inputs ∙ ap (λ (m : Bool). m || k) is ∙ marked_twice before (is_count (op_at ex p)) k (is_closed (op_at ex p)) opens ∙ ap (λ (u : Trees IR). before || meet_count (bare (plans_of ex u))) (sym o.is)
 
 -- a cache
 
@@ -242,16 +274,24 @@ cover_placed z lp b n p d cs columns is taken none e some =
     ∙ ap (λ (q : IR). with_top cs (slice_set lp n.0 nodes.Invalid) n q) (sym (found lp n.0 p e))
     ∙ ap (λ (o : Option Columns). covered_at o lp n) (sym some)
 
+-- the items at a place of two lists
+pub places : {A B : Type 0} (xs : List A) (ys : List B) (j : ℕ) (x : A) (y : B) → (j < length xs) × (j < length ys) × ((d : A) → x ≡ get_or xs j d) × ((d : B) → y ≡ get_or ys j d) → (slice_get xs j ≡ Some x) × (slice_get ys j ≡ Some y)
+places xs ys j x y h = (slice_get-get_or xs j x h.0 ∙ ap Some (sym (h.2 x)), slice_get-get_or ys j y h.1 ∙ ap Some (sym (h.3 y)))
+
 -- the inputs before a place are pruned one after another, and the mark is set where it was or where they count rows
-pub record SoFar (before after covers : Bool) (asked : List Name) (old new : List IR) (ex : List AExpr) (ns : List Node) (j : ℕ) : Type 0 where
-  pub prunes : (f : Trees IR) → StandsOnce plan_shape old ns f → PrunesEach (not before) covers asked old new ex (take j ns) (front plan_shape f j)
+pub record SoFar (before after : Bool) (covers : Option (List Name)) (lists : List (List Name)) (old new : List IR) (ex : List AExpr) (ns : List Node) (j : ℕ) : Type 0 where
+  pub prunes : (f : Trees IR) → StandsOnce plan_shape old ns f → PrunesEach (not before) covers lists old new ex (take j ns) (front plan_shape f j)
   pub marks : (f : Trees IR) → StandsOnce plan_shape old ns f → after ≡ (before || meet_count (bare (plans_of ex (front plan_shape f j))))
   pub stays : before ≡ true → after ≡ true
   pub grows : length old ≤ length new
 
-pub so_far_none : (before covers : Bool) (asked : List Name) (a : List IR) (ex : List AExpr) (ns : List Node) → SoFar before before covers asked a a ex ns 0
-so_far_none before covers asked a ex ns = record {
-  prunes = λ f h. each_none (not before) covers asked a ex ns f;
+or_false : (b : Bool) → b ≡ (b || false)
+or_false true = refl
+or_false false = refl
+
+pub so_far_none : (before : Bool) (covers : Option (List Name)) (lists : List (List Name)) (a : List IR) (ex : List AExpr) (ns : List Node) → SoFar before before covers lists a a ex ns 0
+so_far_none before covers lists a ex ns = record {
+  prunes = λ f h. each_none (not before) covers lists a ex ns f;
   marks = λ f h. or_false before ∙ ap (λ (t : Trees IR). before || meet_count (bare (plans_of ex t))) (sym (front-none plan_shape f));
   stays = λ e. e;
   grows = omega arith;
@@ -262,12 +302,12 @@ marked_so true m = refl
 marked_so false m = refl
 
 -- with the next input
-pub so_far_next : (before mid after covers : Bool) (asked : List Name) (a b c : List IR) (ex : List AExpr) (ns : List Node) (n : Node) (j : ℕ) → slice_get ns j ≡ Some n → SoFar before mid covers asked a b ex ns j → ((t : Trees IR) → StandsOnce plan_shape b (n ∷ []) t → PrunesEach (not mid) covers asked b c ex (n ∷ []) t) → MarksAt mid after b ex n → (mid ≡ true → after ≡ true) → length b ≤ length c → SoFar before after covers asked a c ex ns (j + 1)
-so_far_next before mid after covers asked a b c ex ns n j e x one marks stays grows = record {
+pub so_far_next : (before mid after : Bool) (covers : Option (List Name)) (lists : List (List Name)) (names : List Name) (a b c : List IR) (ex : List AExpr) (ns : List Node) (n : Node) (j : ℕ) → slice_get ns j ≡ Some n → slice_get lists j ≡ Some names → SoFar before mid covers lists a b ex ns j → ((t : Trees IR) → StandsOnce plan_shape b (n ∷ []) t → PrunesEach (not mid) covers (names ∷ []) b c ex (n ∷ []) t) → MarksAt mid after b ex n → (mid ≡ true → after ≡ true) → length b ≤ length c → SoFar before after covers lists a c ex ns (j + 1)
+so_far_next before mid after covers lists names a b c ex ns n j e at x one marks stays grows = record {
   prunes = λ f h.
       let before_it = x.prunes f h in
       let s = StandsOnce-next plan_shape a b ns n j f before_it.trees h e before_it.rewrites in
-      each_next (not before) (not mid) covers asked a b c ex ns n j f h e (ap not (x.marks f h) ∙ marked_so before (meet_count (bare (plans_of ex (front plan_shape f j))))) before_it (one (nth plan_shape f j) s);
+      each_next (not before) (not mid) covers lists names a b c ex ns n j f h e at (ap not (x.marks f h) ∙ marked_so before (meet_count (bare (plans_of ex (front plan_shape f j))))) before_it (one (nth plan_shape f j) s);
   marks = λ f h.
       let before_it = x.prunes f h in
       let s = StandsOnce-next plan_shape a b ns n j f before_it.trees h e before_it.rewrites in
@@ -284,10 +324,10 @@ so_far_next before mid after covers asked a b c ex ns n j e x one marks stays gr
 }
 
 -- all inputs, once the last was passed
-pub so_far_all : (before after covers : Bool) (asked : List Name) (a b : List IR) (ex : List AExpr) (ns : List Node) (j : ℕ) → length ns ≤ j → SoFar before after covers asked a b ex ns j → (f : Trees IR) → StandsOnce plan_shape a ns f → PrunesEach (not before) covers asked a b ex ns f × (after ≡ (before || meet_count (bare (plans_of ex f))))
-so_far_all before after covers asked a b ex ns j past x f h =
+pub so_far_all : (before after : Bool) (covers : Option (List Name)) (lists : List (List Name)) (a b : List IR) (ex : List AExpr) (ns : List Node) (j : ℕ) → length ns ≤ j → SoFar before after covers lists a b ex ns j → (f : Trees IR) → StandsOnce plan_shape a ns f → PrunesEach (not before) covers lists a b ex ns f × (after ≡ (before || meet_count (bare (plans_of ex f))))
+so_far_all before after covers lists a b ex ns j past x f h =
     let all : front plan_shape f j ≡ f = front-all plan_shape a ns f j h.stands past in
     let whole : take j ns ≡ ns = take_all j ns past in (
-      subst (λ (l : List Node). PrunesEach (not before) covers asked a b ex l f) whole (subst (λ (t : Trees IR). PrunesEach (not before) covers asked a b ex (take j ns) t) all (x.prunes f h)),
+      subst (λ (l : List Node). PrunesEach (not before) covers lists a b ex l f) whole (subst (λ (t : Trees IR). PrunesEach (not before) covers lists a b ex (take j ns) t) all (x.prunes f h)),
       x.marks f h ∙ ap (λ (t : Trees IR). before || meet_count (bare (plans_of ex t))) all,
     )

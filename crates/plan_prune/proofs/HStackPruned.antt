@@ -20,7 +20,7 @@ use Rattle.plan_schema.specs.Stored.{stored_all}
 use Rattle.plan_narrowing.specs.Pruned.{stacked_names, top_below}
 use Rattle.plan_prune.specs.Prunes.{TakePlace, Prunes, PrunesAt}
 use Rattle.plan_prune.specs.Kept.{stacked_at, is_some_name, names_at, with_typed, stored_after, with_stacked}
-use Rattle.plan_prune.proofs.PruneLemmas.{finish, moves_up, is_entry, stands_taken, stands_after}
+use Rattle.plan_prune.proofs.PruneLemmas.{finish, one_list, moves_up, is_entry, stands_taken, stands_after}
 use Rattle.plan_prune.proofs.KeptLemmas.{numbers_of, stacked_place, hstack_built, hstack_gone}
 
 -- the entry at a number of an arena
@@ -43,7 +43,7 @@ module _ (top low : Bool) (asked names : List Name) (a b c : List IR) (ex : List
 
   back : (ks : List ExprIR) (cs : Columns) → ks ≡ stacked_at asked es → (is_some_name asked ≡ true → length ks ≡ 0 → ⊥) → cs ≡ stored_after (is_some_name asked) columns (names_at ks) schema → Prunes top asked a (slice_set c n.0 (HStack i ks cs options)) ex n t
   back ks cs kept some stored =
-      finish top low asked names a b c ex n i (HStack i es schema options) (HStack i ks cs options) d t h e taken refl refl refl (place ks kept) refl low_is asks_is
+      finish top low asked names a b c ex n i (HStack i es schema options) (HStack i ks cs options) d t h e taken refl refl refl (place ks kept) refl low_is (one_list asks_is)
       (hstack_built ex asked es ks schema columns cs options (bare (plans_at c ex (i ∷ []))) kept some refl stored) below
 
   placed : (is_asked : Bool) (ks : List ExprIR) → is_asked ≡ is_some_name asked → ks ≡ stacked_at asked es → Prunes top asked a (with_stacked is_asked c n i ks schema options columns) ex n t
@@ -53,7 +53,7 @@ module _ (top low : Bool) (asked names : List Name) (a b c : List IR) (ex : List
       no x = cc
   placed true [] some kept =
       let s = stands_after low names b c ex i (stands_taken a b n i (HStack i es schema options) d t h e taken refl) below in
-      moves_up top low asked names a b c ex n i (HStack i es schema options) (unwrap_or (slice_get c i.0) Invalid) d Invalid t h e taken refl (found c i.0 (is_entry c i s)) refl low_is asks_is
+      moves_up top low asked names a b c ex n i (HStack i es schema options) (unwrap_or (slice_get c i.0) Invalid) d Invalid t h e taken refl (found c i.0 (is_entry c i s)) refl low_is (one_list asks_is)
       (λ f. hstack_gone ex asked es [] schema options f kept (sym some) refl) below
   placed true (x ∷ ks) some kept =
       back (x ∷ ks) (with_typed columns (names_at (x ∷ ks)) schema) kept (λ y z. absurd (omega (arith, z))) (ap (λ (s : Bool). stored_after s columns (names_at (x ∷ ks)) schema) some)

@@ -5,6 +5,7 @@ pub mod KeptLemmas
 mod StandInLemmas
 mod ExprWalks
 mod HStackPruned
+mod AlikeLemmas
 mod JoinPruned
 mod EachLemmas
 mod StepLemmas

@@ -21,6 +21,11 @@ use Rattle.plan_narrowing.proofs.PrunedNarrows.{pruned_refines}
 use Rattle.plan_narrowing.proofs.PrunedReads.{pruned_reads, pruned_nodes}
 use Rattle.plan_narrowing.proofs.PrunedWork.{pruned_made}
 
+-- a plan of which everything is asked, told by a list of its own or by none
+pub all_asked : (top : Bool) (ts : Roses (Unit {0}) Op) → pruned_all top ([] ∷ []) ts ≡ pruned_all top [] ts
+all_asked top no_roses = refl
+all_asked top (more p rest) = refl
+
 module _ (top : Bool) (old new : Roses (Unit {0}) Op) (is : new ≡ pruned_all top [] old) (v : IsValid (one_plan old)) where
   pruned_at : (ts : Roses (Unit {0}) Op) → IsValid (one_plan ts) → one_plan (pruned_all top [] ts) ≡ pruned top [] (one_plan ts)
   pruned_at no_roses w = cc

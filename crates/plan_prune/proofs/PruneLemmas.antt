@@ -77,12 +77,16 @@ entry_stays a b c n p d e taken grows =
     let long : length b ≡ length a = rw taken (length-set a n.0 d) in
     omega arith
 
+-- equal names, each alone in a list
+pub one_list : {x y : List Name} → x ≡ y → x ∷ [] ≡ y ∷ []
+one_list e = ap (λ (l : List Name). l ∷ []) e
+
 -- what is left below a node that isn't closed is what is pruned
 pub left_open : (op : Op) (kids others : Roses (Unit {0}) Op) → is_closed op ≡ false → others ≡ left_below (is_closed op) kids others
 left_open op kids others opens = ap (λ (b : Bool). left_below b kids others) (sym opens)
 
 -- from the input of a node to the node, which goes back over the same input
-pub finish : (top low : Bool) (asked names : List Name) (a b c : List IR) (ex : List AExpr) (n i : Node) (p q d : IR) (t : Trees IR) → StandsOnce plan_shape a (n ∷ []) t → slice_get a n.0 ≡ Some p → b ≡ slice_set a n.0 d → inputs_of p ≡ i ∷ [] → inputs_of q ≡ inputs_of p → is_invalid q ≡ false → TakePlace ex (roots_of q) (roots_of p) → is_closed (op_at ex p) ≡ false → low ≡ top_below top (op_at ex p) → names ≡ asks_plans asked (op_at ex p) (bare (plans_at b ex (i ∷ []))) → rose tt (op_at ex q) (bare (plans_at c ex (i ∷ []))) ≡ rebuilt top asked (op_at ex p) (bare (plans_at c ex (i ∷ []))) → PrunesAt low names b c ex i → Prunes top asked a (slice_set c n.0 q) ex n t
+pub finish : (top low : Bool) (asked names : List Name) (a b c : List IR) (ex : List AExpr) (n i : Node) (p q d : IR) (t : Trees IR) → StandsOnce plan_shape a (n ∷ []) t → slice_get a n.0 ≡ Some p → b ≡ slice_set a n.0 d → inputs_of p ≡ i ∷ [] → inputs_of q ≡ inputs_of p → is_invalid q ≡ false → TakePlace ex (roots_of q) (roots_of p) → is_closed (op_at ex p) ≡ false → low ≡ top_below top (op_at ex p) → names ∷ [] ≡ asks_plans asked (op_at ex p) (bare (plans_at b ex (i ∷ []))) → rose tt (op_at ex q) (bare (plans_at c ex (i ∷ []))) ≡ rebuilt top asked (op_at ex p) (bare (plans_at c ex (i ∷ []))) → PrunesAt low names b c ex i → Prunes top asked a (slice_set c n.0 q) ex n t
 finish top low asked names a b c ex n i p q d t h e taken one same valid roots opens low_is asks_is built below =
     let o = opened plan_shape a n p t h e in
     let under : StandsOnce plan_shape b (inputs_of p) o.kids = rw taken (StandsOnce-set plan_shape a (inputs_of p) o.kids n.0 d o.inputs o.above) in
@@ -99,13 +103,13 @@ finish top low asked names a b c ex n i p q d t h e taken one same valid roots o
       pruned =
           ap (λ r. more r no_roses) (subst (λ (f : Roses (Unit {0}) Op). rose tt (op_at ex q) f ≡ rebuilt top asked (op_at ex p) f) after built)
           ∙ ap (λ (f : Roses (Unit {0}) Op). more (rebuilt top asked (op_at ex p) f) no_roses) x.pruned
-          ∙ ap₂ (λ (w : Bool) (l : List Name). more (rebuilt top asked (op_at ex p) (pruned_all w l kids)) no_roses) low_is asks_is
+          ∙ ap₂ (λ (w : Bool) (l : List (List Name)). more (rebuilt top asked (op_at ex p) (pruned_all w l kids)) no_roses) low_is asks_is
           ∙ ap (λ (f : Roses (Unit {0}) Op). more (rebuilt top asked (op_at ex p) (pruned_all (top_below top (op_at ex p)) (asks_plans asked (op_at ex p) f) kids)) no_roses) before
           ∙ ap (λ (f : Roses (Unit {0}) Op). more (rebuilt top asked (op_at ex p) f) no_roses) (left_open (op_at ex p) kids (pruned_all (top_below top (op_at ex p)) (asks_plans asked (op_at ex p) kids) kids) opens);
     })
 
 -- from the input of a node to the node, where what stands at the input's number takes its place
-pub moves_up : (top low : Bool) (asked names : List Name) (a b c : List IR) (ex : List AExpr) (n i : Node) (p q d m : IR) (t : Trees IR) → StandsOnce plan_shape a (n ∷ []) t → slice_get a n.0 ≡ Some p → b ≡ slice_set a n.0 d → inputs_of p ≡ i ∷ [] → slice_get c i.0 ≡ Some q → is_closed (op_at ex p) ≡ false → low ≡ top_below top (op_at ex p) → names ≡ asks_plans asked (op_at ex p) (bare (plans_at b ex (i ∷ []))) → ((f : Roses (Unit {0}) Op) → one_plan f ≡ rebuilt top asked (op_at ex p) f) → PrunesAt low names b c ex i → Prunes top asked a (slice_set (slice_set c i.0 m) n.0 q) ex n t
+pub moves_up : (top low : Bool) (asked names : List Name) (a b c : List IR) (ex : List AExpr) (n i : Node) (p q d m : IR) (t : Trees IR) → StandsOnce plan_shape a (n ∷ []) t → slice_get a n.0 ≡ Some p → b ≡ slice_set a n.0 d → inputs_of p ≡ i ∷ [] → slice_get c i.0 ≡ Some q → is_closed (op_at ex p) ≡ false → low ≡ top_below top (op_at ex p) → names ∷ [] ≡ asks_plans asked (op_at ex p) (bare (plans_at b ex (i ∷ []))) → ((f : Roses (Unit {0}) Op) → one_plan f ≡ rebuilt top asked (op_at ex p) f) → PrunesAt low names b c ex i → Prunes top asked a (slice_set (slice_set c i.0 m) n.0 q) ex n t
 moves_up top low asked names a b c ex n i p q d m t h e taken one entry opens low_is asks_is built below =
     let o = opened plan_shape a n p t h e in
     let under : StandsOnce plan_shape b (inputs_of p) o.kids = rw taken (StandsOnce-set plan_shape a (inputs_of p) o.kids n.0 d o.inputs o.above) in
@@ -130,7 +134,7 @@ moves_up top low asked names a b c ex n i p q d m t h e taken one entry opens lo
           ap (λ (u : Trees IR). more (one_plan (bare (plans_of ex u))) no_roses) (sym y.is)
           ∙ ap (λ r. more r no_roses) (built (bare (plans_of ex x.trees)))
           ∙ ap (λ (f : Roses (Unit {0}) Op). more (rebuilt top asked (op_at ex p) f) no_roses) x.pruned
-          ∙ ap₂ (λ (w : Bool) (l : List Name). more (rebuilt top asked (op_at ex p) (pruned_all w l kids)) no_roses) low_is asks_is
+          ∙ ap₂ (λ (w : Bool) (l : List (List Name)). more (rebuilt top asked (op_at ex p) (pruned_all w l kids)) no_roses) low_is asks_is
           ∙ ap (λ (f : Roses (Unit {0}) Op). more (rebuilt top asked (op_at ex p) (pruned_all (top_below top (op_at ex p)) (asks_plans asked (op_at ex p) f) kids)) no_roses) before
           ∙ ap (λ (f : Roses (Unit {0}) Op). more (rebuilt top asked (op_at ex p) f) no_roses) (left_open (op_at ex p) kids (pruned_all (top_below top (op_at ex p)) (asks_plans asked (op_at ex p) kids) kids) opens);
     })
@@ -233,11 +237,11 @@ module _ (a b : List IR) (ex : List AExpr) (n : Node) (d : IR) (t : Trees IR) (h
 
 -- what a pruned plan is
 module _ (top : Bool) (asked : List Name) (a c : List IR) (ex : List AExpr) (n : Node) (h : IsPlan a ex n) (x : Prunes top asked a c ex n h.nodes) where
-  pub pruned_is : bare (plans_at c ex (n ∷ [])) ≡ pruned_all top asked (bare (plans_at a ex (n ∷ [])))
+  pub pruned_is : bare (plans_at c ex (n ∷ [])) ≡ pruned_all top (asked ∷ []) (bare (plans_at a ex (n ∷ [])))
   pruned_is =
       ap (λ (t : Trees IR). bare (plans_of ex t)) (trees_at-is plan_shape c (n ∷ []) x.trees x.rewrites.stands)
       ∙ x.pruned
-      ∙ ap (λ (t : Trees IR). pruned_all top asked (bare (plans_of ex t))) (sym (trees_at-is plan_shape a (n ∷ []) h.nodes h.stands.nodes))
+      ∙ ap (λ (t : Trees IR). pruned_all top (asked ∷ []) (bare (plans_of ex t))) (sym (trees_at-is plan_shape a (n ∷ []) h.nodes h.stands.nodes))
 
   pub pruned_stands : IsPlan c ex n
   pruned_stands =

@@ -1,12 +1,10 @@
 -- A node that was taken is pruned by its step.
-use Rattle.std.proofs.Common.{◌≡◌, ℕ, ◌<◌, ◌≤◌, Bool, true, false, not, List, [], ◌∷◌, ◌&&◌, ◌||◌, length, length-set, take, Option, Some, unwrap_or, refl, sym, ap, ◌∙◌, subst}
+use Rattle.std.proofs.Common.{◌≡◌, ℕ, ◌+◌, ◌<◌, ◌≤◌, Bool, true, false, not, List, [], ◌∷◌, ◌&&◌, ◌||◌, length, min, take, Option, Some, None, unwrap_or, refl, sym, ap, ◌∙◌, arith, subst}
 use Rattle.std.specs.List.{slice_get, slice_set}
-use Rattle.std.proofs.Math.Dec.{ltb}
-use Rattle.plan_options.specs.declared.union.UnionOptions.{UnionOptions}
 use Rattle.plan_core.specs.declared.arena.Node.{Node}
 use Rattle.plan_tree.specs.Rose.{no_roses}
 use Rattle.plan_tree.specs.Stands.{Trees, StandsOnce, Rewrites}
-use Rattle.plan_tree.proofs.Frames.{front, StandsOnce-set}
+use Rattle.plan_tree.proofs.Frames.{front}
 use Rattle.plan_tree.proofs.TreeLemmas.{opened}
 use Rattle.plan_expr.specs.declared.aexpr.AExpr.{AExpr}
 use Rattle.plan_ir.specs.declared.ir.IR.{IR}
@@ -25,10 +23,11 @@ use Rattle.plan_prune.specs.Kept.{is_some_name, names_at, selected_at, stacked_a
 use Rattle.plan_prune.specs.Prunes.{MarksAt, Prunes, PrunesAt}
 use Rattle.plan_prune.specs.Scans.{covered_at, kept_scan, with_columns_on, with_node}
 use Rattle.plan_prune.specs.Steps.{columns_at, stand_in_at, step_of, put_back}
-use Rattle.plan_prune.proofs.PruneLemmas.{Asks, alone, finish, stays, scan_pruned, stands_taken, stands_after}
+use Rattle.plan_prune.proofs.PruneLemmas.{Asks, alone, finish, one_list, is_entry, stays, scan_pruned, stands_taken, stands_after}
+use Rattle.plan_prune.proofs.AlikeLemmas.{length-alike}
 use Rattle.plan_prune.proofs.KeptLemmas.{selected_named, selected_place, select_built, hstack_asks}
 use Rattle.plan_prune.proofs.HStackPruned.{hstack_pruned, found as there}
-use Rattle.plan_prune.proofs.EachLemmas.{PrunesEach, SoFar, set_twice, closed_marks, closed_pruned, each_asks, each_finish, each_marks, one_covered, one_plain, so_far_all}
+use Rattle.plan_prune.proofs.EachLemmas.{PrunesEach, SoFar, set_twice, closed_marks, closed_pruned, each_asks, each_marks, one_covered, one_plain, so_far_all, so_far_next, union_pruned}
 
 -- equal steps have equal parts
 over_parts : (i j : Node) (names others : List Name) (p q : IR) → Over i names p ≡ Over j others q → (i ≡ j) × (names ≡ others) × (p ≡ q)
@@ -167,19 +166,20 @@ module _ (top low : Bool) (asked names : List Name) (a b c z : List IR) (ex : Li
 
   pub over_pruned : (p : IR) → slice_get a n.0 ≡ Some p → low ≡ top_below top (op_at ex p) → Over i names q ≡ step_of b ex asked p → Prunes top asked a z ex n t
   over_pruned (Slice j offset len) e low_is is =
-      rw (put_over _ _ _ is) (finish top low asked names a b c ex n i (Slice j offset len) (Slice j offset len) d t h e taken (one _ _ _ is) refl refl (λ before after x. x) refl low_is (named _ _ _ is) refl below)
+      rw (put_over _ _ _ is) (finish top low asked names a b c ex n i (Slice j offset len) (Slice j offset len) d t h e taken (one _ _ _ is) refl refl (λ before after x. x) refl low_is (one_list (named _ _ _ is)) refl below)
   over_pruned (Filter j predicate) e low_is is =
-      rw (put_over _ _ _ is) (finish top low asked names a b c ex n i (Filter j predicate) (Filter j predicate) d t h e taken (one _ _ _ is) refl refl (λ before after x. x) refl low_is (named _ _ _ is) refl below)
+      rw (put_over _ _ _ is) (finish top low asked names a b c ex n i (Filter j predicate) (Filter j predicate) d t h e taken (one _ _ _ is) refl refl (λ before after x. x) refl low_is (one_list (named _ _ _ is)) refl below)
   over_pruned (SimpleProjection j columns) e low_is is =
-      rw (put_over _ _ _ is) (finish top low asked names a b c ex n i (SimpleProjection j columns) (SimpleProjection j (kept asked columns)) d t h e taken (one _ _ _ is) refl refl (λ before after x. x) refl low_is (named _ _ _ is) refl below)
+      rw (put_over _ _ _ is) (finish top low asked names a b c ex n i (SimpleProjection j columns) (SimpleProjection j (kept asked columns)) d t h e taken (one _ _ _ is) refl refl (λ before after x. x) refl low_is (one_list (named _ _ _ is)) refl below)
   over_pruned (Select j es schema options) e low_is is =
       let ks = selected_at ex asked es in
       let cs = stored_after (is_some_name asked) [] (names_at ks) schema in
       rw (put_over _ _ _ is) (finish top low asked names a b c ex n i (Select j es schema options) (Select j ks cs options) d t h e taken (one _ _ _ is) refl refl
       (selected_place ex asked es) refl low_is
+      (one_list
       (named _ _ _ is
       ∙ ap (λ (l : List Named). needed_names (all_named_at ex es) (stand_in_at b ex j) l) (selected_named ex asked es)
-      ∙ ap (λ (k : Node). needed_names (all_named_at ex es) (stand_in_at b ex k) (selected_exprs (set_of asked) (all_named_at ex es))) (sym (over_parts i j names _ q _ is).0))
+      ∙ ap (λ (k : Node). needed_names (all_named_at ex es) (stand_in_at b ex k) (selected_exprs (set_of asked) (all_named_at ex es))) (sym (over_parts i j names _ q _ is).0)))
       (select_built ex asked es ks schema cs options (bare (plans_at c ex (i ∷ []))) refl refl)
       below)
   over_pruned (HStack j es schema options) e low_is is =
@@ -189,15 +189,15 @@ module _ (top low : Bool) (asked names : List Name) (a b c z : List IR) (ex : Li
       (subst (λ (k : Node). PrunesAt low names b c ex k) x.0 below)
       (is_some_name asked) (stacked_at asked es) z refl refl (put_over _ _ _ is)
   over_pruned (Sort j keys part options) e low_is is =
-      rw (put_over _ _ _ is) (finish top low asked names a b c ex n i (Sort j keys part options) (Sort j keys part options) d t h e taken (one _ _ _ is) refl refl (λ before after x. x) refl low_is (named _ _ _ is) refl below)
+      rw (put_over _ _ _ is) (finish top low asked names a b c ex n i (Sort j keys part options) (Sort j keys part options) d t h e taken (one _ _ _ is) refl refl (λ before after x. x) refl low_is (one_list (named _ _ _ is)) refl below)
   over_pruned (Distinct j options) e low_is is =
       rw (put_over _ _ _ is) (finish top low asked names a b c ex n i (Distinct j options) (Distinct j options) d t h e taken (one _ _ _ is) refl refl (λ before after x. x) refl low_is
-      (named _ _ _ is ∙ ap (λ (k : Node). asked_with asked (names_or options.subset (names_of (columns_at b ex k)))) (sym (over_parts i j names _ q _ is).0)) refl below)
+      (one_list (named _ _ _ is ∙ ap (λ (k : Node). asked_with asked (names_or options.subset (names_of (columns_at b ex k)))) (sym (over_parts i j names _ q _ is).0))) refl below)
   over_pruned (MapFunction j function) e low_is is =
       rw (put_over _ _ _ is) (finish top low asked names a b c ex n i (MapFunction j function) (MapFunction j function) d t h e taken (one _ _ _ is) refl refl (λ before after x. x) refl low_is
-      (named _ _ _ is ∙ ap (λ (k : Node). mapped_names asked function (columns_at b ex k)) (sym (over_parts i j names _ q _ is).0)) refl below)
+      (one_list (named _ _ _ is ∙ ap (λ (k : Node). mapped_names asked function (columns_at b ex k)) (sym (over_parts i j names _ q _ is).0))) refl below)
   over_pruned (Sink j payload) e low_is is =
-      rw (put_over _ _ _ is) (finish top low asked names a b c ex n i (Sink j payload) (Sink j payload) d t h e taken (one _ _ _ is) refl refl (λ before after x. x) refl low_is (named _ _ _ is) refl below)
+      rw (put_over _ _ _ is) (finish top low asked names a b c ex n i (Sink j payload) (Sink j payload) d t h e taken (one _ _ _ is) refl refl (λ before after x. x) refl low_is (one_list (named _ _ _ is)) refl below)
   over_pruned (Scan sources info predicate output kind options) e low_is is = cc
   over_pruned (Union inputs options) e low_is is = cc
   over_pruned (Cache j id cache_hits) e low_is is = cc
@@ -218,15 +218,7 @@ pub top_marked : (before count after : Bool) → after ≡ (before || count) →
 top_marked true count after is = ap not is
 top_marked false count after is = ap not is
 
--- the mark after a plan, once it is set where the node counts rows: of a node without inputs, and of one over an input that was marked
-
--- once it is set where the node counts rows, and then where its inputs do, which aren't left out
-marked_twice : (x y z c : Bool) → c ≡ false → ((x || y) || z) ≡ (x || (y || ((not c && z) || false)))
-marked_twice true y z c e = refl
-marked_twice false true z c e = refl
-marked_twice false false true false e = refl
-marked_twice false false false false e = refl
-marked_twice false false z true e = cc
+-- the mark after a node without inputs: it is set where the node counts rows
 
 marked_once : (x y c : Bool) → (x || y) ≡ (x || (y || ((not c && false) || false)))
 marked_once true y c = refl
@@ -237,14 +229,6 @@ marked_once false false false = refl
 pub marks_leaf : (before mid : Bool) (lp b : List IR) (ex : List AExpr) (asked : List Name) (n : Node) (p q : IR) → slice_get lp n.0 ≡ Some p → Leaf q ≡ step_of b ex asked p → mid ≡ (before || is_count (op_at ex p)) → MarksAt before mid lp ex n
 marks_leaf before mid lp b ex asked n p q e leaf is t h =
     is ∙ marked_once before (is_count (op_at ex p)) (is_closed (op_at ex p)) ∙ ap (λ (u : Trees IR). before || meet_count (bare (plans_of ex u))) (sym (alone lp (slice_set lp n.0 p) ex n p p t h (leaf_alone b ex asked p q leaf) e refl))
-
-pub marks_over : (before mid after : Bool) (lp b : List IR) (ex : List AExpr) (n i : Node) (p d : IR) → slice_get lp n.0 ≡ Some p → b ≡ slice_set lp n.0 d → inputs_of p ≡ i ∷ [] → is_closed (op_at ex p) ≡ false → mid ≡ (before || is_count (op_at ex p)) → MarksAt mid after b ex i → MarksAt before after lp ex n
-marks_over before mid after lp b ex n i p d e taken one opens is below t h =
-    let o = opened plan_shape lp n p t h e in
-    let under : StandsOnce plan_shape b (inputs_of p) o.kids = rw taken (StandsOnce-set plan_shape lp (inputs_of p) o.kids n.0 d o.inputs o.above) in
-    let at_input : StandsOnce plan_shape b (i ∷ []) o.kids = subst (λ (ns : List Node). StandsOnce plan_shape b ns o.kids) one under in
-    let k : Bool = meet_count (bare (plans_of ex o.kids)) in
-    below o.kids at_input ∙ ap (λ (m : Bool). m || k) is ∙ marked_twice before (is_count (op_at ex p)) k (is_closed (op_at ex p)) opens ∙ ap (λ (u : Trees IR). before || meet_count (bare (plans_of ex u))) (sym o.is)
 
 -- a closed step is that of a cache
 pub record IsClosed (b : List IR) (ex : List AExpr) (asked : List Name) (p q : IR) (columns : Option Columns) : Type 0 where
@@ -274,33 +258,46 @@ is_closed_step b ex asked (Sink j payload) q columns e = cc
 is_closed_step b ex asked (Union inputs options) q columns e = cc
 is_closed_step b ex asked Invalid q columns e = cc
 
--- a step over each input is that of a union
-pub record IsEach (asked names : List Name) (inputs : List Node) (p q : IR) : Type 0 where
-  pub options : UnionOptions
-  pub is : p ≡ Union inputs options
-  pub same : q ≡ Union inputs options
-  pub are : names ≡ asked
+-- names that are there are the same, or aren't there
+pub some_same : (o : Option (List Name)) (x y : List Name) → o ≡ Some x → o ≡ Some y → x ≡ y
+some_same None x y e f = cc
+some_same (Some z) x y e f = cc
 
-each_parts : (ns ms : List Node) (l m : List Name) (p q : IR) → Each ns l p ≡ Each ms m q → (ns ≡ ms) × (l ≡ m) × (p ≡ q)
-each_parts ns ms l m p q e = (cc, cc, cc)
+pub none_some : (o : Option (List Name)) (x : List Name) → o ≡ None → o ≡ Some x → ⊥
+none_some None x e f = cc
+none_some (Some z) x e f = cc
 
-pub is_each_step : (b : List IR) (ex : List AExpr) (asked names : List Name) (inputs : List Node) (p q : IR) → Each inputs names q ≡ step_of b ex asked p → IsEach asked names inputs p q
-is_each_step b ex asked names inputs (Union own options) q e =
-    let x = each_parts inputs _ names _ q _ e in
-    record { options = options; is = ap (λ (l : List Node). Union l options) (sym x.0); same = x.2 ∙ ap (λ (l : List Node). Union l options) (sym x.0); are = x.1 }
-is_each_step b ex asked names inputs (Slice j offset len) q e = cc
-is_each_step b ex asked names inputs (Filter j predicate) q e = cc
-is_each_step b ex asked names inputs (Scan sources info predicate output kind options) q e = cc
-is_each_step b ex asked names inputs (DataFrameScan df schema output) q e = cc
-is_each_step b ex asked names inputs (SimpleProjection j cs) q e = cc
-is_each_step b ex asked names inputs (Select j es schema options) q e = cc
-is_each_step b ex asked names inputs (HStack j es schema options) q e = cc
-is_each_step b ex asked names inputs (Sort j keys part options) q e = cc
-is_each_step b ex asked names inputs (Distinct j options) q e = cc
-is_each_step b ex asked names inputs (MapFunction j function) q e = cc
-is_each_step b ex asked names inputs (Sink j payload) q e = cc
-is_each_step b ex asked names inputs (Cache j id hits) q e = cc
-is_each_step b ex asked names inputs Invalid q e = cc
+-- one input, pruned and then under a projection or not
+pub one_more : (top : Bool) (covers : Option (List Name)) (asked : List Name) (b c z : List IR) (ex : List AExpr) (n : Node) → PrunesAt top asked b c ex n → ((names : List Name) → covers ≡ Some names → z ≡ covered_at (asked_columns names (columns_at c ex n)) c n) → (covers ≡ None → z ≡ c) → n.0 < length c → (t : Trees IR) → StandsOnce plan_shape b (n ∷ []) t → PrunesEach top covers (asked ∷ []) b z ex (n ∷ []) t
+one_more top (Some names) asked b c z ex n x on off low t h = one_covered top asked names b c z ex n (unwrap_or (slice_get c n.0) Invalid) t (there c n.0 low) (on names refl) (x t h)
+one_more top None asked b c z ex n x on off low t h = rw (off refl) (one_plain top asked b c ex n t (x t h))
+
+-- a step over each input is that of a node with these inputs, which asks each of them
+pub record IsEach (inputs : List Node) (lists : List (List Name)) (p : IR) : Type 0 where
+  pub own : inputs_of p ≡ inputs
+  pub long : length lists ≡ length inputs
+  pub opens : (ex : List AExpr) → is_closed (op_at ex p) ≡ false
+
+each_parts : (ns ms : List Node) (l m : List (List Name)) (o u : Option (List Name)) (p q : IR) → Each ns l o p ≡ Each ms m u q → (ns ≡ ms) × (l ≡ m) × (o ≡ u) × (p ≡ q)
+each_parts ns ms l m o u p q e = (cc, cc, cc, cc)
+
+pub is_each : (b : List IR) (ex : List AExpr) (asked : List Name) (inputs : List Node) (lists : List (List Name)) (covers : Option (List Name)) (p q : IR) → Each inputs lists covers q ≡ step_of b ex asked p → IsEach inputs lists p
+is_each b ex asked inputs lists covers (Union own options) q e =
+    let x = each_parts inputs _ lists _ covers _ q _ e in
+    record { own = sym x.0; long = ap length x.1 ∙ length-alike asked own ∙ ap length (sym x.0); opens = λ ex. refl }
+is_each b ex asked inputs lists covers (Slice j offset len) q e = cc
+is_each b ex asked inputs lists covers (Filter j predicate) q e = cc
+is_each b ex asked inputs lists covers (Scan sources info predicate output kind options) q e = cc
+is_each b ex asked inputs lists covers (DataFrameScan df schema output) q e = cc
+is_each b ex asked inputs lists covers (SimpleProjection j cs) q e = cc
+is_each b ex asked inputs lists covers (Select j es schema options) q e = cc
+is_each b ex asked inputs lists covers (HStack j es schema options) q e = cc
+is_each b ex asked inputs lists covers (Sort j keys part options) q e = cc
+is_each b ex asked inputs lists covers (Distinct j options) q e = cc
+is_each b ex asked inputs lists covers (MapFunction j function) q e = cc
+is_each b ex asked inputs lists covers (Sink j payload) q e = cc
+is_each b ex asked inputs lists covers (Cache j id hits) q e = cc
+is_each b ex asked inputs lists covers Invalid q e = cc
 
 -- a cache is pruned by its step, and counts no rows
 module _ (asked : List Name) (a b : List IR) (ex : List AExpr) (n : Node) (p q d : IR) (columns : Option Columns) (e : slice_get a n.0 ≡ Some p) (taken : b ≡ slice_set a n.0 d) (step : Closed columns q ≡ step_of b ex asked p) where
@@ -315,41 +312,57 @@ module _ (asked : List Name) (a b : List IR) (ex : List AExpr) (n : Node) (p q d
       let o = is_closed_step b ex asked p q columns step in
       closed_marks a b ex n o.input o.id o.hits d t h (e ∙ ap Some o.is) taken before mid (is ∙ ap (λ (r : IR). before || is_count (op_at ex r)) o.is)
 
--- what a call on an input of a union asks, and what comes of the union, which went back at once
-module _ (asked names : List Name) (a m b : List IR) (ex : List AExpr) (n : Node) (inputs : List Node) (p q d : IR) (e : slice_get a n.0 ≡ Some p) (taken : m ≡ slice_set a n.0 d) (put : b ≡ slice_set m n.0 q) (step : Each inputs names q ≡ step_of m ex asked p) where
-  abbrev each_is : IsEach asked names inputs p q
-  each_is = is_each_step m ex asked names inputs p q step
+-- a node over inputs is pruned by its step, once these are pruned
+module _ (top low : Bool) (asked : List Name) (lists : List (List Name)) (covers : Option (List Name)) (a m b c : List IR) (ex : List AExpr) (n : Node) (inputs : List Node) (q : IR) (t : Trees IR) (h : StandsOnce plan_shape a (n ∷ []) t) (back : b ≡ slice_set a n.0 q) (below : (kids : Trees IR) → StandsOnce plan_shape b inputs kids → PrunesEach low covers lists b c ex inputs kids) where
+  pub each_pruned : (p : IR) → slice_get a n.0 ≡ Some p → low ≡ top_below top (op_at ex p) → Each inputs lists covers q ≡ step_of m ex asked p → Prunes top asked a c ex n t
+  each_pruned (Union own options) e low_is is =
+      let x = each_parts inputs _ lists _ covers _ q _ is in
+      union_pruned top low asked covers lists a b c ex n own options (back ∙ ap (slice_set a n.0) x.3) low_is x.1 x.2
+      (λ kids s. subst (λ (ns : List Node). PrunesEach low covers lists b c ex ns kids) x.0 (below kids (subst (λ (ns : List Node). StandsOnce plan_shape b ns kids) (sym x.0) s))) t h e
+  each_pruned (Slice j offset len) e low_is is = cc
+  each_pruned (Filter j predicate) e low_is is = cc
+  each_pruned (Scan sources info predicate output kind options) e low_is is = cc
+  each_pruned (DataFrameScan df schema output) e low_is is = cc
+  each_pruned (SimpleProjection j cs) e low_is is = cc
+  each_pruned (Select j es schema options) e low_is is = cc
+  each_pruned (HStack j es schema options) e low_is is = cc
+  each_pruned (Sort j keys part options) e low_is is = cc
+  each_pruned (Distinct j options) e low_is is = cc
+  each_pruned (MapFunction j function) e low_is is = cc
+  each_pruned (Sink j payload) e low_is is = cc
+  each_pruned (Cache j id hits) e low_is is = cc
+  each_pruned Invalid e low_is is = cc
+
+-- what a call on an input of a node asks, and what comes of the node, which went back at once
+module _ (asked : List Name) (a m b : List IR) (ex : List AExpr) (n : Node) (inputs : List Node) (lists : List (List Name)) (covers : Option (List Name)) (p q d : IR) (e : slice_get a n.0 ≡ Some p) (taken : m ≡ slice_set a n.0 d) (put : b ≡ slice_set m n.0 q) (step : Each inputs lists covers q ≡ step_of m ex asked p) where
+  abbrev each_is : IsEach inputs lists p
+  each_is = is_each m ex asked inputs lists covers p q step
 
   back : b ≡ slice_set a n.0 q
   back = put ∙ ap (λ (l : List IR). slice_set l n.0 q) taken ∙ set_twice a n.0 d q
 
-  own_inputs : inputs ≡ inputs_of p
-  own_inputs = sym (ap inputs_of each_is.is)
+  pub each_call : (before mid : Bool) (c : List IR) (i : Node) (j : ℕ) → IsPlan a ex n → slice_get inputs j ≡ Some i → SoFar before mid covers lists b c ex inputs j → Asks a c ex n i
+  each_call before mid c i j h at x =
+      each_asks a b c ex n i p q j h e back (ap (λ (l : List Node). slice_get l j) each_is.own ∙ at)
+      (λ kids s. let y = x.prunes kids (subst (λ (l : List Node). StandsOnce plan_shape b l kids) each_is.own s) in (y.trees, subst (λ (l : List Node). Rewrites plan_shape b c (take j l) (front plan_shape kids j) y.trees) (sym each_is.own) y.rewrites))
 
-  pub each_names : names ≡ asked
-  each_names = each_is.are
+  -- with the next input
+  module _ (before mid after : Bool) (c u : List IR) (i : Node) (names : List Name) (j : ℕ) (h : IsPlan a ex n) (at : slice_get inputs j ≡ Some i) (x : SoFar before mid covers lists b c ex inputs j) (below : PrunesAt (not mid) names c u ex i) where
+    pub each_stands : (t : Trees IR) × StandsOnce plan_shape u (i ∷ []) t
+    each_stands = let k = each_call before mid c i j h at x in stands_after (not mid) names c u ex i (k.plan.nodes, k.plan.stands.nodes) below
 
-  pub each_long : length m ≡ length b
-  each_long = sym (rw put (length-set m n.0 q))
+    pub each_more : (z : List IR) → slice_get lists j ≡ Some names → ((l : List Name) → covers ≡ Some l → z ≡ covered_at (asked_columns l (columns_at u ex i)) u i) → (covers ≡ None → z ≡ u) → MarksAt mid after c ex i → (mid ≡ true → after ≡ true) → length c ≤ length z → SoFar before after covers lists b z ex inputs (j + 1)
+    each_more z named on off marks stays grows =
+        so_far_next before mid after covers lists names b c z ex inputs i j at named x (one_more (not mid) covers names c u z ex i below on off (is_entry u i each_stands)) marks stays grows
 
-  pub each_call : (before mid covers : Bool) (c : List IR) (i : Node) (j : ℕ) → IsPlan a ex n → slice_get inputs j ≡ Some i → SoFar before mid covers asked b c ex inputs j → Asks a c ex n i
-  each_call before mid covers c i j h at x =
-      each_asks a b c ex n i p q j h e back (ap (λ (l : List Node). slice_get l j) (sym own_inputs) ∙ at)
-      (λ kids s. let y = x.prunes kids (subst (λ (l : List Node). StandsOnce plan_shape b l kids) (sym own_inputs) s) in (y.trees, subst (λ (l : List Node). Rewrites plan_shape b c (take j l) (front plan_shape kids j) y.trees) own_inputs y.rewrites))
+  -- all inputs and lists were passed
+  past : (j : ℕ) → j ≡ min (length inputs) (length lists) → length inputs ≤ j
+  past j e = rw (e, each_is.long) (omega arith)
 
-  pub each_step : (top before mid covers : Bool) (c : List IR) (k j : ℕ) → not before ≡ top_below top (op_at ex p) → k ≡ length inputs → covers ≡ ltb 1 k → length inputs ≤ j → SoFar before mid covers asked b c ex inputs j → PrunesAt top asked a c ex n
-  each_step top before mid covers c k j low many covers_is past x t h =
-      let o = each_is in
-      each_finish top (not before) covers asked a b c ex n inputs o.options t k h (e ∙ ap Some o.is) (back ∙ ap (slice_set a n.0) o.same) (low ∙ ap (λ (r : IR). top_below top (op_at ex r)) o.is) many covers_is
-      (λ kids s. (so_far_all before mid covers asked b c ex inputs j past x kids s).0)
+  pub each_step : (top before mid : Bool) (c : List IR) (j : ℕ) → not before ≡ top_below top (op_at ex p) → j ≡ min (length inputs) (length lists) → SoFar before mid covers lists b c ex inputs j → PrunesAt top asked a c ex n
+  each_step top before mid c j low ended x t h =
+      each_pruned top (not before) asked lists covers a m b c ex n inputs q t h back (λ kids s. (so_far_all before mid covers lists b c ex inputs j (past j ended) x kids s).0) p e low step
 
-  pub each_mark : (first before mid covers : Bool) (c : List IR) (j : ℕ) → before ≡ (first || is_count (op_at ex p)) → length inputs ≤ j → SoFar before mid covers asked b c ex inputs j → MarksAt first mid a ex n
-  each_mark first before mid covers c j is past x =
-      let o = each_is in
-      each_marks first before mid a b ex n inputs o.options q (e ∙ ap Some o.is) back (is ∙ ap (λ (r : IR). first || is_count (op_at ex r)) o.is)
-      (λ kids s. (so_far_all before mid covers asked b c ex inputs j past x kids s).1)
-
--- one input, pruned and then under a projection or not
-pub one_more : (top covers : Bool) (asked : List Name) (b c z : List IR) (ex : List AExpr) (n : Node) → PrunesAt top asked b c ex n → (covers ≡ true → z ≡ covered_at (asked_columns asked (columns_at c ex n)) c n) → (covers ≡ false → z ≡ c) → n.0 < length c → (t : Trees IR) → StandsOnce plan_shape b (n ∷ []) t → PrunesEach top covers asked b z ex (n ∷ []) t
-one_more top true asked b c z ex n x on off low t h = one_covered top asked b c z ex n (unwrap_or (slice_get c n.0) Invalid) t (there c n.0 low) (on refl) (x t h)
-one_more top false asked b c z ex n x on off low t h = rw (off refl) (one_plain top asked b c ex n t (x t h))
+  pub each_mark : (first before mid : Bool) (c : List IR) (j : ℕ) → before ≡ (first || is_count (op_at ex p)) → j ≡ min (length inputs) (length lists) → SoFar before mid covers lists b c ex inputs j → MarksAt first mid a ex n
+  each_mark first before mid c j is ended x =
+      each_marks first before mid a b ex n inputs p q e back each_is.own (each_is.opens ex) is (λ kids s. (so_far_all before mid covers lists b c ex inputs j (past j ended) x kids s).1)

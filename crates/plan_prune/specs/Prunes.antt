@@ -24,7 +24,7 @@ pub record Prunes (top : Bool) (asked : List Name) (old new : List IR) (ex : Lis
   pub trees : Trees IR
   pub rewrites : Rewrites plan_shape old new (n ∷ []) t trees
   pub exprs : TakePlace ex (roots_in trees) (roots_in t)
-  pub pruned : bare (plans_of ex trees) ≡ pruned_all top asked (bare (plans_of ex t))
+  pub pruned : bare (plans_of ex trees) ≡ pruned_all top (asked ∷ []) (bare (plans_of ex t))
 
 -- what stands at a number is pruned in place to the asked names
 abbrev pub PrunesAt : Bool → List Name → List IR → List IR → List AExpr → Node → Type 0

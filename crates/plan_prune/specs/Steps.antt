@@ -1,5 +1,5 @@
 -- What is done at a node that was taken: before its input is pruned, and after.
-use Rattle.std.specs.Prelude.{Bool, ◌&&◌, List, [], ◌∷◌, Option, slice_set}
+use Rattle.std.specs.Prelude.{Bool, ◌&&◌, List, [], ◌∷◌, Option, None, Some, slice_set}
 use Rattle.plan_core.specs.declared.arena.Node.{Node}
 use Rattle.plan_core.specs.declared.options.ProjectionOptions.{ProjectionOptions}
 use Rattle.plan_core.specs.Columns.{Columns, names_of}
@@ -15,7 +15,7 @@ use Rattle.plan_meaning.specs.Typing.{first_schema, names_or}
 use Rattle.plan_meaning.specs.Counting.{stand_ins, first_stand_in}
 use Rattle.plan_meaning.specs.Asked.{all_leaves, needed_names}
 use Rattle.plan_schema.specs.Stored.{stored_all}
-use Rattle.plan_narrowing.specs.Pruned.{asked_columns, asked_with, kept, mapped_names, pruned_output}
+use Rattle.plan_narrowing.specs.Pruned.{asked_columns, asked_with, kept, mapped_names, names_alike, pruned_output}
 use Rattle.plan_prune.specs.declared.push_down.step.Step.{Step}
 use Rattle.plan_prune.specs.declared.push_down.step.Step.TheVariants.{Leaf, Over, Closed, Each}
 use Rattle.plan_prune.specs.Kept.{selected_at, stacked_at, is_some_name, names_at, stored_after, asks_after, with_stacked}
@@ -41,6 +41,12 @@ stacked_step ex asked i es schema options s =
     let ks = stacked_at asked es in
     Over i (asks_after asked (all_named_at ex ks) s) (HStack i ks schema options)
 
+-- the names to which each of a union's inputs gets a projection: the asked ones where there is more than one input
+abbrev pub covering : List Node → List Name → Option (List Name)
+covering [] asked = None
+covering (n ∷ []) asked = None
+covering (n ∷ m ∷ ns) asked = Some asked
+
 -- the step of a node that is asked names
 abbrev pub step_of : List IR → List AExpr → List Name → IR → Step
 step_of lp ex asked (Slice i offset len) = Over i asked (Slice i offset len)
@@ -54,7 +60,7 @@ step_of lp ex asked (Sort i keys part options) = Over i (asked_with asked (all_l
 step_of lp ex asked (Distinct i options) = Over i (asked_with asked (names_or options.subset (names_of (columns_at lp ex i)))) (Distinct i options)
 step_of lp ex asked (MapFunction i function) = Over i (mapped_names asked function (columns_at lp ex i)) (MapFunction i function)
 step_of lp ex asked (Sink i payload) = Over i asked (Sink i payload)
-step_of lp ex asked (Union inputs options) = Each inputs asked (Union inputs options)
+step_of lp ex asked (Union inputs options) = Each inputs (names_alike asked inputs) (covering inputs asked) (Union inputs options)
 step_of lp ex asked (Cache i id cache_hits) = Closed (asked_columns asked (columns_at lp ex i)) (Cache i id cache_hits)
 step_of lp ex asked Invalid = Leaf Invalid
 

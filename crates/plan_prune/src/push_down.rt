@@ -123,14 +123,14 @@ impl ProjectionPushDown {
             Step::Each {
                 inputs,
                 asked,
+                covered,
                 entry,
             } => {
                 lp.put(node, entry);
-                let several = inputs.len() > 1;
-                for input in inputs.as_slice() {
-                    self.push_down(alloc, *input, copied_names(alloc, &asked)?, lp, ex)?;
-                    if several {
-                        cover(alloc, *input, &asked, lp)?;
+                for (input, asked) in inputs.as_slice().iter().zip(asked.as_slice()) {
+                    self.push_down(alloc, *input, copied_names(alloc, asked)?, lp, ex)?;
+                    if let Some(names) = &covered {
+                        cover(alloc, *input, names, lp)?;
                     }
                 }
                 Ok(())

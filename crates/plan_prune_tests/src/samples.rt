@@ -2,10 +2,10 @@
 
 use crate::written::written;
 use crate::{columns_named, scan_of};
+use plan_check::check_plan;
 use plan_core::{Arena, Items, Node, PlSmallStr, ProjectionOptions, Schema, TryClone};
 use plan_expr::{AExpr, ExprIR, LiteralValue, Operator, OutputName};
 use plan_ir::IR;
-use plan_check::check_plan;
 use plan_options::{
     DistinctOptionsIR, SinkType, SortMultipleOptions, UnionOptions, UniqueKeepStrategy,
 };

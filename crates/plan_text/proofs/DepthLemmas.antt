@@ -22,9 +22,11 @@ use Rattle.plan_ir.specs.declared.scan.FileScan.{FileScan}
 use Rattle.plan_ir.specs.declared.scan.ScanSources.{ScanSources}
 use Rattle.plan_ir.specs.declared.scan.ScanSources.TheVariants as sources
 use Rattle.plan_options.specs.declared.distinct.DistinctOptionsIR.{DistinctOptionsIR}
+use Rattle.plan_options.specs.declared.group.GroupbyOptions.{GroupbyOptions}
 use Rattle.plan_options.specs.declared.sort.SortMultipleOptions.{SortMultipleOptions}
+use Rattle.plan_options.specs.declared.union.HConcatOptions.{HConcatOptions}
 use Rattle.plan_options.specs.declared.union.UnionOptions.{UnionOptions}
-use Rattle.plan_text.specs.Written.{link_data, list_data, nullable_data, number_data, field_data, columns_data, names_data, truths_data, output_data, outputs_data, options_data, slice_data, row_index_data, sources_data, literal_data, expr_data, slice_node_data, scan_data, frame_scan_data, made_data, sort_data, distinct_data, rename_data, numbering_data, unpivot_data, explode_data, frame_function_data, map_function_data, union_data, cache_data, node_data, plan_data}
+use Rattle.plan_text.specs.Written.{link_data, list_data, nullable_data, number_data, field_data, columns_data, names_data, truths_data, output_data, outputs_data, options_data, slice_data, row_index_data, sources_data, literal_data, expr_data, slice_node_data, scan_data, frame_scan_data, made_data, sort_data, group_by_data, distinct_data, rename_data, numbering_data, unpivot_data, explode_data, frame_function_data, map_function_data, union_data, hconcat_data, cache_data, node_data, plan_data}
 
 both : (a b k : ℕ) → a ≤ k → b ≤ k → max a b ≤ k
 both a b k p q = omega arith
@@ -110,6 +112,15 @@ sort_deep input keys slice options =
     let some = nullable_deep slice_data 1 slice (λ r. omega arith) in
     omega arith
 
+group_by_deep : (input : Node) (keys aggs : List ExprIR) (schema : Columns) (maintain_order : Bool) (options : GroupbyOptions) → depth (group_by_data input keys aggs schema maintain_order options) ≤ 4
+unfolding group_by_data
+group_by_deep input keys aggs schema maintain_order options =
+    let made = outputs_deep aggs in
+    let named = outputs_deep keys in
+    let all = columns_deep schema in
+    let some = nullable_deep slice_data 1 options.slice (λ r. omega arith) in
+    omega arith
+
 distinct_deep : (input : Node) (options : DistinctOptionsIR) → depth (distinct_data input options) ≤ 4
 unfolding distinct_data
 distinct_deep input options =
@@ -170,6 +181,13 @@ union_deep inputs options =
     let some = nullable_deep slice_data 1 options.slice (λ r. omega arith) in
     omega arith
 
+hconcat_deep : (inputs : List Node) (schema : Columns) (options : HConcatOptions) → depth (hconcat_data inputs schema options) ≤ 4
+unfolding hconcat_data
+hconcat_deep inputs schema options =
+    let numbers = links_deep inputs in
+    let all = columns_deep schema in
+    omega arith
+
 cache_deep : (input : Node) (id hits : ℕ) → depth (cache_data input id hits) ≤ 4
 unfolding cache_data
 cache_deep input id hits = omega arith
@@ -196,10 +214,12 @@ node_deep (nodes.SimpleProjection input columns) = let below = columns_deep colu
 node_deep (nodes.Select input expr schema options) = made_deep _ input expr schema options
 node_deep (nodes.HStack input exprs schema options) = made_deep _ input exprs schema options
 node_deep (nodes.Sort input keys slice options) = sort_deep input keys slice options
+node_deep (nodes.GroupBy input keys aggs schema maintain_order options) = group_by_deep input keys aggs schema maintain_order options
 node_deep (nodes.Distinct input options) = distinct_deep input options
 node_deep (nodes.MapFunction input function) = map_function_deep input function
 node_deep (nodes.Sink input payload) = omega arith
 node_deep (nodes.Union inputs options) = union_deep inputs options
+node_deep (nodes.HConcat inputs schema options) = hconcat_deep inputs schema options
 node_deep (nodes.Cache input id hits) = cache_deep input id hits
 node_deep nodes.Invalid = omega arith
 

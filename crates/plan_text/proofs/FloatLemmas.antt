@@ -22,10 +22,12 @@ use Rattle.plan_ir.specs.declared.scan.FileScan.{FileScan}
 use Rattle.plan_ir.specs.declared.scan.ScanSources.{ScanSources}
 use Rattle.plan_ir.specs.declared.scan.ScanSources.TheVariants as sources
 use Rattle.plan_options.specs.declared.distinct.DistinctOptionsIR.{DistinctOptionsIR}
+use Rattle.plan_options.specs.declared.group.GroupbyOptions.{GroupbyOptions}
 use Rattle.plan_options.specs.declared.sort.SortMultipleOptions.{SortMultipleOptions}
+use Rattle.plan_options.specs.declared.union.HConcatOptions.{HConcatOptions}
 use Rattle.plan_options.specs.declared.union.UnionOptions.{UnionOptions}
 use Rattle.plan_text.specs.Kinds.{place_of}
-use Rattle.plan_text.specs.Written.{link_data, integer_data, number_data, list_data, nullable_data, field_data, columns_data, names_data, truths_data, output_data, outputs_data, options_data, slice_data, row_index_data, sources_data, literal_data, expr_data, slice_node_data, scan_data, frame_scan_data, made_data, sort_data, distinct_data, rename_data, numbering_data, unpivot_data, explode_data, frame_function_data, map_function_data, union_data, cache_data, node_data, plan_data, fault_data}
+use Rattle.plan_text.specs.Written.{link_data, integer_data, number_data, list_data, nullable_data, field_data, columns_data, names_data, truths_data, output_data, outputs_data, options_data, slice_data, row_index_data, sources_data, literal_data, expr_data, slice_node_data, scan_data, frame_scan_data, made_data, sort_data, group_by_data, distinct_data, rename_data, numbering_data, unpivot_data, explode_data, frame_function_data, map_function_data, union_data, hconcat_data, cache_data, node_data, plan_data, fault_data}
 
 -- the value has no float
 abbrev IsPlain : Data → Type 0
@@ -123,6 +125,11 @@ unfolding sort_data
 sort_plain input keys slice options =
     rw (outputs_plain keys, truths_plain options.descending, truths_plain options.nulls_last, nullable_plain slice_data slice slice_plain) refl
 
+group_by_plain : (input : Node) (keys aggs : List ExprIR) (schema : Columns) (maintain_order : Bool) (options : GroupbyOptions) → IsPlain (group_by_data input keys aggs schema maintain_order options)
+unfolding group_by_data
+group_by_plain input keys aggs schema maintain_order options =
+    rw (outputs_plain aggs, outputs_plain keys, columns_plain schema, nullable_plain slice_data options.slice slice_plain) refl
+
 distinct_plain : (input : Node) (options : DistinctOptionsIR) → IsPlain (distinct_data input options)
 unfolding distinct_data
 distinct_plain input options = rw (nullable_plain slice_data options.slice slice_plain, nullable_plain names_data options.subset names_plain) refl
@@ -158,6 +165,10 @@ union_plain : (inputs : List Node) (options : UnionOptions) → IsPlain (union_d
 unfolding union_data
 union_plain inputs options = rw (links_plain inputs, nullable_plain slice_data options.slice slice_plain) refl
 
+hconcat_plain : (inputs : List Node) (schema : Columns) (options : HConcatOptions) → IsPlain (hconcat_data inputs schema options)
+unfolding hconcat_data
+hconcat_plain inputs schema options = rw (links_plain inputs, columns_plain schema) refl
+
 cache_plain : (input : Node) (id hits : ℕ) → IsPlain (cache_data input id hits)
 unfolding cache_data
 cache_plain input id hits = refl
@@ -172,10 +183,12 @@ node_plain (nodes.SimpleProjection input columns) = rw (columns_plain columns) r
 node_plain (nodes.Select input expr schema options) = made_plain _ input expr schema options
 node_plain (nodes.HStack input exprs schema options) = made_plain _ input exprs schema options
 node_plain (nodes.Sort input keys slice options) = sort_plain input keys slice options
+node_plain (nodes.GroupBy input keys aggs schema maintain_order options) = group_by_plain input keys aggs schema maintain_order options
 node_plain (nodes.Distinct input options) = distinct_plain input options
 node_plain (nodes.MapFunction input function) = map_function_plain input function
 node_plain (nodes.Sink input payload) = refl
 node_plain (nodes.Union inputs options) = union_plain inputs options
+node_plain (nodes.HConcat inputs schema options) = hconcat_plain inputs schema options
 node_plain (nodes.Cache input id hits) = cache_plain input id hits
 node_plain nodes.Invalid = refl
 

@@ -30,7 +30,9 @@ use Rattle.plan_ir.specs.declared.scan.FileScan.{FileScan}
 use Rattle.plan_ir.specs.declared.scan.ScanSources.{ScanSources}
 use Rattle.plan_ir.specs.declared.scan.ScanSources.TheVariants as sources
 use Rattle.plan_options.specs.declared.distinct.DistinctOptionsIR.{DistinctOptionsIR}
+use Rattle.plan_options.specs.declared.group.GroupbyOptions.{GroupbyOptions}
 use Rattle.plan_options.specs.declared.sort.SortMultipleOptions.{SortMultipleOptions}
+use Rattle.plan_options.specs.declared.union.HConcatOptions.{HConcatOptions}
 use Rattle.plan_options.specs.declared.union.UnionOptions.{UnionOptions}
 use Rattle.plan_table.specs.declared.column.Column.{Column}
 use Rattle.plan_table.specs.declared.table.Table.{Table}
@@ -195,6 +197,17 @@ sort_data input keys slice options = object (
     member (codes "op") (string (codes "Sort")) (
     member (codes "slice") (nullable_data slice_data slice) no_members)))))))
 
+-- a row for each group of rows that have the same keys
+unfoldable pub group_by_data : Node → List ExprIR → List ExprIR → Columns → Bool → GroupbyOptions → Data
+group_by_data input keys aggs schema maintain_order options = object (
+    member (codes "aggs") (outputs_data aggs) (
+    member (codes "input") (link_data input) (
+    member (codes "keys") (outputs_data keys) (
+    member (codes "maintain_order") (boolean maintain_order) (
+    member (codes "op") (string (codes "GroupBy")) (
+    member (codes "schema") (columns_data schema) (
+    member (codes "slice") (nullable_data slice_data options.slice) no_members)))))))
+
 -- of the rows that are the same in some columns one, or those that are alone
 unfoldable pub distinct_data : Node → DistinctOptionsIR → Data
 distinct_data input options = object (
@@ -259,6 +272,14 @@ union_data inputs options = object (
     member (codes "rechunk") (boolean options.rechunk) (
     member (codes "slice") (nullable_data slice_data options.slice) no_members)))))))
 
+-- the columns of the inputs side by side
+unfoldable pub hconcat_data : List Node → Columns → HConcatOptions → Data
+hconcat_data inputs schema options = object (
+    member (codes "inputs") (list_data link_data inputs) (
+    member (codes "op") (string (codes "HConcat")) (
+    member (codes "parallel") (boolean options.parallel) (
+    member (codes "schema") (columns_data schema) no_members))))
+
 -- the input, whose rows are kept for all caches of one number
 unfoldable pub cache_data : Node → ℕ → ℕ → Data
 cache_data input id hits = object (
@@ -277,10 +298,12 @@ node_data (nodes.SimpleProjection input columns) = object (member (codes "column
 node_data (nodes.Select input expr schema options) = made_data (codes "Select") input expr schema options
 node_data (nodes.HStack input exprs schema options) = made_data (codes "HStack") input exprs schema options
 node_data (nodes.Sort input keys slice options) = sort_data input keys slice options
+node_data (nodes.GroupBy input keys aggs schema maintain_order options) = group_by_data input keys aggs schema maintain_order options
 node_data (nodes.Distinct input options) = distinct_data input options
 node_data (nodes.MapFunction input function) = map_function_data input function
 node_data (nodes.Sink input payload) = object (member (codes "input") (link_data input) (member (codes "op") (string (codes "Sink")) no_members))
 node_data (nodes.Union inputs options) = union_data inputs options
+node_data (nodes.HConcat inputs schema options) = hconcat_data inputs schema options
 node_data (nodes.Cache input id hits) = cache_data input id hits
 node_data nodes.Invalid = object (member (codes "op") (string (codes "Invalid")) no_members)
 

@@ -2,7 +2,7 @@
 ghost use Rattle.std.specs.Prelude.{IfOk};
 ghost use Rattle.plan_ir.specs.declared.ir.IR.TheVariants.{Filter, SimpleProjection};
 ghost use Rattle.plan_text.specs.Pieces.{Tells};
-ghost use Rattle.plan_text.specs.Written.{cache_data, distinct_data, frame_scan_data, made_data, map_function_data, node_data, scan_data, slice_node_data, sort_data, union_data};
+ghost use Rattle.plan_text.specs.Written.{cache_data, distinct_data, frame_scan_data, group_by_data, hconcat_data, made_data, map_function_data, node_data, scan_data, slice_node_data, sort_data, union_data};
 
 use crate::kinds::{format_name, keep_name};
 use crate::pieces::{
@@ -12,7 +12,9 @@ use crate::pieces::{
 use plan_core::{FileScanOptions, Items, Node, ProjectionOptions, Schema};
 use plan_expr::ExprIR;
 use plan_ir::{FileInfo, FileScan, FunctionIR, IR, ScanSources};
-use plan_options::{DistinctOptionsIR, SortMultipleOptions, UnionOptions};
+use plan_options::{
+    DistinctOptionsIR, GroupbyOptions, HConcatOptions, SortMultipleOptions, UnionOptions,
+};
 use std::alloc::{AllocError, Global};
 
 /// The entries of an object, in byte order of their keys.
@@ -152,6 +154,31 @@ fn sort<'a>(
     ]?)
 }
 
+/// The entries of a grouping.
+#[tactic(auto, unfolding(crate::specs::Written::group_by_data))]
+fn group_by<'a>(
+    alloc: Global,
+    input: Node,
+    keys: &'a Items<ExprIR>,
+    aggs: &'a Items<ExprIR>,
+    schema: &'a Schema,
+    maintain_order: bool,
+    options: GroupbyOptions,
+) -> Result<Entries<'a>, AllocError>
+    ensures { IfOk result (λ es. Tells es.items
+        (group_by_data input keys.now aggs.now schema.now maintain_order options)) }
+{
+    Ok(vec![in alloc;
+        ("aggs", Piece::Outputs(aggs.as_slice())),
+        ("input", Piece::Number(input.0)),
+        ("keys", Piece::Outputs(keys.as_slice())),
+        ("maintain_order", Piece::Boolean(maintain_order)),
+        ("op", Piece::Text("GroupBy")),
+        ("schema", Piece::Columns(schema)),
+        ("slice", optional_slice(options.slice)),
+    ]?)
+}
+
 /// The entries of distinct rows.
 #[tactic(auto, unfolding(crate::specs::Written::distinct_data))]
 fn distinct<'a>(
@@ -207,6 +234,24 @@ fn union<'a>(
     ]?)
 }
 
+/// The entries of a concatenation side by side.
+#[tactic(auto, unfolding(crate::specs::Written::hconcat_data))]
+fn hconcat<'a>(
+    alloc: Global,
+    inputs: &'a Items<Node>,
+    schema: &'a Schema,
+    options: HConcatOptions,
+) -> Result<Entries<'a>, AllocError>
+    ensures { IfOk result (λ es. Tells es.items (hconcat_data inputs.now schema.now options)) }
+{
+    Ok(vec![in alloc;
+        ("inputs", Piece::Links(inputs.as_slice())),
+        ("op", Piece::Text("HConcat")),
+        ("parallel", Piece::Boolean(options.parallel)),
+        ("schema", Piece::Columns(schema)),
+    ]?)
+}
+
 /// The entries of a cache.
 #[tactic(auto, unfolding(crate::specs::Written::cache_data))]
 fn cache<'a>(alloc: Global, input: Node, id: u32, hits: u32) -> Result<Entries<'a>, AllocError>
@@ -240,11 +285,14 @@ pub fn node_entries(alloc: Global, node: &IR) -> Result<Entries<'_>, AllocError>
             made(alloc, "HStack", *input, exprs, schema, *options),
         IR::Sort { input, by_column, slice, sort_options } =>
             sort(alloc, *input, by_column, *slice, sort_options),
+        IR::GroupBy { input, keys, aggs, schema, maintain_order, options } =>
+            group_by(alloc, *input, keys, aggs, schema, *maintain_order, *options),
         IR::Distinct { input, options } => distinct(alloc, *input, options),
         IR::MapFunction { input, function } => map_function(alloc, *input, function),
         IR::Sink { input, .. } =>
             Ok(vec![in alloc; ("input", Piece::Number(input.0)), ("op", Piece::Text("Sink"))]?),
         IR::Union { inputs, options } => union(alloc, inputs, *options),
+        IR::HConcat { inputs, schema, options } => hconcat(alloc, inputs, schema, *options),
         IR::Cache { input, id, cache_hits } => cache(alloc, *input, *id, *cache_hits),
         IR::Invalid => Ok(vec![in alloc; ("op", Piece::Text("Invalid"))]?),
     }

@@ -45,8 +45,10 @@ pub enum Step {
     Each {
         /// The numbers of the inputs, in order.
         inputs: Items<Node>,
-        /// The names that are asked of each input; no names stand for every column.
-        asked: Names,
+        /// The names that are asked of each input, in their order; no names stand for every column.
+        asked: Items<Names>,
+        /// The names to which a projection goes on top of each input, once it is pruned; none where none goes there.
+        covered: Option<Names>,
         /// The node that goes back over the inputs.
         entry: IR,
     },

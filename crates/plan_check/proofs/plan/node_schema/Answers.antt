@@ -9,6 +9,3 @@ select_schema-requires c = subst (λ (es : List ExprIR). All (λ (e : ExprIR). I
 
 pub hstack_schema-requires : goal.hstack_schema-requires
 hstack_schema-requires c = subst (λ (es : List ExprIR). All (λ (e : ExprIR). IsExpr c.args.ex.now e.node) es) (ap exprs_of c.in-HStack.is ∙ sym c.as_slice-in-HStack.ensures) c.requires.exprs
-
-pub sort_schema-requires : goal.sort_schema-requires
-sort_schema-requires c = subst (λ (es : List ExprIR). All (λ (e : ExprIR). IsExpr c.args.ex.now e.node) es) (ap exprs_of c.in-Sort.is ∙ sym c.as_slice-in-Sort.ensures) c.requires.exprs

@@ -1,26 +1,24 @@
-use Rattle.std.proofs.Common.{◌≡◌, ◌≤◌, ◌||◌, ◌∙◌, ap, refl, sym, subst, arith, not, Bool, true, false, List, length, get_or}
-use Rattle.std.proofs.Math.Dec.{ltb}
-use Rattle.std.proofs.lemmas.Bool.{both_ways, lt-ltb, le-ltb}
-use Rattle.plan_ir.specs.declared.ir.IR.{IR}
+use Rattle.std.proofs.Common.{◌≡◌, ℕ, ◌+◌, ◌≤◌, ◌||◌, ◌∙◌, ap, ap₂, refl, sym, subst, arith, not, Bool, true, List, [], ◌∷◌, length, min, rules, Some, None}
 use Rattle.plan_narrowing.specs.Pruned.{asked_columns}
 use Rattle.plan_prune.specs.Scans.{covered_at}
 use Rattle.plan_prune.specs.Steps.{columns_at}
-use Rattle.std.proofs.lemmas.Option.{slice_get-get_or}
+use Rattle.std.proofs.lemmas.List.{length_push}
+use Rattle.std.proofs.lemmas.Slice.Zip.{zip_turn, zip_end}
 use Rattle.std.specs.List.{slice_get}
 use Rattle.plan_core.specs.declared.arena.Node.{Node}
 use Rattle.std.proofs.lemmas.Result.{on_ok_weaker}
 use Rattle.plan_ir.proofs.PlanLemmas.{plan_exprs}
 use Rattle.plan_prune.specs.Steps.{put_back}
-use Rattle.plan_prune.proofs.PruneLemmas.{input_asks, entry_stays, inputs_taken, is_entry, stands_after}
+use Rattle.plan_prune.proofs.PruneLemmas.{input_asks, entry_stays, inputs_taken}
 use Rattle.plan_expr.specs.Leaves.{Name}
 use Rattle.plan_prune.specs.Prunes.{PrunesAt}
-use Rattle.plan_prune.proofs.EachLemmas.{SoFar, so_far_none, so_far_next}
-use Rattle.plan_prune.proofs.StepLemmas.{closed_step, closed_mark, each_call, each_names, each_step, each_mark, one_more, is_over, leaf_stands, over_stands, leaf_pruned, over_pruned, mark_set, mark_kept, top_marked, marks_over}
+use Rattle.plan_prune.proofs.EachLemmas.{SoFar, each_marks, places, so_far_none}
+use Rattle.plan_prune.proofs.StepLemmas.{closed_step, closed_mark, each_call, each_stands, each_more, none_some, some_same, each_step, each_mark, is_over, leaf_stands, over_stands, leaf_pruned, over_pruned, mark_set, mark_kept, top_marked}
 use Rattle.plan_prune.proofs.HStackPruned.{some_len}
 use Rattle.plan_ir.specs.Plans.{op_at}
 use Rattle.plan_meaning.specs.Counting.{is_count}
 use Rattle.plan_prune.specs.declared.push_down.ProjectionPushDown.{ProjectionPushDown}
-use Rattle.plan_prune.proofs.push_down.ProjectionPushDown.+push_down.Goals.{then-is_count, else-is_count, then-several+in_ok-cover-in-Each, else-several}
+use Rattle.plan_prune.proofs.push_down.ProjectionPushDown.+push_down.Goals.{then-is_count, else-is_count}
 use Rattle.plan_prune.proofs.push_down.ProjectionPushDown.+push_down.Goals as goal
 
 pub is_count-requires : goal.is_count-requires
@@ -87,7 +85,7 @@ returns-in_ok-push_down-in-Over-clause-marks t c = on_ok_weaker c.put-in-Over.re
       | else-is_count w ↦ mark_kept c.args.self.now.is_count_star (sym c.is_count.ensures ∙ w.if-is_count.false) (ap (λ (p : ProjectionPushDown). p.is_count_star) w.self-is)
     ] in
     let o = is_over c.take-entry.new.self c.args.ex.now c.args.asked c.in-Over.asked c.take-entry.result c.in-Over.entry c.in-Over.input (sym c.in-Over.is ∙ c.in_ok-entry.ensures) in
-    marks_over c.args.self.now.is_count_star c.if-is_count.self.is_count_star c.push_down.new.self.is_count_star c.args.lp.now c.take-entry.new.self c.args.ex.now c.args.node c.in-Over.input c.take-entry.result c.take-entry.ensures.after.0
+    each_marks c.args.self.now.is_count_star c.if-is_count.self.is_count_star c.push_down.new.self.is_count_star c.args.lp.now c.take-entry.new.self c.args.ex.now c.args.node (c.in-Over.input ∷ []) c.take-entry.result c.take-entry.ensures.after.0
     c.take-entry.ensures.given c.take-entry.ensures.after.2 o.one (o.opens c.args.ex.now) is c.in_ok-push_down-in-Over.ensures.marks) c.put-in-Over.ensures.placed
 
 -- Closed
@@ -115,101 +113,149 @@ pub put-requires-in-Each : goal.put-requires-in-Each
 put-requires-in-Each t c = entry_stays c.args.lp.now c.take-entry.new.self c.take-entry.new.self c.args.node c.take-entry.result c.take-entry.ensures.after.0 c.take-entry.ensures.given c.take-entry.ensures.after.2 (omega arith)
 
 pub loop-input-init : goal.loop-input-init
-loop-input-init t c = so_far_none c.if-is_count.self.is_count_star (ltb 1 c.len-several.result) c.args.asked c.put-in-Each.new.self c.args.ex.now c.as_slice-input-items.result.now
+loop-input-init t c =
+    let s = c.into_iter-input-iterator.result in
+    (so_far_none c.if-is_count.self.is_count_star c.in-Each.covered s.b.rest.now c.put-in-Each.new.self c.args.ex.now s.a.rest.now, refl)
 
 pub push_down-requires-in-loop-input : goal.push_down-requires-in-loop-input
 push_down-requires-in-loop-input t c =
-    let own = c.as_slice-input-items.ensures in
-    let items = c.as_slice-input-items.result.now in
-    let i = get_or items c.loop-input.input-index (record { 0 = 0 }) in
-    let there = ap (λ (l : List Node). slice_get l c.loop-input.input-index) (sym own) ∙ slice_get-get_or items c.loop-input.input-index (record { 0 = 0 }) c.loop-input-test.true in
-    let so = subst (λ (l : List Node). SoFar c.if-is_count.self.is_count_star c.loop-input.self.is_count_star (ltb 1 c.len-several.result) c.args.asked c.put-in-Each.new.self c.loop-input.lp c.args.ex.now l c.loop-input.input-index) own c.loop-input.invariant in
-    let k = each_call c.args.asked c.in-Each.asked c.args.lp.now c.take-entry.new.self c.put-in-Each.new.self c.args.ex.now c.args.node c.in-Each.inputs c.take-entry.result c.in-Each.entry c.take-entry.ensures.after.0
+    let s = c.into_iter-input-iterator.result in
+    let own : s.a.rest.now ≡ c.in-Each.inputs = search rules in
+    let listed : s.b.rest.now ≡ c.in-Each.asked = search rules in
+    let j = length c.loop-input.yielded in
+    let turn = zip_turn s.a.rest.now s.b.rest.now c.loop-input.yielded s c.loop-input.input-iterator c.next.new.self c.next.result refl refl c.loop-input.yielded_by (c.in-Some.input, c.in-Some.asked) c.in-Some.is c.next.ensures.steps in
+    let here = places s.a.rest.now s.b.rest.now j c.in-Some.input.now c.in-Some.asked.now turn in
+    let there : slice_get c.in-Each.inputs j ≡ Some c.in-Some.input.now = ap (λ (l : List Node). slice_get l j) (sym own) ∙ here.0 in
+    let so = subst (λ (l : List Node). SoFar c.if-is_count.self.is_count_star c.loop-input.self.is_count_star c.in-Each.covered c.in-Each.asked c.put-in-Each.new.self c.loop-input.lp c.args.ex.now l j) own
+    (subst (λ (l : List (List Name)). SoFar c.if-is_count.self.is_count_star c.loop-input.self.is_count_star c.in-Each.covered l c.put-in-Each.new.self c.loop-input.lp c.args.ex.now s.a.rest.now j) listed c.loop-input.invariant.0) in
+    let k = each_call c.args.asked c.args.lp.now c.take-entry.new.self c.put-in-Each.new.self c.args.ex.now c.args.node c.in-Each.inputs c.in-Each.asked c.in-Each.covered c.take-entry.result c.in-Each.entry c.take-entry.ensures.after.0
     c.take-entry.ensures.given c.take-entry.ensures.after.2 c.put-in-Each.ensures (sym c.in-Each.is ∙ c.in_ok-entry.ensures)
-    c.if-is_count.self.is_count_star c.loop-input.self.is_count_star (ltb 1 c.len-several.result) c.loop-input.lp i c.loop-input.input-index c.requires there so in
+    c.if-is_count.self.is_count_star c.loop-input.self.is_count_star c.loop-input.lp c.in-Some.input.now j c.requires there so in
     (omega (arith, k.falls, c.decreases), k.plan)
 
 pub cover-requires : goal.cover-requires
 cover-requires t c =
-    let own = c.as_slice-input-items.ensures in
-    let items = c.as_slice-input-items.result.now in
-    let i = get_or items c.loop-input.input-index (record { 0 = 0 }) in
-    let there = ap (λ (l : List Node). slice_get l c.loop-input.input-index) (sym own) ∙ slice_get-get_or items c.loop-input.input-index (record { 0 = 0 }) c.loop-input-test.true in
-    let so = subst (λ (l : List Node). SoFar c.if-is_count.self.is_count_star c.loop-input.self.is_count_star (ltb 1 c.len-several.result) c.args.asked c.put-in-Each.new.self c.loop-input.lp c.args.ex.now l c.loop-input.input-index) own c.loop-input.invariant in
-    let k = each_call c.args.asked c.in-Each.asked c.args.lp.now c.take-entry.new.self c.put-in-Each.new.self c.args.ex.now c.args.node c.in-Each.inputs c.take-entry.result c.in-Each.entry c.take-entry.ensures.after.0
+    let s = c.into_iter-input-iterator.result in
+    let own : s.a.rest.now ≡ c.in-Each.inputs = search rules in
+    let listed : s.b.rest.now ≡ c.in-Each.asked = search rules in
+    let j = length c.loop-input.yielded in
+    let turn = zip_turn s.a.rest.now s.b.rest.now c.loop-input.yielded s c.loop-input.input-iterator c.next.new.self c.next.result refl refl c.loop-input.yielded_by (c.in-Some.input, c.in-Some.asked) c.in-Some.is c.next.ensures.steps in
+    let here = places s.a.rest.now s.b.rest.now j c.in-Some.input.now c.in-Some.asked.now turn in
+    let there : slice_get c.in-Each.inputs j ≡ Some c.in-Some.input.now = ap (λ (l : List Node). slice_get l j) (sym own) ∙ here.0 in
+    let so = subst (λ (l : List Node). SoFar c.if-is_count.self.is_count_star c.loop-input.self.is_count_star c.in-Each.covered c.in-Each.asked c.put-in-Each.new.self c.loop-input.lp c.args.ex.now l j) own
+    (subst (λ (l : List (List Name)). SoFar c.if-is_count.self.is_count_star c.loop-input.self.is_count_star c.in-Each.covered l c.put-in-Each.new.self c.loop-input.lp c.args.ex.now s.a.rest.now j) listed c.loop-input.invariant.0) in
+    each_stands c.args.asked c.args.lp.now c.take-entry.new.self c.put-in-Each.new.self c.args.ex.now c.args.node c.in-Each.inputs c.in-Each.asked c.in-Each.covered c.take-entry.result c.in-Each.entry c.take-entry.ensures.after.0
     c.take-entry.ensures.given c.take-entry.ensures.after.2 c.put-in-Each.ensures (sym c.in-Each.is ∙ c.in_ok-entry.ensures)
-    c.if-is_count.self.is_count_star c.loop-input.self.is_count_star (ltb 1 c.len-several.result) c.loop-input.lp i c.loop-input.input-index c.requires there so in
-    stands_after (not c.loop-input.self.is_count_star) c.in_ok-copied_names-in-Each.field-0 c.loop-input.lp c.push_down-in-loop-input.new.lp c.args.ex.now i (k.plan.nodes, k.plan.stands.nodes) c.in_ok-push_down-in-Each.ensures.prunes
+    c.if-is_count.self.is_count_star c.loop-input.self.is_count_star c.push_down-in-loop-input.new.self.is_count_star c.loop-input.lp c.push_down-in-loop-input.new.lp c.in-Some.input.now c.in_ok-copied_names-in-Each.field-0 j c.requires there so
+    c.in_ok-push_down-in-Each.ensures.prunes
 
 pub loop-input-preserved : goal.loop-input-preserved
 loop-input-preserved t c =
-    let own = c.as_slice-input-items.ensures in
-    let items = c.as_slice-input-items.result.now in
-    let i = get_or items c.loop-input.input-index (record { 0 = 0 }) in
-    let there = ap (λ (l : List Node). slice_get l c.loop-input.input-index) (sym own) ∙ slice_get-get_or items c.loop-input.input-index (record { 0 = 0 }) c.loop-input-test.true in
-    let so = subst (λ (l : List Node). SoFar c.if-is_count.self.is_count_star c.loop-input.self.is_count_star (ltb 1 c.len-several.result) c.args.asked c.put-in-Each.new.self c.loop-input.lp c.args.ex.now l c.loop-input.input-index) own c.loop-input.invariant in
-    let k = each_call c.args.asked c.in-Each.asked c.args.lp.now c.take-entry.new.self c.put-in-Each.new.self c.args.ex.now c.args.node c.in-Each.inputs c.take-entry.result c.in-Each.entry c.take-entry.ensures.after.0
+    let s = c.into_iter-input-iterator.result in
+    let own : s.a.rest.now ≡ c.in-Each.inputs = search rules in
+    let listed : s.b.rest.now ≡ c.in-Each.asked = search rules in
+    let j = length c.loop-input.yielded in
+    let turn = zip_turn s.a.rest.now s.b.rest.now c.loop-input.yielded s c.loop-input.input-iterator c.next.new.self c.next.result refl refl c.loop-input.yielded_by (c.in-Some.input, c.in-Some.asked) c.in-Some.is c.next.ensures.steps in
+    let here = places s.a.rest.now s.b.rest.now j c.in-Some.input.now c.in-Some.asked.now turn in
+    let there : slice_get c.in-Each.inputs j ≡ Some c.in-Some.input.now = ap (λ (l : List Node). slice_get l j) (sym own) ∙ here.0 in
+    let so = subst (λ (l : List Node). SoFar c.if-is_count.self.is_count_star c.loop-input.self.is_count_star c.in-Each.covered c.in-Each.asked c.put-in-Each.new.self c.loop-input.lp c.args.ex.now l j) own
+    (subst (λ (l : List (List Name)). SoFar c.if-is_count.self.is_count_star c.loop-input.self.is_count_star c.in-Each.covered l c.put-in-Each.new.self c.loop-input.lp c.args.ex.now s.a.rest.now j) listed c.loop-input.invariant.0) in
+    let names = c.in-Some.asked.now in
+    let i = c.in-Some.input.now in
+    let u = c.push_down-in-loop-input.new.lp in
+    let z = u in
+    let none : c.in-Each.covered ≡ None = sym c.loop-input.invariant.1 ∙ c.in_default.is in
+    let on : (l : List Name) → c.in-Each.covered ≡ Some l → z ≡ covered_at (asked_columns l (columns_at u c.args.ex.now i)) u i = λ l e. absurd (none_some c.in-Each.covered l none e) in
+    let off : c.in-Each.covered ≡ None → z ≡ u = λ e. refl in
+    let grows : length c.loop-input.lp ≤ length z = c.in_ok-push_down-in-Each.ensures.grows in
+    let next = each_more c.args.asked c.args.lp.now c.take-entry.new.self c.put-in-Each.new.self c.args.ex.now c.args.node c.in-Each.inputs c.in-Each.asked c.in-Each.covered c.take-entry.result c.in-Each.entry c.take-entry.ensures.after.0
     c.take-entry.ensures.given c.take-entry.ensures.after.2 c.put-in-Each.ensures (sym c.in-Each.is ∙ c.in_ok-entry.ensures)
-    c.if-is_count.self.is_count_star c.loop-input.self.is_count_star (ltb 1 c.len-several.result) c.loop-input.lp i c.loop-input.input-index c.requires there so in
-    let covers = ltb 1 c.len-several.result in
-    let d = c.args.asked in
-    let names : c.in-Each.asked ≡ d = each_names c.args.asked c.in-Each.asked c.args.lp.now c.take-entry.new.self c.put-in-Each.new.self c.args.ex.now c.args.node c.in-Each.inputs c.take-entry.result c.in-Each.entry c.take-entry.ensures.after.0
-    c.take-entry.ensures.given c.take-entry.ensures.after.2 c.put-in-Each.ensures (sym c.in-Each.is ∙ c.in_ok-entry.ensures) in
-    let pruned = c.push_down-in-loop-input.new.lp in
-    let below : PrunesAt (not c.loop-input.self.is_count_star) d c.loop-input.lp pruned c.args.ex.now i =
-    subst (λ (l : List Name). PrunesAt (not c.loop-input.self.is_count_star) l c.loop-input.lp pruned c.args.ex.now i) (c.in_ok-copied_names-in-Each.ensures ∙ names) c.in_ok-push_down-in-Each.ensures.prunes in
-    let stands = stands_after (not c.loop-input.self.is_count_star) d c.loop-input.lp pruned c.args.ex.now i (k.plan.nodes, k.plan.stands.nodes) below in
-    let on : covers ≡ true → c.if-several.lp ≡ covered_at (asked_columns d (columns_at pruned c.args.ex.now i)) pruned i = λ e. elim c.if-several.branch [
-      | then-several+in_ok-cover-in-Each w ↦ w.lp-is ∙ w.in_ok-cover-in-Each.ensures.placed c.args.ex.now ∙ ap (λ (l : List Name). covered_at (asked_columns l (columns_at pruned c.args.ex.now i)) pruned i) names
-      | else-several w ↦ absurd (both_ways covers (le-ltb 1 c.len-several.result (omega (arith, w.if-several.false))) e)
-    ] in
-    let off : covers ≡ false → c.if-several.lp ≡ pruned = λ e. elim c.if-several.branch [
-      | then-several+in_ok-cover-in-Each w ↦ absurd (both_ways covers e (lt-ltb 1 c.len-several.result (omega (arith, w.if-several.true))))
-      | else-several w ↦ w.lp-is
-    ] in
-    let grows : length c.loop-input.lp ≤ length c.if-several.lp = elim c.if-several.branch [
-      | then-several+in_ok-cover-in-Each w ↦ (let same = ap (λ (z : List IR). length z) w.lp-is in omega (arith, same, w.in_ok-cover-in-Each.ensures.grows, c.in_ok-push_down-in-Each.ensures.grows))
-      | else-several w ↦ (let same = ap (λ (z : List IR). length z) w.lp-is in omega (arith, same, c.in_ok-push_down-in-Each.ensures.grows))
-    ] in
-    so_far_next c.if-is_count.self.is_count_star c.loop-input.self.is_count_star c.push_down-in-loop-input.new.self.is_count_star covers d c.put-in-Each.new.self c.loop-input.lp c.if-several.lp c.args.ex.now items i c.loop-input.input-index
-    (slice_get-get_or items c.loop-input.input-index (record { 0 = 0 }) c.loop-input-test.true) c.loop-input.invariant
-    (one_more (not c.loop-input.self.is_count_star) covers d c.loop-input.lp pruned c.if-several.lp c.args.ex.now i below on off (is_entry pruned i stands))
-    c.in_ok-push_down-in-Each.ensures.marks c.in_ok-push_down-in-Each.ensures.stays grows
+    c.if-is_count.self.is_count_star c.loop-input.self.is_count_star c.push_down-in-loop-input.new.self.is_count_star c.loop-input.lp u i names j c.requires there so
+    (subst (λ (l : List Name). PrunesAt (not c.loop-input.self.is_count_star) l c.loop-input.lp c.push_down-in-loop-input.new.lp c.args.ex.now c.in-Some.input.now) c.in_ok-copied_names-in-Each.ensures c.in_ok-push_down-in-Each.ensures.prunes)
+    z (ap (λ (l : List (List Name)). slice_get l j) (sym listed) ∙ here.1) on off c.in_ok-push_down-in-Each.ensures.marks c.in_ok-push_down-in-Each.ensures.stays grows in (
+      subst (λ (k : ℕ). SoFar c.if-is_count.self.is_count_star c.push_down-in-loop-input.new.self.is_count_star c.in-Each.covered s.b.rest.now c.put-in-Each.new.self z c.args.ex.now s.a.rest.now k) (sym (length_push c.loop-input.yielded (c.in-Some.input, c.in-Some.asked)))
+          (subst (λ (l : List Node). SoFar c.if-is_count.self.is_count_star c.push_down-in-loop-input.new.self.is_count_star c.in-Each.covered s.b.rest.now c.put-in-Each.new.self z c.args.ex.now l (j + 1)) (sym own)
+          (subst (λ (l : List (List Name)). SoFar c.if-is_count.self.is_count_star c.push_down-in-loop-input.new.self.is_count_star c.in-Each.covered l c.put-in-Each.new.self z c.args.ex.now c.in-Each.inputs (j + 1)) (sym listed) next)),
+      c.loop-input.invariant.1,
+    )
 
-pub returns-after-loop-input-clause-prunes : goal.returns-after-loop-input-clause-prunes
-returns-after-loop-input-clause-prunes t c =
-    let own = c.as_slice-input-items.ensures in
-    let so = subst (λ (l : List Node). SoFar c.if-is_count.self.is_count_star c.loop-input.self.is_count_star (ltb 1 c.len-several.result) c.args.asked c.put-in-Each.new.self c.loop-input.lp c.args.ex.now l c.loop-input.input-index) own c.loop-input.invariant in
-    let past : length c.in-Each.inputs ≤ c.loop-input.input-index = subst (λ (l : List Node). length l ≤ c.loop-input.input-index) own c.loop-input-test.false in
+pub loop-input-preserved-in_ok-cover-in-Each : goal.loop-input-preserved-in_ok-cover-in-Each
+loop-input-preserved-in_ok-cover-in-Each t c =
+    let s = c.into_iter-input-iterator.result in
+    let own : s.a.rest.now ≡ c.in-Each.inputs = search rules in
+    let listed : s.b.rest.now ≡ c.in-Each.asked = search rules in
+    let j = length c.loop-input.yielded in
+    let turn = zip_turn s.a.rest.now s.b.rest.now c.loop-input.yielded s c.loop-input.input-iterator c.next.new.self c.next.result refl refl c.loop-input.yielded_by (c.in-Some.input, c.in-Some.asked) c.in-Some.is c.next.ensures.steps in
+    let here = places s.a.rest.now s.b.rest.now j c.in-Some.input.now c.in-Some.asked.now turn in
+    let there : slice_get c.in-Each.inputs j ≡ Some c.in-Some.input.now = ap (λ (l : List Node). slice_get l j) (sym own) ∙ here.0 in
+    let so = subst (λ (l : List Node). SoFar c.if-is_count.self.is_count_star c.loop-input.self.is_count_star c.in-Each.covered c.in-Each.asked c.put-in-Each.new.self c.loop-input.lp c.args.ex.now l j) own
+    (subst (λ (l : List (List Name)). SoFar c.if-is_count.self.is_count_star c.loop-input.self.is_count_star c.in-Each.covered l c.put-in-Each.new.self c.loop-input.lp c.args.ex.now s.a.rest.now j) listed c.loop-input.invariant.0) in
+    let names = c.in-Some.asked.now in
+    let i = c.in-Some.input.now in
+    let u = c.push_down-in-loop-input.new.lp in
+    let z = c.cover.new.lp in
+    let some : c.in-Each.covered ≡ Some c.in-Some-covered.names = sym c.loop-input.invariant.1 ∙ c.in-Some-covered.is in
+    let on : (l : List Name) → c.in-Each.covered ≡ Some l → z ≡ covered_at (asked_columns l (columns_at u c.args.ex.now i)) u i = λ l e.
+    c.in_ok-cover-in-Each.ensures.placed c.args.ex.now ∙ ap (λ (m : List Name). covered_at (asked_columns m (columns_at u c.args.ex.now i)) u i) (some_same c.in-Each.covered c.in-Some-covered.names l some e) in
+    let off : c.in-Each.covered ≡ None → z ≡ u = λ e. absurd (none_some c.in-Each.covered c.in-Some-covered.names e some) in
+    let grows : length c.loop-input.lp ≤ length z = omega (arith, c.in_ok-cover-in-Each.ensures.grows, c.in_ok-push_down-in-Each.ensures.grows) in
+    let next = each_more c.args.asked c.args.lp.now c.take-entry.new.self c.put-in-Each.new.self c.args.ex.now c.args.node c.in-Each.inputs c.in-Each.asked c.in-Each.covered c.take-entry.result c.in-Each.entry c.take-entry.ensures.after.0
+    c.take-entry.ensures.given c.take-entry.ensures.after.2 c.put-in-Each.ensures (sym c.in-Each.is ∙ c.in_ok-entry.ensures)
+    c.if-is_count.self.is_count_star c.loop-input.self.is_count_star c.push_down-in-loop-input.new.self.is_count_star c.loop-input.lp u i names j c.requires there so
+    (subst (λ (l : List Name). PrunesAt (not c.loop-input.self.is_count_star) l c.loop-input.lp c.push_down-in-loop-input.new.lp c.args.ex.now c.in-Some.input.now) c.in_ok-copied_names-in-Each.ensures c.in_ok-push_down-in-Each.ensures.prunes)
+    z (ap (λ (l : List (List Name)). slice_get l j) (sym listed) ∙ here.1) on off c.in_ok-push_down-in-Each.ensures.marks c.in_ok-push_down-in-Each.ensures.stays grows in (
+      subst (λ (k : ℕ). SoFar c.if-is_count.self.is_count_star c.push_down-in-loop-input.new.self.is_count_star c.in-Each.covered s.b.rest.now c.put-in-Each.new.self z c.args.ex.now s.a.rest.now k) (sym (length_push c.loop-input.yielded (c.in-Some.input, c.in-Some.asked)))
+          (subst (λ (l : List Node). SoFar c.if-is_count.self.is_count_star c.push_down-in-loop-input.new.self.is_count_star c.in-Each.covered s.b.rest.now c.put-in-Each.new.self z c.args.ex.now l (j + 1)) (sym own)
+          (subst (λ (l : List (List Name)). SoFar c.if-is_count.self.is_count_star c.push_down-in-loop-input.new.self.is_count_star c.in-Each.covered l c.put-in-Each.new.self z c.args.ex.now c.in-Each.inputs (j + 1)) (sym listed) next)),
+      c.loop-input.invariant.1,
+    )
+
+pub returns-in-None-clause-prunes : goal.returns-in-None-clause-prunes
+returns-in-None-clause-prunes t c =
+    let s = c.into_iter-input-iterator.result in
+    let own : s.a.rest.now ≡ c.in-Each.inputs = search rules in
+    let listed : s.b.rest.now ≡ c.in-Each.asked = search rules in
+    let j = length c.loop-input.yielded in
+    let so = subst (λ (l : List Node). SoFar c.if-is_count.self.is_count_star c.loop-input.self.is_count_star c.in-Each.covered c.in-Each.asked c.put-in-Each.new.self c.loop-input.lp c.args.ex.now l j) own
+    (subst (λ (l : List (List Name)). SoFar c.if-is_count.self.is_count_star c.loop-input.self.is_count_star c.in-Each.covered l c.put-in-Each.new.self c.loop-input.lp c.args.ex.now s.a.rest.now j) listed c.loop-input.invariant.0) in
+    let ended : j ≡ min (length c.in-Each.inputs) (length c.in-Each.asked) =
+    zip_end s.a.rest.now s.b.rest.now c.loop-input.yielded s c.loop-input.input-iterator c.next.new.self c.next.result refl refl c.loop-input.yielded_by c.in-None.is c.next.ensures.steps
+    ∙ ap₂ (λ (l : List Node) (m : List (List Name)). min (length l) (length m)) own listed in
     let is : c.if-is_count.self.is_count_star ≡ (c.args.self.now.is_count_star || is_count (op_at c.args.ex.now c.take-entry.result)) = elim c.if-is_count.branch [
       | then-is_count w ↦ mark_set c.args.self.now.is_count_star (sym c.is_count.ensures ∙ w.if-is_count.true) (ap (λ (p : ProjectionPushDown). p.is_count_star) w.self-is)
       | else-is_count w ↦ mark_kept c.args.self.now.is_count_star (sym c.is_count.ensures ∙ w.if-is_count.false) (ap (λ (p : ProjectionPushDown). p.is_count_star) w.self-is)
     ] in
-    each_step c.args.asked c.in-Each.asked c.args.lp.now c.take-entry.new.self c.put-in-Each.new.self c.args.ex.now c.args.node c.in-Each.inputs c.take-entry.result c.in-Each.entry c.take-entry.ensures.after.0
+    each_step c.args.asked c.args.lp.now c.take-entry.new.self c.put-in-Each.new.self c.args.ex.now c.args.node c.in-Each.inputs c.in-Each.asked c.in-Each.covered c.take-entry.result c.in-Each.entry c.take-entry.ensures.after.0
     c.take-entry.ensures.given c.take-entry.ensures.after.2 c.put-in-Each.ensures (sym c.in-Each.is ∙ c.in_ok-entry.ensures)
-    (not c.args.self.now.is_count_star) c.if-is_count.self.is_count_star c.loop-input.self.is_count_star (ltb 1 c.len-several.result) c.loop-input.lp c.len-several.result c.loop-input.input-index
-    (top_marked c.args.self.now.is_count_star (is_count (op_at c.args.ex.now c.take-entry.result)) c.if-is_count.self.is_count_star is) c.len-several.ensures refl past so
+    (not c.args.self.now.is_count_star) c.if-is_count.self.is_count_star c.loop-input.self.is_count_star c.loop-input.lp j
+    (top_marked c.args.self.now.is_count_star (is_count (op_at c.args.ex.now c.take-entry.result)) c.if-is_count.self.is_count_star is) ended so
 
-pub returns-after-loop-input-clause-marks : goal.returns-after-loop-input-clause-marks
-returns-after-loop-input-clause-marks t c =
-    let own = c.as_slice-input-items.ensures in
-    let so = subst (λ (l : List Node). SoFar c.if-is_count.self.is_count_star c.loop-input.self.is_count_star (ltb 1 c.len-several.result) c.args.asked c.put-in-Each.new.self c.loop-input.lp c.args.ex.now l c.loop-input.input-index) own c.loop-input.invariant in
-    let past : length c.in-Each.inputs ≤ c.loop-input.input-index = subst (λ (l : List Node). length l ≤ c.loop-input.input-index) own c.loop-input-test.false in
+pub returns-in-None-clause-marks : goal.returns-in-None-clause-marks
+returns-in-None-clause-marks t c =
+    let s = c.into_iter-input-iterator.result in
+    let own : s.a.rest.now ≡ c.in-Each.inputs = search rules in
+    let listed : s.b.rest.now ≡ c.in-Each.asked = search rules in
+    let j = length c.loop-input.yielded in
+    let so = subst (λ (l : List Node). SoFar c.if-is_count.self.is_count_star c.loop-input.self.is_count_star c.in-Each.covered c.in-Each.asked c.put-in-Each.new.self c.loop-input.lp c.args.ex.now l j) own
+    (subst (λ (l : List (List Name)). SoFar c.if-is_count.self.is_count_star c.loop-input.self.is_count_star c.in-Each.covered l c.put-in-Each.new.self c.loop-input.lp c.args.ex.now s.a.rest.now j) listed c.loop-input.invariant.0) in
+    let ended : j ≡ min (length c.in-Each.inputs) (length c.in-Each.asked) =
+    zip_end s.a.rest.now s.b.rest.now c.loop-input.yielded s c.loop-input.input-iterator c.next.new.self c.next.result refl refl c.loop-input.yielded_by c.in-None.is c.next.ensures.steps
+    ∙ ap₂ (λ (l : List Node) (m : List (List Name)). min (length l) (length m)) own listed in
     let is : c.if-is_count.self.is_count_star ≡ (c.args.self.now.is_count_star || is_count (op_at c.args.ex.now c.take-entry.result)) = elim c.if-is_count.branch [
       | then-is_count w ↦ mark_set c.args.self.now.is_count_star (sym c.is_count.ensures ∙ w.if-is_count.true) (ap (λ (p : ProjectionPushDown). p.is_count_star) w.self-is)
       | else-is_count w ↦ mark_kept c.args.self.now.is_count_star (sym c.is_count.ensures ∙ w.if-is_count.false) (ap (λ (p : ProjectionPushDown). p.is_count_star) w.self-is)
     ] in
-    each_mark c.args.asked c.in-Each.asked c.args.lp.now c.take-entry.new.self c.put-in-Each.new.self c.args.ex.now c.args.node c.in-Each.inputs c.take-entry.result c.in-Each.entry c.take-entry.ensures.after.0
+    each_mark c.args.asked c.args.lp.now c.take-entry.new.self c.put-in-Each.new.self c.args.ex.now c.args.node c.in-Each.inputs c.in-Each.asked c.in-Each.covered c.take-entry.result c.in-Each.entry c.take-entry.ensures.after.0
     c.take-entry.ensures.given c.take-entry.ensures.after.2 c.put-in-Each.ensures (sym c.in-Each.is ∙ c.in_ok-entry.ensures)
-    c.args.self.now.is_count_star c.if-is_count.self.is_count_star c.loop-input.self.is_count_star (ltb 1 c.len-several.result) c.loop-input.lp c.loop-input.input-index is past so
+    c.args.self.now.is_count_star c.if-is_count.self.is_count_star c.loop-input.self.is_count_star c.loop-input.lp j is ended so
 
-pub returns-after-loop-input-clause-stays : goal.returns-after-loop-input-clause-stays
-returns-after-loop-input-clause-stays t c =
+pub returns-in-None-clause-stays : goal.returns-in-None-clause-stays
+returns-in-None-clause-stays t c =
     let set : c.args.self.now.is_count_star ≡ true → c.if-is_count.self.is_count_star ≡ true = λ e. elim c.if-is_count.branch [
       | then-is_count w ↦ ap (λ (p : ProjectionPushDown). p.is_count_star) w.self-is
       | else-is_count w ↦ ap (λ (p : ProjectionPushDown). p.is_count_star) w.self-is ∙ e
     ] in
-    λ e. c.loop-input.invariant.stays (set e)
+    λ e. c.loop-input.invariant.0.stays (set e)
 
 pub returns-in_err-push_down-in-Over-clause-stays : goal.returns-in_err-push_down-in-Over-clause-stays
 returns-in_err-push_down-in-Over-clause-stays t c =
@@ -225,4 +271,4 @@ returns-in_err-cover-in-Each-clause-stays t c =
       | then-is_count w ↦ ap (λ (p : ProjectionPushDown). p.is_count_star) w.self-is
       | else-is_count w ↦ ap (λ (p : ProjectionPushDown). p.is_count_star) w.self-is ∙ e
     ] in
-    λ e. c.in_ok-push_down-in-Each.ensures.stays (c.loop-input.invariant.stays (set e))
+    λ e. c.in_ok-push_down-in-Each.ensures.stays (c.loop-input.invariant.0.stays (set e))

@@ -3,7 +3,7 @@ use Rattle.plan_ir.specs.Plans.{bare, plans_at}
 use Rattle.plan_expr.specs.Leaves.{Name}
 use Rattle.plan_prune.specs.Prunes.{Prunes}
 use Rattle.plan_prune.proofs.PruneLemmas.{pruned_is, pruned_stands}
-use Rattle.plan_prune.proofs.PlanPruned.{meets_at, refines_at, reads_at, nodes_at, work_at}
+use Rattle.plan_prune.proofs.PlanPruned.{all_asked, meets_at, refines_at, reads_at, nodes_at, work_at}
 use Rattle.plan_prune.proofs.push_down.ProjectionPushDown.optimize.Goals as goal
 
 pub returns-clause-pruned : goal.returns-clause-pruned
@@ -11,6 +11,7 @@ returns-clause-pruned c =
     let top = not c.args.self.now.is_count_star in
     pruned_is top [] c.args.lp.now c.push_down.new.lp c.args.ex.now c.args.root c.requires
     (subst (λ (l : List Name). Prunes top l c.args.lp.now c.push_down.new.lp c.args.ex.now c.args.root c.requires.nodes) c.new-asked.ensures (c.in_ok-push_down.ensures.prunes c.requires.nodes c.requires.stands.nodes))
+    ∙ all_asked top (bare (plans_at c.args.lp.now c.args.ex.now (c.args.root ∷ [])))
 
 pub returns-clause-is_plan : goal.returns-clause-is_plan
 returns-clause-is_plan c =

@@ -1,0 +1,31 @@
+use Rattle.std.proofs.Common.{◌∙◌, ◌+◌, ap, sym, is_some, Some, rules}
+use Rattle.plan_core.specs.declared.error.At.{At}
+use Rattle.plan_core.specs.declared.error.PolarsError.TheVariants.{SchemaMismatch}
+use Rattle.plan_expr.specs.Exprs.{expr_at}
+use Rattle.plan_meaning.specs.Exprs.{expr_type}
+use Rattle.plan_meaning.specs.Grouping.{gathered_expr}
+use Rattle.plan_meaning.specs.Typing.{first_fault}
+use Rattle.plan_function.proofs.CheckLemmas.{left-next, left-bad, left-end, at-capped}
+use Rattle.plan_check.proofs.MadeLemmas.{stands_here, item_here}
+use Rattle.plan_check.proofs.GroupFaults.{gathered-at}
+use Rattle.plan_check.proofs.group_by.check_gathered.Goals as goal
+
+pub gathered_type-requires : goal.gathered_type-requires
+gathered_type-requires c = stands_here c.args.ex.now c.args.aggs.now c.loop-i.i c.index-aggs-i.result c.requires c.loop-i-test.true c.index-aggs-i.is
+
+pub returns-then-is_none : goal.returns-then-is_none
+returns-then-is_none c =
+    let item = item_here c.args.aggs.now c.loop-i.i c.index-aggs-i.result c.loop-i-test.true c.index-aggs-i.is in
+    ap (first_fault c.args.node) (gathered-at c.args.ex.now c.args.place c.args.aggs.now c.args.schema.now)
+    ∙ left-bad c.args.node SchemaMismatch c.args.place (λ e. is_some (expr_type (gathered_expr (expr_at c.args.ex.now e.node)) c.args.schema.now)) c.args.aggs.now c.loop-i.i c.index-aggs-i.result c.loop-i.invariant item (search rules)
+    ∙ ap (λ (a : At). Some (SchemaMismatch a)) (sym (c.at.ensures ∙ at-capped c.args.node c.saturating_add.result (c.args.place + c.loop-i.i) c.saturating_add.ensures))
+
+pub loop-i-preserved : goal.loop-i-preserved
+loop-i-preserved c =
+    let item = item_here c.args.aggs.now c.loop-i.i c.index-aggs-i.result c.loop-i-test.true c.index-aggs-i.is in
+    left-next c.args.node SchemaMismatch c.args.place (λ e. is_some (expr_type (gathered_expr (expr_at c.args.ex.now e.node)) c.args.schema.now)) c.args.aggs.now c.loop-i.i c.index-aggs-i.result c.loop-i.invariant item (search rules)
+
+pub returns : goal.returns
+returns c =
+    ap (first_fault c.args.node) (gathered-at c.args.ex.now c.args.place c.args.aggs.now c.args.schema.now)
+    ∙ left-end c.args.node SchemaMismatch c.args.place (λ e. is_some (expr_type (gathered_expr (expr_at c.args.ex.now e.node)) c.args.schema.now)) c.args.aggs.now c.loop-i.i c.loop-i.invariant c.loop-i-test.false
