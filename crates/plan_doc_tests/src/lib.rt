@@ -10,6 +10,8 @@ mod functions;
 #[cfg(test)]
 mod further;
 #[cfg(test)]
+mod groups;
+#[cfg(test)]
 mod nodes;
 pub mod several;
 #[cfg(test)]

@@ -1,5 +1,6 @@
 //! Whole texts, as they must be written.
 
+use crate::groups::grouped_plan;
 use crate::plans::{
     all_kinds, all_operators, full_plan, mapped_plan, more_plan, ordered_plan, simple_plan,
     union_plan,
@@ -31,6 +32,9 @@ const ORDERED: &str =
 
 const UNIONS: &str =
     r#"{"exprs":[],"nodes":[{"flattened":true,"inputs":[3,1,3],"maintain_order":false,"op":"Union","parallel":true,"rechunk":false,"slice":[-3,4294967295]},{"flattened":true,"inputs":[],"maintain_order":true,"op":"Union","parallel":false,"rechunk":false,"slice":null},{"hits":4294967295,"id":7,"input":2,"op":"Cache"}],"root":0}"#;
+
+const GROUPED: &str =
+    r#"{"exprs":[],"nodes":[{"aggs":[[2,"col","a"]],"input":1,"keys":[[0,"col","b"],[3,"alias","k"]],"maintain_order":true,"op":"GroupBy","schema":[["b","String"],["k","Int64"],["a","List(Int64)"]],"slice":[-3,4294967295]},{"aggs":[],"input":4,"keys":[],"maintain_order":false,"op":"GroupBy","schema":[],"slice":null},{"inputs":[3,1,3],"op":"HConcat","parallel":true,"schema":[["a","Int64"],["b","List(String)"]]},{"inputs":[],"op":"HConcat","parallel":false,"schema":[]}],"root":0}"#;
 
 const MAPPED: &str =
     r#"{"exprs":[],"nodes":[{"function":{"Rename":{"existing":["a","b"],"new":["b","c"],"swapping":true}},"input":2,"op":"MapFunction"},{"function":{"Rename":{"existing":[],"new":[],"swapping":false}},"input":2,"op":"MapFunction"},{"function":{"RowIndex":{"name":"i","offset":4294967295}},"input":3,"op":"MapFunction"},{"function":{"RowIndex":{"name":"i","offset":0}},"input":3,"op":"MapFunction"},{"function":{"RowIndex":{"name":"\"é\n","offset":null}},"input":3,"op":"MapFunction"},{"function":{"Unpivot":{"index":["c","a"],"on":["d","b"],"value_name":null,"variable_name":"v"}},"input":6,"op":"MapFunction"},{"function":{"Unpivot":{"index":["c","a"],"on":[],"value_name":"w","variable_name":"v"}},"input":6,"op":"MapFunction"},{"function":{"Explode":{"columns":["b","a"]}},"input":7,"op":"MapFunction"},{"function":{"Explode":{"columns":[]}},"input":7,"op":"MapFunction"}],"root":0}"#;
@@ -86,6 +90,12 @@ fn writes_sorts_distinct_rows_and_sinks(rt: HostRuntime) -> Result<(), AllocErro
 fn writes_unions_and_caches(rt: HostRuntime) -> Result<(), AllocError> {
     let plan = union_plan(rt.alloc())?;
     is_written(&rt, rt.alloc(), &plan, UNIONS)
+}
+
+#[test]
+fn writes_groupings_and_concatenations(rt: HostRuntime) -> Result<(), AllocError> {
+    let plan = grouped_plan(rt.alloc())?;
+    is_written(&rt, rt.alloc(), &plan, GROUPED)
 }
 
 #[test]
