@@ -6,5 +6,4 @@
 mod beside;
 #[cfg(test)]
 mod groups;
-#[cfg(test)]
 mod plans;
