@@ -1,5 +1,5 @@
 -- The inputs of a node, pruned one after another, each under a projection to the asked names or none; and a closed node.
-use Rattle.std.proofs.Common.{◌≡◌, ℕ, zero, suc, length-set, ◌+◌, ◌<◌, ◌≤◌, ◌&&◌, ◌||◌, Bool, true, false, not, List, [], ◌∷◌, ◌++◌, length, take, get_or, Some, None, Option, unwrap_or, refl, sym, ap, ap₂, ◌∙◌, arith, subst, append-nil, add-one}
+use Rattle.std.proofs.Common.{◌≡◌, ℕ, ◌+◌, ◌<◌, ◌≤◌, ◌&&◌, ◌||◌, Bool, true, false, not, List, [], ◌∷◌, ◌++◌, length, take, get_or, Some, None, Option, unwrap_or, refl, sym, ap, ap₂, ◌∙◌, arith, subst, append-nil, add-one}
 use Rattle.std.specs.List.{slice_get, slice_set}
 use Rattle.std.proofs.lemmas.List.{take_all}
 use Rattle.std.proofs.lemmas.Option.{slice_get-get_or, slice_get_within}
@@ -10,7 +10,7 @@ use Rattle.plan_tree.specs.Rose.{Roses, rose, no_roses, more, join}
 use Rattle.plan_tree.specs.Stands.{Trees, Stands, StandsOnce, Rewrites}
 use Rattle.plan_tree.proofs.TreeLemmas.{opened, nth, Stands-nth, Stands-unique}
 use Rattle.plan_tree.proofs.ReadLemmas.{trees_at-is}
-use Rattle.plan_tree.proofs.Frames.{front, front-more, front-all, front-none, Rewrites-refl, Rewrites-trans, Rewrites-next, Rewrites-back, StandsOnce-set, StandsOnce-next, descend, slice_get-set_same}
+use Rattle.plan_tree.proofs.Frames.{front, front-more, front-all, front-none, Rewrites-refl, Rewrites-trans, Rewrites-next, Rewrites-back, StandsOnce-set, StandsOnce-next, descend}
 use Rattle.plan_expr.specs.declared.aexpr.AExpr.{AExpr}
 use Rattle.plan_ir.specs.declared.ir.IR.{IR}
 use Rattle.plan_ir.specs.declared.ir.IR.TheVariants as nodes
@@ -150,17 +150,6 @@ covering_at lp ex (n ∷ ns) no_roses asked plans s = absurd s
 covering_at lp ex (n ∷ []) (more (rose m p kids) (more (rose m1 p1 kids1) rest)) asked plans s = absurd s.4
 covering_at lp ex (n ∷ n1 ∷ ns) (more (rose m p kids) no_roses) asked plans s = absurd s.4
 
--- an entry that is written where it stands, and one that is written over another
-pub set_same : (xs : List IR) (k : ℕ) (p : IR) → slice_get xs k ≡ Some p → slice_set xs k p ≡ xs
-set_same [] k p e = cc
-set_same (x ∷ xs) zero p e = let q : x ≡ p = cc in ap (λ (y : IR). y ∷ xs) (sym q)
-set_same (x ∷ xs) (suc k) p e = ap (λ (ys : List IR). x ∷ ys) (set_same xs k p e)
-
-pub set_twice : (xs : List IR) (k : ℕ) (p q : IR) → slice_set (slice_set xs k p) k q ≡ slice_set xs k q
-set_twice [] k p q = refl
-set_twice (x ∷ xs) zero p q = refl
-set_twice (x ∷ xs) (suc k) p q = ap (λ (ys : List IR). x ∷ ys) (set_twice xs k p q)
-
 -- from the inputs of a node to the node, which is put back over them, once all are pruned
 pub each_finish : (top low : Bool) (asked : List Name) (covers : Option (List Name)) (lists : List (List Name)) (a b c z : List IR) (ex : List AExpr) (n : Node) (p q d : IR) (t : Trees IR) → StandsOnce plan_shape a (n ∷ []) t → slice_get a n.0 ≡ Some p → b ≡ slice_set a n.0 d → z ≡ slice_set c n.0 q → inputs_of q ≡ inputs_of p → is_invalid q ≡ false → TakePlace ex (roots_of q) (roots_of p) → is_closed (op_at ex p) ≡ false → ((kids : Trees IR) → StandsOnce plan_shape b (inputs_of p) kids → (x : PrunesEach low covers lists b c ex (inputs_of p) kids) × (rose tt (op_at ex q) (bare (plans_of ex x.trees)) ≡ rebuilt top asked (op_at ex p) (pruned_all (top_below top (op_at ex p)) (asks_plans asked (op_at ex p) (bare (plans_of ex kids))) (bare (plans_of ex kids))))) → Prunes top asked a z ex n t
 each_finish top low asked covers lists a b c z ex n p q d t h e taken put same valid roots opens below =
@@ -179,7 +168,7 @@ each_finish top low asked covers lists a b c z ex n p q d t h e taken put same v
     })
 
 -- a union stays over its inputs, once all are pruned
-module _ (top low : Bool) (asked : List Name) (covers : Option (List Name)) (lists : List (List Name)) (a b c : List IR) (ex : List AExpr) (n : Node) (inputs : List Node) (options : UnionOptions) (taken : b ≡ slice_set a n.0 (nodes.Union inputs options)) (low_is : low ≡ top_below top (op_at ex (nodes.Union inputs options))) (lists_are : lists ≡ names_alike asked inputs) (covers_is : covers ≡ covering inputs asked) (below : (kids : Trees IR) → StandsOnce plan_shape b inputs kids → PrunesEach low covers lists b c ex inputs kids) where
+module _ (top low : Bool) (asked : List Name) (covers : Option (List Name)) (lists : List (List Name)) (a b c z : List IR) (ex : List AExpr) (n : Node) (inputs : List Node) (options : UnionOptions) (d : IR) (taken : b ≡ slice_set a n.0 d) (back : z ≡ slice_set c n.0 (nodes.Union inputs options)) (low_is : low ≡ top_below top (op_at ex (nodes.Union inputs options))) (lists_are : lists ≡ names_alike asked inputs) (covers_is : covers ≡ covering inputs asked) (below : (kids : Trees IR) → StandsOnce plan_shape b inputs kids → PrunesEach low covers lists b c ex inputs kids) where
   abbrev whole : IR
   whole = nodes.Union inputs options
 
@@ -196,16 +185,9 @@ module _ (top low : Bool) (asked : List Name) (covers : Option (List Name)) (lis
       ∙ covering_at b ex inputs f asked plans s.stands
       ∙ ap (λ (w : Bool). covered_if w asked plans) (sym (several_pruned under own kids)))
 
-  pub union_pruned : (t : Trees IR) → StandsOnce plan_shape a (n ∷ []) t → slice_get a n.0 ≡ Some (nodes.Union inputs options) → Prunes top asked a c ex n t
+  pub union_pruned : (t : Trees IR) → StandsOnce plan_shape a (n ∷ []) t → slice_get a n.0 ≡ Some (nodes.Union inputs options) → Prunes top asked a z ex n t
   union_pruned t h e =
-      let o = opened plan_shape a n whole t h e in
-      let under : StandsOnce plan_shape b inputs o.kids = rw taken (StandsOnce-set plan_shape a inputs o.kids n.0 whole o.inputs o.above) in
-      let x = below o.kids under in
-      let small : n.0 < length a = slice_get_within a n.0 whole e in
-      let long : length b ≡ length a = rw taken (length-set a n.0 whole) in
-      let here : slice_get b n.0 ≡ Some whole = rw taken (slice_get-set_same plan_shape a n.0 whole small) in
-      let there : slice_get c n.0 ≡ Some whole = x.rewrites.keeps.same n.0 (omega (arith, small, long)) o.above ∙ here in
-      each_finish top low asked covers lists a b c c ex n whole whole whole t h e taken (sym (set_same c n.0 whole there)) refl refl (λ before after y. y) refl
+      each_finish top low asked covers lists a b c z ex n whole whole d t h e taken back refl refl (λ before after y. y) refl
       (λ kids s. let y = below kids s in (y, union_built kids s y))
 
 -- the mark after a node over inputs, once these were marked: it is set where the node counts rows, and then where its inputs do, which aren't left out

@@ -1,5 +1,5 @@
 -- What walks over expressions find, one after another: their names, the first that isn't scalar, and the columns that they make.
-use Rattle.std.proofs.Common.{◌≡◌, ℕ, zero, suc, ◌+◌, Bool, true, false, cond, List, [], ◌∷◌, ◌++◌, take, Option, Some, None, option_map, refl, sym, ap, ◌∙◌, add-one, append-nil}
+use Rattle.std.proofs.Common.{◌≡◌, ℕ, zero, suc, ◌+◌, Bool, true, false, cond, List, [], ◌∷◌, take, Option, Some, None, option_map, refl, sym, ap, ◌∙◌, add-one, append-nil}
 use Rattle.std.specs.List.{slice_get, cons_option}
 use Rattle.plan_core.specs.Columns.{Columns, type_of, with_type, with_types}
 use Rattle.plan_core.specs.Names.{with_names}
@@ -12,7 +12,7 @@ use Rattle.plan_expr.specs.Naming.{name_of}
 use Rattle.plan_expr.specs.Scalars.{is_scalar}
 use Rattle.plan_meaning.specs.Asked.{all_leaves}
 use Rattle.plan_narrowing.specs.Pruned.{typed_names}
-use Rattle.plan_narrowing.proofs.ListSteps.{with_names-append, take-next}
+use Rattle.plan_narrowing.proofs.ListSteps.{with_names-append}
 use Rattle.plan_prune.specs.Kept.{many_at, names_at, with_typed}
 
 -- expressions one after another

@@ -52,12 +52,12 @@ module _ (ex : List AExpr) where
       go true h = h
       go false h = refl
 
-  named_append : (xs ys : List ExprIR) → all_named_at ex (xs ++ ys) ≡ all_named_at ex xs ++ all_named_at ex ys
+  pub named_append : (xs ys : List ExprIR) → all_named_at ex (xs ++ ys) ≡ all_named_at ex xs ++ all_named_at ex ys
   named_append [] ys = refl
   named_append (x ∷ xs) ys = ap (λ (l : List Named). named_at ex x ∷ l) (named_append xs ys)
 
   -- everything is kept where everything is asked
-  all_kept : (es : List Named) → kept_exprs all es ≡ es
+  pub all_kept : (es : List Named) → kept_exprs all es ≡ es
   all_kept [] = refl
   all_kept (e ∷ es) = ap (λ (l : List Named). e ∷ l) (all_kept es)
 
@@ -96,7 +96,7 @@ module _ (ex : List AExpr) where
       go true x = place_behind ex (e.node ∷ []) (numbers_of (asked_exprs asked es)) (numbers_of es) x
       go false x = place_trans ex (numbers_of (asked_exprs asked es)) (numbers_of es) (e.node ∷ numbers_of es) x (place_before ex (numbers_of es) [] (e.node ∷ []) (place_without ex (e.node ∷ [])))
 
-  numbers_append : (xs ys : List ExprIR) → numbers_of (xs ++ ys) ≡ numbers_of xs ++ numbers_of ys
+  pub numbers_append : (xs ys : List ExprIR) → numbers_of (xs ++ ys) ≡ numbers_of xs ++ numbers_of ys
   numbers_append [] ys = refl
   numbers_append (x ∷ xs) ys = ap (λ (l : List Node). x.node ∷ l) (numbers_append xs ys)
 
@@ -136,7 +136,7 @@ module _ (ex : List AExpr) where
   stacked_place [] es = place_same ex (numbers_of es)
   stacked_place (a ∷ asked) es = asked_place (a ∷ asked) es
 
-  out_names_at : (es : List ExprIR) → names_at es ≡ out_names (all_named_at ex es)
+  pub out_names_at : (es : List ExprIR) → names_at es ≡ out_names (all_named_at ex es)
   out_names_at [] = refl
   out_names_at (e ∷ es) = ap (λ (l : List Name). name_of e.output_name ∷ l) (out_names_at es)
 

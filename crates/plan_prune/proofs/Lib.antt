@@ -8,5 +8,7 @@ mod HStackPruned
 mod AlikeLemmas
 mod JoinPruned
 mod EachLemmas
+mod GroupPruned
+mod ConcatPruned
 mod StepLemmas
 pub mod PlanPruned

@@ -1,5 +1,5 @@
 -- A node that was taken is pruned by its step.
-use Rattle.std.proofs.Common.{◌≡◌, ℕ, ◌+◌, ◌<◌, ◌≤◌, Bool, true, false, not, List, [], ◌∷◌, ◌&&◌, ◌||◌, length, min, take, Option, Some, None, unwrap_or, refl, sym, ap, ◌∙◌, arith, subst}
+use Rattle.std.proofs.Common.{◌≡◌, ℕ, ◌+◌, ◌<◌, ◌≤◌, Bool, true, false, not, List, [], ◌∷◌, ◌++◌, ◌&&◌, ◌||◌, length, min, take, Option, Some, None, unwrap_or, refl, sym, ap, ◌∙◌, arith, subst}
 use Rattle.std.specs.List.{slice_get, slice_set}
 use Rattle.plan_core.specs.declared.arena.Node.{Node}
 use Rattle.plan_tree.specs.Rose.{no_roses}
@@ -8,7 +8,7 @@ use Rattle.plan_tree.proofs.Frames.{front}
 use Rattle.plan_tree.proofs.TreeLemmas.{opened}
 use Rattle.plan_expr.specs.declared.aexpr.AExpr.{AExpr}
 use Rattle.plan_ir.specs.declared.ir.IR.{IR}
-use Rattle.plan_ir.specs.declared.ir.IR.TheVariants.{Slice, Filter, Scan, DataFrameScan, SimpleProjection, Select, HStack, Sort, Distinct, MapFunction, Sink, Union, Cache, Invalid}
+use Rattle.plan_ir.specs.declared.ir.IR.TheVariants.{Slice, Filter, Scan, DataFrameScan, SimpleProjection, Select, HStack, Sort, GroupBy, Distinct, MapFunction, Sink, Union, HConcat, Cache, Invalid}
 use Rattle.plan_ir.specs.Parts.{plan_shape, inputs_of, IsPlan}
 use Rattle.plan_expr.specs.Exprs.{Named, all_named_at}
 use Rattle.plan_ir.specs.Plans.{bare, op_at, plans_at, plans_of}
@@ -16,18 +16,20 @@ use Rattle.plan_expr.specs.Leaves.{Name}
 use Rattle.plan_core.specs.Columns.{Columns, names_of}
 use Rattle.plan_meaning.specs.Typing.{names_or}
 use Rattle.plan_meaning.specs.Counting.{is_closed, is_count, meet_count}
-use Rattle.plan_meaning.specs.Asked.{needed_names, selected_exprs, set_of}
+use Rattle.plan_meaning.specs.Asked.{grouping_names, kept_exprs, needed_names, selected_exprs, set_of}
 use Rattle.plan_narrowing.specs.Pruned.{asked_columns, asked_with, kept, mapped_names, pruned_output, top_below}
 use Rattle.plan_prune.specs.declared.push_down.step.Step.TheVariants.{Leaf, Over, Closed, Each}
 use Rattle.plan_prune.specs.Kept.{is_some_name, names_at, selected_at, stacked_at, stored_after}
 use Rattle.plan_prune.specs.Prunes.{MarksAt, Prunes, PrunesAt}
 use Rattle.plan_prune.specs.Scans.{covered_at, kept_scan, with_columns_on, with_node}
 use Rattle.plan_prune.specs.Steps.{columns_at, stand_in_at, step_of, put_back}
-use Rattle.plan_prune.proofs.PruneLemmas.{Asks, alone, finish, one_list, is_entry, stays, scan_pruned, stands_taken, stands_after}
+use Rattle.plan_prune.proofs.PruneLemmas.{Asks, alone, finish, one_list, is_entry, stays, scan_pruned, inputs_taken, stands_taken, stands_after}
 use Rattle.plan_prune.proofs.AlikeLemmas.{length-alike}
 use Rattle.plan_prune.proofs.KeptLemmas.{selected_named, selected_place, select_built, hstack_asks}
 use Rattle.plan_prune.proofs.HStackPruned.{hstack_pruned, found as there}
-use Rattle.plan_prune.proofs.EachLemmas.{PrunesEach, SoFar, set_twice, closed_marks, closed_pruned, each_asks, each_marks, one_covered, one_plain, so_far_all, so_far_next, union_pruned}
+use Rattle.plan_prune.proofs.GroupPruned.{grouped_asks, grouped_built, grouped_place}
+use Rattle.plan_prune.proofs.ConcatPruned.{concat_pruned, length-held}
+use Rattle.plan_prune.proofs.EachLemmas.{PrunesEach, SoFar, closed_marks, closed_pruned, each_asks, each_marks, one_covered, one_plain, so_far_all, so_far_next, union_pruned}
 
 -- equal steps have equal parts
 over_parts : (i j : Node) (names others : List Name) (p q : IR) → Over i names p ≡ Over j others q → (i ≡ j) × (names ≡ others) × (p ≡ q)
@@ -58,10 +60,12 @@ is_over lp ex asked names (SimpleProjection j columns) q i e = made_over i j nam
 is_over lp ex asked names (Select j es schema options) q i e = made_over i j names _ (Select j es schema options) q _ (λ ex. refl) refl refl e
 is_over lp ex asked names (HStack j es schema options) q i e = made_over i j names _ (HStack j es schema options) q _ (λ ex. refl) refl refl e
 is_over lp ex asked names (Sort j keys part options) q i e = made_over i j names _ (Sort j keys part options) q _ (λ ex. refl) refl refl e
+is_over lp ex asked names (GroupBy j keys aggs schema ordered options) q i e = made_over i j names _ (GroupBy j keys aggs schema ordered options) q _ (λ ex. refl) refl refl e
 is_over lp ex asked names (Distinct j options) q i e = made_over i j names _ (Distinct j options) q _ (λ ex. refl) refl refl e
 is_over lp ex asked names (MapFunction j function) q i e = made_over i j names _ (MapFunction j function) q _ (λ ex. refl) refl refl e
 is_over lp ex asked names (Sink j payload) q i e = made_over i j names _ (Sink j payload) q _ (λ ex. refl) refl refl e
 is_over lp ex asked names (Union inputs options) q i e = cc
+is_over lp ex asked names (HConcat inputs schema options) q i e = cc
 is_over lp ex asked names (Cache j id cache_hits) q i e = cc
 is_over lp ex asked names Invalid q i e = cc
 
@@ -76,10 +80,12 @@ kept_alone (a ∷ asked) (SimpleProjection j columns) e = e
 kept_alone (a ∷ asked) (Select j es schema options) e = e
 kept_alone (a ∷ asked) (HStack j es schema options) e = e
 kept_alone (a ∷ asked) (Sort j keys part options) e = e
+kept_alone (a ∷ asked) (GroupBy j keys aggs schema ordered options) e = e
 kept_alone (a ∷ asked) (Distinct j options) e = e
 kept_alone (a ∷ asked) (MapFunction j function) e = e
 kept_alone (a ∷ asked) (Sink j payload) e = e
 kept_alone (a ∷ asked) (Union inputs options) e = e
+kept_alone (a ∷ asked) (HConcat inputs schema options) e = e
 kept_alone (a ∷ asked) (Cache j id cache_hits) e = e
 kept_alone (a ∷ asked) Invalid e = refl
 
@@ -92,10 +98,12 @@ is_leaf lp ex asked (SimpleProjection j columns) q e = cc
 is_leaf lp ex asked (Select j es schema options) q e = cc
 is_leaf lp ex asked (HStack j es schema options) q e = cc
 is_leaf lp ex asked (Sort j keys part options) q e = cc
+is_leaf lp ex asked (GroupBy j keys aggs schema ordered options) q e = cc
 is_leaf lp ex asked (Distinct j options) q e = cc
 is_leaf lp ex asked (MapFunction j function) q e = cc
 is_leaf lp ex asked (Sink j payload) q e = cc
 is_leaf lp ex asked (Union inputs options) q e = cc
+is_leaf lp ex asked (HConcat inputs schema options) q e = cc
 is_leaf lp ex asked (Cache j id cache_hits) q e = cc
 is_leaf lp ex asked Invalid q e = ap inputs_of (leaf_part q _ e)
 
@@ -109,10 +117,12 @@ leaf_alone lp ex asked (SimpleProjection j columns) q e = cc
 leaf_alone lp ex asked (Select j es schema options) q e = cc
 leaf_alone lp ex asked (HStack j es schema options) q e = cc
 leaf_alone lp ex asked (Sort j keys part options) q e = cc
+leaf_alone lp ex asked (GroupBy j keys aggs schema ordered options) q e = cc
 leaf_alone lp ex asked (Distinct j options) q e = cc
 leaf_alone lp ex asked (MapFunction j function) q e = cc
 leaf_alone lp ex asked (Sink j payload) q e = cc
 leaf_alone lp ex asked (Union inputs options) q e = cc
+leaf_alone lp ex asked (HConcat inputs schema options) q e = cc
 leaf_alone lp ex asked (Cache j id cache_hits) q e = cc
 leaf_alone lp ex asked Invalid q e = refl
 
@@ -146,10 +156,12 @@ module _ (top : Bool) (asked : List Name) (a b z : List IR) (ex : List AExpr) (n
   leaf_pruned (Select j es schema options) e is = cc
   leaf_pruned (HStack j es schema options) e is = cc
   leaf_pruned (Sort j keys part options) e is = cc
+  leaf_pruned (GroupBy j keys aggs schema ordered options) e is = cc
   leaf_pruned (Distinct j options) e is = cc
   leaf_pruned (MapFunction j function) e is = cc
   leaf_pruned (Sink j payload) e is = cc
   leaf_pruned (Union inputs options) e is = cc
+  leaf_pruned (HConcat inputs schema options) e is = cc
   leaf_pruned (Cache j id cache_hits) e is = cc
   leaf_pruned Invalid e is = let o = opened plan_shape a n Invalid t h e in let v : true ≡ false = o.valid in cc
 
@@ -190,6 +202,17 @@ module _ (top low : Bool) (asked names : List Name) (a b c z : List IR) (ex : Li
       (is_some_name asked) (stacked_at asked es) z refl refl (put_over _ _ _ is)
   over_pruned (Sort j keys part options) e low_is is =
       rw (put_over _ _ _ is) (finish top low asked names a b c ex n i (Sort j keys part options) (Sort j keys part options) d t h e taken (one _ _ _ is) refl refl (λ before after x. x) refl low_is (one_list (named _ _ _ is)) refl below)
+  over_pruned (GroupBy j keys aggs schema ordered options) e low_is is =
+      let ks = stacked_at asked aggs in
+      let cs = stored_after (is_some_name asked) [] (names_at (keys ++ ks)) schema in
+      rw (put_over _ _ _ is) (finish top low asked names a b c ex n i (GroupBy j keys aggs schema ordered options) (GroupBy j keys ks cs ordered options) d t h e taken (one _ _ _ is) refl refl
+      (grouped_place ex asked keys aggs) refl low_is
+      (one_list
+      (named _ _ _ is
+      ∙ grouped_asks ex asked keys aggs (columns_at b ex j)
+      ∙ ap (λ (k : Node). grouping_names (all_named_at ex keys) (kept_exprs (set_of asked) (all_named_at ex aggs)) asked (columns_at b ex k)) (sym (over_parts i j names _ q _ is).0)))
+      (grouped_built ex asked keys aggs ks schema cs ordered options (bare (plans_at c ex (i ∷ []))) refl refl)
+      below)
   over_pruned (Distinct j options) e low_is is =
       rw (put_over _ _ _ is) (finish top low asked names a b c ex n i (Distinct j options) (Distinct j options) d t h e taken (one _ _ _ is) refl refl (λ before after x. x) refl low_is
       (one_list (named _ _ _ is ∙ ap (λ (k : Node). asked_with asked (names_or options.subset (names_of (columns_at b ex k)))) (sym (over_parts i j names _ q _ is).0))) refl below)
@@ -200,6 +223,7 @@ module _ (top low : Bool) (asked names : List Name) (a b c z : List IR) (ex : Li
       rw (put_over _ _ _ is) (finish top low asked names a b c ex n i (Sink j payload) (Sink j payload) d t h e taken (one _ _ _ is) refl refl (λ before after x. x) refl low_is (one_list (named _ _ _ is)) refl below)
   over_pruned (Scan sources info predicate output kind options) e low_is is = cc
   over_pruned (Union inputs options) e low_is is = cc
+  over_pruned (HConcat inputs schema options) e low_is is = cc
   over_pruned (Cache j id cache_hits) e low_is is = cc
   over_pruned (DataFrameScan df schema output) e low_is is = cc
   over_pruned Invalid e low_is is = cc
@@ -252,10 +276,12 @@ is_closed_step b ex asked (SimpleProjection j cs) q columns e = cc
 is_closed_step b ex asked (Select j es schema options) q columns e = cc
 is_closed_step b ex asked (HStack j es schema options) q columns e = cc
 is_closed_step b ex asked (Sort j keys part options) q columns e = cc
+is_closed_step b ex asked (GroupBy j keys aggs schema ordered options) q columns e = cc
 is_closed_step b ex asked (Distinct j options) q columns e = cc
 is_closed_step b ex asked (MapFunction j function) q columns e = cc
 is_closed_step b ex asked (Sink j payload) q columns e = cc
 is_closed_step b ex asked (Union inputs options) q columns e = cc
+is_closed_step b ex asked (HConcat inputs schema options) q columns e = cc
 is_closed_step b ex asked Invalid q columns e = cc
 
 -- names that are there are the same, or aren't there
@@ -272,19 +298,24 @@ pub one_more : (top : Bool) (covers : Option (List Name)) (asked : List Name) (b
 one_more top (Some names) asked b c z ex n x on off low t h = one_covered top asked names b c z ex n (unwrap_or (slice_get c n.0) Invalid) t (there c n.0 low) (on names refl) (x t h)
 one_more top None asked b c z ex n x on off low t h = rw (off refl) (one_plain top asked b c ex n t (x t h))
 
--- a step over each input is that of a node with these inputs, which asks each of them
-pub record IsEach (inputs : List Node) (lists : List (List Name)) (p : IR) : Type 0 where
+-- a step over each input is that of a node with these inputs, which asks each of them, and the node goes back over them
+pub record IsEach (inputs : List Node) (lists : List (List Name)) (p q : IR) : Type 0 where
   pub own : inputs_of p ≡ inputs
+  pub same : inputs_of q ≡ inputs
   pub long : length lists ≡ length inputs
   pub opens : (ex : List AExpr) → is_closed (op_at ex p) ≡ false
 
 each_parts : (ns ms : List Node) (l m : List (List Name)) (o u : Option (List Name)) (p q : IR) → Each ns l o p ≡ Each ms m u q → (ns ≡ ms) × (l ≡ m) × (o ≡ u) × (p ≡ q)
 each_parts ns ms l m o u p q e = (cc, cc, cc, cc)
 
-pub is_each : (b : List IR) (ex : List AExpr) (asked : List Name) (inputs : List Node) (lists : List (List Name)) (covers : Option (List Name)) (p q : IR) → Each inputs lists covers q ≡ step_of b ex asked p → IsEach inputs lists p
-is_each b ex asked inputs lists covers (Union own options) q e =
-    let x = each_parts inputs _ lists _ covers _ q _ e in
-    record { own = sym x.0; long = ap length x.1 ∙ length-alike asked own ∙ ap length (sym x.0); opens = λ ex. refl }
+made_each : (ns ms : List Node) (l m : List (List Name)) (o u : Option (List Name)) (p q r : IR) → ((ex : List AExpr) → is_closed (op_at ex p) ≡ false) → inputs_of p ≡ ms → inputs_of r ≡ ms → length m ≡ length ms → Each ns l o q ≡ Each ms m u r → IsEach ns l p q
+made_each ns ms l m o u p q r opens own same long e =
+    let x = each_parts ns ms l m o u q r e in
+    record { own = own ∙ sym x.0; same = ap inputs_of x.3 ∙ same ∙ sym x.0; long = ap length x.1 ∙ long ∙ ap length (sym x.0); opens = opens }
+
+pub is_each : (b : List IR) (ex : List AExpr) (asked : List Name) (inputs : List Node) (lists : List (List Name)) (covers : Option (List Name)) (p q : IR) → Each inputs lists covers q ≡ step_of b ex asked p → IsEach inputs lists p q
+is_each b ex asked inputs lists covers (Union own options) q e = made_each inputs own lists _ covers _ (Union own options) q _ (λ ex. refl) refl refl (length-alike asked own) e
+is_each b ex asked inputs lists covers (HConcat own schema options) q e = made_each inputs own lists _ covers _ (HConcat own schema options) q _ (λ ex. refl) refl refl (length-held b ex asked own) e
 is_each b ex asked inputs lists covers (Slice j offset len) q e = cc
 is_each b ex asked inputs lists covers (Filter j predicate) q e = cc
 is_each b ex asked inputs lists covers (Scan sources info predicate output kind options) q e = cc
@@ -293,6 +324,7 @@ is_each b ex asked inputs lists covers (SimpleProjection j cs) q e = cc
 is_each b ex asked inputs lists covers (Select j es schema options) q e = cc
 is_each b ex asked inputs lists covers (HStack j es schema options) q e = cc
 is_each b ex asked inputs lists covers (Sort j keys part options) q e = cc
+is_each b ex asked inputs lists covers (GroupBy j keys aggs schema ordered options) q e = cc
 is_each b ex asked inputs lists covers (Distinct j options) q e = cc
 is_each b ex asked inputs lists covers (MapFunction j function) q e = cc
 is_each b ex asked inputs lists covers (Sink j payload) q e = cc
@@ -313,12 +345,20 @@ module _ (asked : List Name) (a b : List IR) (ex : List AExpr) (n : Node) (p q d
       closed_marks a b ex n o.input o.id o.hits d t h (e ∙ ap Some o.is) taken before mid (is ∙ ap (λ (r : IR). before || is_count (op_at ex r)) o.is)
 
 -- a node over inputs is pruned by its step, once these are pruned
-module _ (top low : Bool) (asked : List Name) (lists : List (List Name)) (covers : Option (List Name)) (a m b c : List IR) (ex : List AExpr) (n : Node) (inputs : List Node) (q : IR) (t : Trees IR) (h : StandsOnce plan_shape a (n ∷ []) t) (back : b ≡ slice_set a n.0 q) (below : (kids : Trees IR) → StandsOnce plan_shape b inputs kids → PrunesEach low covers lists b c ex inputs kids) where
-  pub each_pruned : (p : IR) → slice_get a n.0 ≡ Some p → low ≡ top_below top (op_at ex p) → Each inputs lists covers q ≡ step_of m ex asked p → Prunes top asked a c ex n t
+module _ (top low : Bool) (asked : List Name) (lists : List (List Name)) (covers : Option (List Name)) (a b c z : List IR) (ex : List AExpr) (n : Node) (inputs : List Node) (q d : IR) (t : Trees IR) (h : StandsOnce plan_shape a (n ∷ []) t) (taken : b ≡ slice_set a n.0 d) (back : z ≡ put_back top (is_some_name asked) c ex n q) (below : (kids : Trees IR) → StandsOnce plan_shape b inputs kids → PrunesEach low covers lists b c ex inputs kids) where
+  put_each : (own : List Node) (l : List (List Name)) (o : Option (List Name)) (r : IR) → Each inputs lists covers q ≡ Each own l o r → z ≡ put_back top (is_some_name asked) c ex n r
+  put_each own l o r e = back ∙ ap (put_back top (is_some_name asked) c ex n) (each_parts inputs own lists l covers o q r e).3
+
+  below_own : (own : List Node) → inputs ≡ own → (kids : Trees IR) → StandsOnce plan_shape b own kids → PrunesEach low covers lists b c ex own kids
+  below_own own is = subst (λ (ns : List Node). (kids : Trees IR) → StandsOnce plan_shape b ns kids → PrunesEach low covers lists b c ex ns kids) is below
+
+  pub each_pruned : (p : IR) → slice_get a n.0 ≡ Some p → low ≡ top_below top (op_at ex p) → Each inputs lists covers q ≡ step_of b ex asked p → Prunes top asked a z ex n t
   each_pruned (Union own options) e low_is is =
       let x = each_parts inputs _ lists _ covers _ q _ is in
-      union_pruned top low asked covers lists a b c ex n own options (back ∙ ap (slice_set a n.0) x.3) low_is x.1 x.2
-      (λ kids s. subst (λ (ns : List Node). PrunesEach low covers lists b c ex ns kids) x.0 (below kids (subst (λ (ns : List Node). StandsOnce plan_shape b ns kids) (sym x.0) s))) t h e
+      union_pruned top low asked covers lists a b c z ex n own options d taken (put_each _ _ _ _ is) low_is x.1 x.2 (below_own own x.0) t h e
+  each_pruned (HConcat own schema options) e low_is is =
+      let x = each_parts inputs _ lists _ covers _ q _ is in
+      concat_pruned top low asked covers lists a b c z ex n own schema options d taken (put_each _ _ _ _ is) low_is x.1 x.2 (below_own own x.0) t h e
   each_pruned (Slice j offset len) e low_is is = cc
   each_pruned (Filter j predicate) e low_is is = cc
   each_pruned (Scan sources info predicate output kind options) e low_is is = cc
@@ -327,23 +367,21 @@ module _ (top low : Bool) (asked : List Name) (lists : List (List Name)) (covers
   each_pruned (Select j es schema options) e low_is is = cc
   each_pruned (HStack j es schema options) e low_is is = cc
   each_pruned (Sort j keys part options) e low_is is = cc
+  each_pruned (GroupBy j keys aggs schema ordered options) e low_is is = cc
   each_pruned (Distinct j options) e low_is is = cc
   each_pruned (MapFunction j function) e low_is is = cc
   each_pruned (Sink j payload) e low_is is = cc
   each_pruned (Cache j id hits) e low_is is = cc
   each_pruned Invalid e low_is is = cc
 
--- what a call on an input of a node asks, and what comes of the node, which went back at once
-module _ (asked : List Name) (a m b : List IR) (ex : List AExpr) (n : Node) (inputs : List Node) (lists : List (List Name)) (covers : Option (List Name)) (p q d : IR) (e : slice_get a n.0 ≡ Some p) (taken : m ≡ slice_set a n.0 d) (put : b ≡ slice_set m n.0 q) (step : Each inputs lists covers q ≡ step_of m ex asked p) where
-  abbrev each_is : IsEach inputs lists p
-  each_is = is_each m ex asked inputs lists covers p q step
-
-  back : b ≡ slice_set a n.0 q
-  back = put ∙ ap (λ (l : List IR). slice_set l n.0 q) taken ∙ set_twice a n.0 d q
+-- what a call on an input of a node asks, and what comes of the node, which goes back after the last
+module _ (asked : List Name) (a b : List IR) (ex : List AExpr) (n : Node) (inputs : List Node) (lists : List (List Name)) (covers : Option (List Name)) (p q d : IR) (e : slice_get a n.0 ≡ Some p) (taken : b ≡ slice_set a n.0 d) (step : Each inputs lists covers q ≡ step_of b ex asked p) where
+  abbrev each_is : IsEach inputs lists p q
+  each_is = is_each b ex asked inputs lists covers p q step
 
   pub each_call : (before mid : Bool) (c : List IR) (i : Node) (j : ℕ) → IsPlan a ex n → slice_get inputs j ≡ Some i → SoFar before mid covers lists b c ex inputs j → Asks a c ex n i
   each_call before mid c i j h at x =
-      each_asks a b c ex n i p q j h e back (ap (λ (l : List Node). slice_get l j) each_is.own ∙ at)
+      each_asks a b c ex n i p d j h e taken (ap (λ (l : List Node). slice_get l j) each_is.own ∙ at)
       (λ kids s. let y = x.prunes kids (subst (λ (l : List Node). StandsOnce plan_shape b l kids) each_is.own s) in (y.trees, subst (λ (l : List Node). Rewrites plan_shape b c (take j l) (front plan_shape kids j) y.trees) (sym each_is.own) y.rewrites))
 
   -- with the next input
@@ -359,10 +397,17 @@ module _ (asked : List Name) (a m b : List IR) (ex : List AExpr) (n : Node) (inp
   past : (j : ℕ) → j ≡ min (length inputs) (length lists) → length inputs ≤ j
   past j e = rw (e, each_is.long) (omega arith)
 
-  pub each_step : (top before mid : Bool) (c : List IR) (j : ℕ) → not before ≡ top_below top (op_at ex p) → j ≡ min (length inputs) (length lists) → SoFar before mid covers lists b c ex inputs j → PrunesAt top asked a c ex n
-  each_step top before mid c j low ended x t h =
-      each_pruned top (not before) asked lists covers a m b c ex n inputs q t h back (λ kids s. (so_far_all before mid covers lists b c ex inputs j (past j ended) x kids s).0) p e low step
+  -- what stands at the inputs of the node that goes back
+  pub each_left : (before mid : Bool) (c : List IR) (j : ℕ) → IsPlan a ex n → j ≡ min (length inputs) (length lists) → SoFar before mid covers lists b c ex inputs j → (t : Trees IR) × StandsOnce plan_shape c (inputs_of q) t
+  each_left before mid c j h ended x =
+      let s = inputs_taken a b n p d h.nodes h.stands.nodes e taken in
+      let y = (so_far_all before mid covers lists b c ex inputs j (past j ended) x s.0 (subst (λ (l : List Node). StandsOnce plan_shape b l s.0) each_is.own s.1)).0 in
+      (y.trees, subst (λ (l : List Node). StandsOnce plan_shape c l y.trees) (sym each_is.same) y.rewrites.stands)
+
+  pub each_step : (top before mid : Bool) (c z : List IR) (j : ℕ) → not before ≡ top_below top (op_at ex p) → j ≡ min (length inputs) (length lists) → SoFar before mid covers lists b c ex inputs j → z ≡ put_back top (is_some_name asked) c ex n q → PrunesAt top asked a z ex n
+  each_step top before mid c z j low ended x back t h =
+      each_pruned top (not before) asked lists covers a b c z ex n inputs q d t h taken back (λ kids s. (so_far_all before mid covers lists b c ex inputs j (past j ended) x kids s).0) p e low step
 
   pub each_mark : (first before mid : Bool) (c : List IR) (j : ℕ) → before ≡ (first || is_count (op_at ex p)) → j ≡ min (length inputs) (length lists) → SoFar before mid covers lists b c ex inputs j → MarksAt first mid a ex n
   each_mark first before mid c j is ended x =
-      each_marks first before mid a b ex n inputs p q e back each_is.own (each_is.opens ex) is (λ kids s. (so_far_all before mid covers lists b c ex inputs j (past j ended) x kids s).1)
+      each_marks first before mid a b ex n inputs p d e taken each_is.own (each_is.opens ex) is (λ kids s. (so_far_all before mid covers lists b c ex inputs j (past j ended) x kids s).1)

@@ -1,4 +1,4 @@
--- What selections and additions keep and store, said of expressions with their numbers.
+-- What selections, additions, groupings and concatenations keep and store, said of expressions with their numbers.
 use Rattle.std.specs.Prelude.{Bool, true, false, List, [], ◌∷◌, ◌++◌, map, if◌then◌else◌, filter as filter_list, slice_get, slice_set, unwrap_or}
 use Rattle.plan_core.specs.declared.arena.Node.{Node}
 use Rattle.plan_core.specs.declared.options.ProjectionOptions.{ProjectionOptions}
@@ -13,6 +13,7 @@ use Rattle.plan_expr.specs.Leaves.{Name}
 use Rattle.plan_expr.specs.Naming.{name_of}
 use Rattle.plan_expr.specs.Scalars.{is_scalar}
 use Rattle.plan_meaning.specs.Steps.{all_scalar}
+use Rattle.plan_meaning.specs.Typing.{side_by_side}
 use Rattle.plan_narrowing.specs.Pruned.{typed_names, added_names}
 
 -- the expressions that are asked, in their order
@@ -39,7 +40,7 @@ abbrev pub selected_at : List AExpr → List Name → List ExprIR → List ExprI
 selected_at ex [] es = es
 selected_at ex (a ∷ asked) es = with_many ex (asked_exprs (a ∷ asked) es) es
 
--- what an addition keeps; asked nothing, all
+-- what an addition or a grouping keeps; asked nothing, all
 abbrev pub stacked_at : List Name → List ExprIR → List ExprIR
 stacked_at [] es = es
 stacked_at (a ∷ asked) es = asked_exprs (a ∷ asked) es
@@ -61,6 +62,11 @@ with_typed base names schema = with_types base (typed_names schema names)
 abbrev pub stored_after : Bool → Columns → List Name → Columns → Columns
 stored_after true base names schema = with_typed base names schema
 stored_after false base names schema = schema
+
+-- the columns that a concatenation stores over inputs with these columns, where names are asked; asked nothing, what it stored
+abbrev pub beside_after : Bool → List Columns → Columns → Columns
+beside_after true ss schema = side_by_side ss
+beside_after false ss schema = schema
 
 -- what an addition asks that keeps these expressions; asked nothing, nothing
 abbrev pub asks_after : List Name → List Named → Columns → List Name

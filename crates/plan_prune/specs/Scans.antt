@@ -3,7 +3,7 @@ use Rattle.std.specs.Prelude.{Bool, true, false, List, [], ◌∷◌, ◌++◌, 
 use Rattle.plan_core.specs.declared.arena.Node.{Node}
 use Rattle.plan_core.specs.Columns.{Columns}
 use Rattle.plan_ir.specs.declared.ir.IR.{IR}
-use Rattle.plan_ir.specs.declared.ir.IR.TheVariants.{Slice, Filter, Scan, DataFrameScan, SimpleProjection, Select, HStack, Sort, Distinct, MapFunction, Sink, Union, Cache, Invalid}
+use Rattle.plan_ir.specs.declared.ir.IR.TheVariants.{Slice, Filter, Scan, DataFrameScan, SimpleProjection, Select, HStack, Sort, GroupBy, Distinct, MapFunction, Sink, Union, HConcat, Cache, Invalid}
 use Rattle.plan_expr.specs.Leaves.{Name}
 use Rattle.plan_narrowing.specs.Pruned.{typed_names, reading}
 
@@ -18,10 +18,12 @@ narrowed names (Select input expr schema options) = Select input expr schema opt
 narrowed names (HStack input exprs schema options) = HStack input exprs schema options
 narrowed names (SimpleProjection input columns) = SimpleProjection input columns
 narrowed names (Sort input keys part options) = Sort input keys part options
+narrowed names (GroupBy input keys aggs schema ordered options) = GroupBy input keys aggs schema ordered options
 narrowed names (Distinct input options) = Distinct input options
 narrowed names (MapFunction input function) = MapFunction input function
 narrowed names (Sink input payload) = Sink input payload
 narrowed names (Union inputs options) = Union inputs options
+narrowed names (HConcat inputs schema options) = HConcat inputs schema options
 narrowed names (Cache input id cache_hits) = Cache input id cache_hits
 narrowed names Invalid = Invalid
 
@@ -45,10 +47,12 @@ output_of (Select input expr schema options) = []
 output_of (HStack input exprs schema options) = []
 output_of (SimpleProjection input columns) = []
 output_of (Sort input keys part options) = []
+output_of (GroupBy input keys aggs schema ordered options) = []
 output_of (Distinct input options) = []
 output_of (MapFunction input function) = []
 output_of (Sink input payload) = []
 output_of (Union inputs options) = []
+output_of (HConcat inputs schema options) = []
 output_of (Cache input id cache_hits) = []
 output_of Invalid = []
 

@@ -1,24 +1,25 @@
 -- What is done at a node that was taken: before its input is pruned, and after.
-use Rattle.std.specs.Prelude.{Bool, ◌&&◌, List, [], ◌∷◌, Option, None, Some, slice_set}
+use Rattle.std.specs.Prelude.{Bool, ◌&&◌, List, [], ◌∷◌, ◌++◌, map, Option, None, Some, slice_set}
 use Rattle.plan_core.specs.declared.arena.Node.{Node}
 use Rattle.plan_core.specs.declared.options.ProjectionOptions.{ProjectionOptions}
 use Rattle.plan_core.specs.Columns.{Columns, names_of}
+use Rattle.plan_options.specs.declared.group.GroupbyOptions.{GroupbyOptions}
 use Rattle.plan_core.specs.Names.{with_names}
 use Rattle.plan_expr.specs.declared.aexpr.AExpr.{AExpr}
 use Rattle.plan_expr.specs.declared.expr_ir.ExprIR.{ExprIR}
 use Rattle.plan_ir.specs.declared.ir.IR.{IR}
-use Rattle.plan_ir.specs.declared.ir.IR.TheVariants.{Slice, Filter, Scan, DataFrameScan, SimpleProjection, Select, HStack, Sort, Distinct, MapFunction, Sink, Union, Cache, Invalid}
+use Rattle.plan_ir.specs.declared.ir.IR.TheVariants.{Slice, Filter, Scan, DataFrameScan, SimpleProjection, Select, HStack, Sort, GroupBy, Distinct, MapFunction, Sink, Union, HConcat, Cache, Invalid}
 use Rattle.plan_expr.specs.Exprs.{expr_at, all_named_at}
 use Rattle.plan_ir.specs.Plans.{bare, plans_at}
 use Rattle.plan_expr.specs.Leaves.{Name, leaves}
 use Rattle.plan_meaning.specs.Typing.{first_schema, names_or}
 use Rattle.plan_meaning.specs.Counting.{stand_ins, first_stand_in}
-use Rattle.plan_meaning.specs.Asked.{all_leaves, needed_names}
+use Rattle.plan_meaning.specs.Asked.{all_leaves, grouping_names, needed_names}
 use Rattle.plan_schema.specs.Stored.{stored_all}
-use Rattle.plan_narrowing.specs.Pruned.{asked_columns, asked_with, kept, mapped_names, names_alike, pruned_output}
+use Rattle.plan_narrowing.specs.Pruned.{asked_columns, asked_with, held_names, kept, mapped_names, names_alike, pruned_output}
 use Rattle.plan_prune.specs.declared.push_down.step.Step.{Step}
 use Rattle.plan_prune.specs.declared.push_down.step.Step.TheVariants.{Leaf, Over, Closed, Each}
-use Rattle.plan_prune.specs.Kept.{selected_at, stacked_at, is_some_name, names_at, stored_after, asks_after, with_stacked}
+use Rattle.plan_prune.specs.Kept.{selected_at, stacked_at, is_some_name, names_at, stored_after, asks_after, beside_after, with_stacked}
 use Rattle.plan_prune.specs.Scans.{kept_scan, with_node}
 
 -- the columns that the plan at a number says it has
@@ -41,6 +42,16 @@ stacked_step ex asked i es schema options s =
     let ks = stacked_at asked es in
     Over i (asks_after asked (all_named_at ex ks) s) (HStack i ks schema options)
 
+-- the step of a grouping that is asked names; the last columns are its input's
+abbrev pub grouped_step : List AExpr → List Name → Node → (keys aggs : List ExprIR) → Columns → Bool → GroupbyOptions → Columns → Step
+grouped_step ex asked i keys aggs schema ordered o s =
+    let ks = stacked_at asked aggs in
+    Over i (grouping_names (all_named_at ex keys) (all_named_at ex ks) asked s) (GroupBy i keys ks (stored_after (is_some_name asked) [] (names_at (keys ++ ks)) schema) ordered o)
+
+-- what a concatenation asks its inputs: each of them the asked names that it has
+abbrev pub held_at : List IR → List AExpr → List Name → List Node → List (List Name)
+held_at lp ex asked ns = map (λ (n : Node). held_names asked (columns_at lp ex n)) ns
+
 -- the names to which each of a union's inputs gets a projection: the asked ones where there is more than one input
 abbrev pub covering : List Node → List Name → Option (List Name)
 covering [] asked = None
@@ -57,10 +68,12 @@ step_of lp ex asked (SimpleProjection i columns) = Over i (with_names [] (names_
 step_of lp ex asked (Select i es schema options) = selected_step ex asked i es schema options (stand_in_at lp ex i)
 step_of lp ex asked (HStack i es schema options) = stacked_step ex asked i es schema options (columns_at lp ex i)
 step_of lp ex asked (Sort i keys part options) = Over i (asked_with asked (all_leaves (all_named_at ex keys))) (Sort i keys part options)
+step_of lp ex asked (GroupBy i keys aggs schema ordered options) = grouped_step ex asked i keys aggs schema ordered options (columns_at lp ex i)
 step_of lp ex asked (Distinct i options) = Over i (asked_with asked (names_or options.subset (names_of (columns_at lp ex i)))) (Distinct i options)
 step_of lp ex asked (MapFunction i function) = Over i (mapped_names asked function (columns_at lp ex i)) (MapFunction i function)
 step_of lp ex asked (Sink i payload) = Over i asked (Sink i payload)
 step_of lp ex asked (Union inputs options) = Each inputs (names_alike asked inputs) (covering inputs asked) (Union inputs options)
+step_of lp ex asked (HConcat inputs schema options) = Each inputs (held_at lp ex asked inputs) None (HConcat inputs schema options)
 step_of lp ex asked (Cache i id cache_hits) = Closed (asked_columns asked (columns_at lp ex i)) (Cache i id cache_hits)
 step_of lp ex asked Invalid = Leaf Invalid
 
@@ -74,9 +87,11 @@ put_back top some lp ex n (DataFrameScan df schema output) = slice_set lp n.0 (D
 put_back top some lp ex n (SimpleProjection i columns) = slice_set lp n.0 (SimpleProjection i columns)
 put_back top some lp ex n (Select i es schema options) = slice_set lp n.0 (Select i es schema options)
 put_back top some lp ex n (Sort i keys part options) = slice_set lp n.0 (Sort i keys part options)
+put_back top some lp ex n (GroupBy i keys aggs schema ordered options) = slice_set lp n.0 (GroupBy i keys aggs schema ordered options)
 put_back top some lp ex n (Distinct i options) = slice_set lp n.0 (Distinct i options)
 put_back top some lp ex n (MapFunction i function) = slice_set lp n.0 (MapFunction i function)
 put_back top some lp ex n (Sink i payload) = slice_set lp n.0 (Sink i payload)
 put_back top some lp ex n (Union inputs options) = slice_set lp n.0 (Union inputs options)
+put_back top some lp ex n (HConcat inputs schema options) = slice_set lp n.0 (HConcat inputs (beside_after some (map (columns_at lp ex) inputs) schema) options)
 put_back top some lp ex n (Cache i id cache_hits) = slice_set lp n.0 (Cache i id cache_hits)
 put_back top some lp ex n Invalid = slice_set lp n.0 Invalid

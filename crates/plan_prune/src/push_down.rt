@@ -22,6 +22,8 @@ mod exprs;
 mod filter;
 mod frame_scan;
 mod function;
+mod group_by;
+mod hconcat;
 mod hstack;
 mod projection;
 mod scan;
@@ -126,14 +128,13 @@ impl ProjectionPushDown {
                 covered,
                 entry,
             } => {
-                lp.put(node, entry);
                 for (input, asked) in inputs.as_slice().iter().zip(asked.as_slice()) {
                     self.push_down(alloc, *input, copied_names(alloc, asked)?, lp, ex)?;
                     if let Some(names) = &covered {
                         cover(alloc, *input, names, lp)?;
                     }
                 }
-                Ok(())
+                step::put(alloc, node, entry, is_asked, on_top, lp)
             }
         }
     }

@@ -7,6 +7,8 @@ mod asked;
 #[cfg(test)]
 mod counts;
 #[cfg(test)]
+mod grouped;
+#[cfg(test)]
 mod made;
 mod parts;
 #[cfg(test)]

@@ -4,10 +4,11 @@ use crate::written::written;
 use crate::{columns_named, scan_of};
 use plan_check::check_plan;
 use plan_core::{Arena, Items, Node, PlSmallStr, ProjectionOptions, Schema, TryClone};
-use plan_expr::{AExpr, ExprIR, LiteralValue, Operator, OutputName};
+use plan_expr::{AExpr, ExprIR, IRAggExpr, LiteralValue, Operator, OutputName};
 use plan_ir::IR;
 use plan_options::{
-    DistinctOptionsIR, SinkType, SortMultipleOptions, UnionOptions, UniqueKeepStrategy,
+    DistinctOptionsIR, GroupbyOptions, HConcatOptions, SinkType, SortMultipleOptions, UnionOptions,
+    UniqueKeepStrategy,
 };
 use plan_prune::ProjectionPushDown;
 use std::alloc::{AllocError, Global};
@@ -28,6 +29,22 @@ fn aliases(
             column => ex.add(AExpr::Column(PlSmallStr::new(alloc, column)?))?,
         };
         let root = ex.add(AExpr::Alias(input, PlSmallStr::new(alloc, *name)?))?;
+        exprs.push(ExprIR::new(root, OutputName::Alias(PlSmallStr::new(alloc, *name)?)))?;
+    }
+    Ok(exprs)
+}
+
+/// Expressions, each the greatest value of a column under another name.
+fn greatest(
+    alloc: Global,
+    made: &[(&str, &str)],
+    ex: &mut Arena<AExpr>,
+) -> Result<Items<ExprIR>, AllocError> {
+    let mut exprs = Items::new(alloc);
+    for (name, of) in made {
+        let column = ex.add(AExpr::Column(PlSmallStr::new(alloc, *of)?))?;
+        let most = ex.add(AExpr::Agg(IRAggExpr::Max(column)))?;
+        let root = ex.add(AExpr::Alias(most, PlSmallStr::new(alloc, *name)?))?;
         exprs.push(ExprIR::new(root, OutputName::Alias(PlSmallStr::new(alloc, *name)?)))?;
     }
     Ok(exprs)
@@ -75,6 +92,23 @@ impl Sample {
             maintain_order: true,
         };
         self.root = self.lp.add(IR::Union { inputs, options })?;
+        Ok(())
+    }
+
+    /// Puts the columns a and b of a path beside the plan, which is a scan, as x and y.
+    pub fn hconcat(&mut self, path: &str) -> Result<(), AllocError> {
+        let mut inputs = Items::new(self.alloc);
+        inputs.push(self.root)?;
+        self.root = self.lp.add(scan_of(self.alloc, path)?)?;
+        self.select(&[("x", "a"), ("y", "b")], &["x", "y"])?;
+        inputs.push(self.root)?;
+        let schema = columns_named(self.alloc, &["a", "b", "c", "x", "y"])?;
+        let options = HConcatOptions::default();
+        self.root = self.lp.add(IR::HConcat {
+            inputs,
+            schema,
+            options,
+        })?;
         Ok(())
     }
 
@@ -188,6 +222,29 @@ impl Sample {
             input,
             exprs,
             schema,
+            options,
+        })?;
+        Ok(())
+    }
+
+    /// Adds a grouping by columns, with the greatest values of columns.
+    pub fn group_by(
+        &mut self,
+        keys: &[(&str, &str)],
+        aggs: &[(&str, &str)],
+        names: &[&str],
+    ) -> Result<(), AllocError> {
+        let keys = aliases(self.alloc, keys, &mut self.ex)?;
+        let aggs = greatest(self.alloc, aggs, &mut self.ex)?;
+        let schema = columns_named(self.alloc, names)?;
+        let options = GroupbyOptions::default();
+        let input = self.root;
+        self.root = self.lp.add(IR::GroupBy {
+            input,
+            keys,
+            aggs,
+            schema,
+            maintain_order: true,
             options,
         })?;
         Ok(())

@@ -22,6 +22,14 @@ fn write_columns(alloc: Global, text: &mut String, columns: &Schema) -> Result<(
     Ok(())
 }
 
+/// Writes the names of expressions.
+fn write_outputs(alloc: Global, text: &mut String, exprs: &Items<ExprIR>) -> Result<(), Fail> {
+    for expr in exprs.as_slice() {
+        text.push_str(format!(in alloc; " {}", output_name(&expr.output_name))?.as_str())?;
+    }
+    Ok(())
+}
+
 /// Writes the names of expressions, and the columns.
 fn write_made(
     alloc: Global,
@@ -29,9 +37,7 @@ fn write_made(
     exprs: &Items<ExprIR>,
     columns: &Schema,
 ) -> Result<(), Fail> {
-    for expr in exprs.as_slice() {
-        text.push_str(format!(in alloc; " {}", output_name(&expr.output_name))?.as_str())?;
-    }
+    write_outputs(alloc, text, exprs)?;
     text.push_str(" of")?;
     write_columns(alloc, text, columns)
 }
@@ -77,6 +83,21 @@ fn write_node(alloc: Global, text: &mut String, node: &IR) -> Result<(), Fail> {
         IR::HStack { exprs, schema, .. } => {
             text.push_str("HStack")?;
             write_made(alloc, text, exprs, schema)?;
+        }
+        IR::GroupBy {
+            keys,
+            aggs,
+            schema,
+            ..
+        } => {
+            text.push_str("GroupBy")?;
+            write_outputs(alloc, text, keys)?;
+            text.push_str(" with")?;
+            write_made(alloc, text, aggs, schema)?;
+        }
+        IR::HConcat { schema, .. } => {
+            text.push_str("HConcat of")?;
+            write_columns(alloc, text, schema)?;
         }
         IR::Scan {
             sources,

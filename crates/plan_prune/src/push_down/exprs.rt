@@ -5,7 +5,7 @@ ghost use Rattle.plan_expr.specs.Operands.{IsExpr};
 ghost use Rattle.plan_expr.specs.Exprs.{all_named_at, expr_at};
 ghost use Rattle.plan_expr.specs.Leaves.{leaves};
 ghost use Rattle.plan_meaning.specs.Asked.{all_leaves};
-ghost use Rattle.plan_prune.specs.Kept.{asked_exprs as exprs_asked, names_at, with_typed as columns_with};
+ghost use Rattle.plan_prune.specs.Kept.{asked_exprs as exprs_asked, names_at, stacked_at, with_typed as columns_with};
 
 use plan_core::{Arena, Items, Names, Node, PlSmallStr, Schema, TryClone};
 use plan_expr::{AExpr, ExprIR, output_name};
@@ -59,6 +59,20 @@ pub fn asked_exprs(
         }
     }
     Ok(kept)
+}
+
+/// The expressions that are asked, in their order; asked nothing, all.
+pub fn kept_exprs(
+    alloc: Global,
+    exprs: Items<ExprIR>,
+    asked: &Names,
+) -> Result<Items<ExprIR>, AllocError>
+    ensures { IfOk result (λ kept. kept ≡ stacked_at asked.now exprs) }
+{
+    if asked.len() == 0 {
+        return Ok(exprs);
+    }
+    Ok(asked_exprs(alloc, exprs.as_slice(), asked)?)
 }
 
 /// The columns, and those that the expressions make beside them: each in the place of the one of its name, or last, with its

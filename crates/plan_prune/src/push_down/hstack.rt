@@ -12,11 +12,11 @@ ghost use Rattle.plan_expr.specs.Exprs.{all_named_at};
 ghost use Rattle.plan_ir.specs.Plans.{bare, plans_at};
 ghost use Rattle.plan_meaning.specs.Typing.{first_schema};
 ghost use Rattle.plan_schema.specs.Stored.{stored_all};
-ghost use Rattle.plan_prune.specs.Kept.{asks_after, stacked_at, with_stacked};
+ghost use Rattle.plan_prune.specs.Kept.{asks_after, with_stacked};
 ghost use Rattle.plan_prune.specs.Prunes.{StandExprs};
 ghost use Rattle.plan_prune.specs.Steps.{stacked_step};
 
-use crate::push_down::exprs::{add_all_names, asked_exprs, with_typed};
+use crate::push_down::exprs::{add_all_names, kept_exprs, with_typed};
 use crate::push_down::step::Step;
 use plan_core::{Arena, Items, Names, Node, ProjectionOptions, Schema};
 use plan_expr::{AExpr, ExprIR};
@@ -24,16 +24,6 @@ use plan_ir::IR;
 use plan_narrowing::known_names;
 use plan_schema::stored_schema;
 use std::alloc::{AllocError, Global};
-
-/// The expressions that an addition keeps.
-fn keep(alloc: Global, exprs: Items<ExprIR>, asked: &Names) -> Result<Items<ExprIR>, AllocError>
-    ensures { IfOk result (λ kept. kept ≡ stacked_at asked.now exprs) }
-{
-    if asked.len() == 0 {
-        return Ok(exprs);
-    }
-    Ok(asked_exprs(alloc, exprs.as_slice(), asked)?)
-}
 
 /// What an addition asks that keeps these expressions, over an input of these columns.
 fn asks(
@@ -72,7 +62,7 @@ pub fn prepare(
     requires input { (t : Trees IR) × StandsOnce plan_shape lp.now (input ∷ []) t }
     ensures { IfOk result (λ step. step ≡ stacked_step ex.now asked input exprs schema options (first_schema (stored_all (bare (plans_at lp.now ex.now (input ∷ [])))))) }
 {
-    let exprs = keep(alloc, exprs, &asked)?;
+    let exprs = kept_exprs(alloc, exprs, &asked)?;
     let stored = stored_schema(alloc, input, lp)?;
     let asked = asks(alloc, asked, exprs.as_slice(), stored.columns(), ex)?;
     Ok(Step::Over {

@@ -9,8 +9,8 @@ ghost use Rattle.plan_prune.specs.Prunes.{StandExprs};
 ghost use Rattle.plan_prune.specs.Steps.{put_back, step_of};
 
 use crate::push_down::{
-    cache, distinct, filter, frame_scan, function, hstack, projection, scan, select, sink, slice,
-    sort, union,
+    cache, distinct, filter, frame_scan, function, group_by, hconcat, hstack, projection, scan,
+    select, sink, slice, sort, union,
 };
 use plan_core::{Arena, Items, Names, Node, Schema};
 use plan_expr::AExpr;
@@ -41,7 +41,7 @@ pub enum Step {
         /// The node that goes back.
         entry: IR,
     },
-    /// The node goes back, and then each input is pruned.
+    /// Each input is pruned before the node goes back.
     Each {
         /// The numbers of the inputs, in order.
         inputs: Items<Node>,
@@ -97,10 +97,34 @@ pub fn prepare(
             slice,
             sort_options,
         } => sort::prepare(input, by_column, slice, sort_options, asked, ex),
+        IR::GroupBy {
+            input,
+            keys,
+            aggs,
+            schema,
+            maintain_order,
+            options,
+        } => group_by::prepare(
+            alloc,
+            input,
+            keys,
+            aggs,
+            schema,
+            maintain_order,
+            options,
+            &asked,
+            lp,
+            ex,
+        ),
         IR::Distinct { input, options } => distinct::prepare(alloc, input, options, asked, lp),
         IR::MapFunction { input, function } => function::prepare(alloc, input, function, asked, lp),
         IR::Sink { input, payload } => Ok(sink::prepare(input, payload, asked)),
         IR::Union { inputs, options } => union::prepare(alloc, inputs, options, asked),
+        IR::HConcat {
+            inputs,
+            schema,
+            options,
+        } => hconcat::prepare(alloc, inputs, schema, options, &asked, lp),
         IR::Cache {
             input,
             id,
@@ -110,7 +134,7 @@ pub fn prepare(
     }
 }
 
-/// Puts a node back at its number, once its input is pruned. It is told whether names are asked of it, and whether a
+/// Puts a node back at its number, once its inputs are pruned. It is told whether names are asked of it, and whether a
 /// projection goes on top of a narrowed scan. Refuses for want of memory alone, and then nothing is known of what stands at
 /// the number.
 pub fn put(
@@ -133,6 +157,11 @@ pub fn put(
             schema,
             options,
         } => hstack::put(alloc, node, input, is_asked, exprs, schema, options, lp),
+        IR::HConcat {
+            inputs,
+            schema,
+            options,
+        } => hconcat::put(alloc, node, inputs, is_asked, schema, options, lp),
         scan @ IR::Scan { .. } => scan::put(alloc, node, scan, is_asked && on_top, lp),
         other => {
             lp.put(node, other);

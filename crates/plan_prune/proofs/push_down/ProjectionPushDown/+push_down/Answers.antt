@@ -8,12 +8,16 @@ use Rattle.std.specs.List.{slice_get}
 use Rattle.plan_core.specs.declared.arena.Node.{Node}
 use Rattle.std.proofs.lemmas.Result.{on_ok_weaker}
 use Rattle.plan_ir.proofs.PlanLemmas.{plan_exprs}
+use Rattle.plan_tree.specs.Stands.{Trees, StandsOnce}
+use Rattle.plan_ir.specs.declared.ir.IR.{IR}
+use Rattle.plan_ir.specs.Parts.{plan_shape, inputs_of}
+use Rattle.std.proofs.Math.Dec.{ltb}
 use Rattle.plan_prune.specs.Steps.{put_back}
 use Rattle.plan_prune.proofs.PruneLemmas.{input_asks, entry_stays, inputs_taken}
 use Rattle.plan_expr.specs.Leaves.{Name}
 use Rattle.plan_prune.specs.Prunes.{PrunesAt}
 use Rattle.plan_prune.proofs.EachLemmas.{SoFar, each_marks, places, so_far_none}
-use Rattle.plan_prune.proofs.StepLemmas.{closed_step, closed_mark, each_call, each_stands, each_more, none_some, some_same, each_step, each_mark, is_over, leaf_stands, over_stands, leaf_pruned, over_pruned, mark_set, mark_kept, top_marked}
+use Rattle.plan_prune.proofs.StepLemmas.{closed_step, closed_mark, each_call, each_left, each_stands, each_more, none_some, some_same, each_step, each_mark, is_over, leaf_stands, over_stands, leaf_pruned, over_pruned, mark_set, mark_kept, top_marked}
 use Rattle.plan_prune.proofs.HStackPruned.{some_len}
 use Rattle.plan_ir.specs.Plans.{op_at}
 use Rattle.plan_meaning.specs.Counting.{is_count}
@@ -109,13 +113,10 @@ returns-in-Closed-clause-marks t c = on_ok_weaker c.put-in-Closed.result (λ bac
 
 -- Each
 
-pub put-requires-in-Each : goal.put-requires-in-Each
-put-requires-in-Each t c = entry_stays c.args.lp.now c.take-entry.new.self c.take-entry.new.self c.args.node c.take-entry.result c.take-entry.ensures.after.0 c.take-entry.ensures.given c.take-entry.ensures.after.2 (omega arith)
-
 pub loop-input-init : goal.loop-input-init
 loop-input-init t c =
     let s = c.into_iter-input-iterator.result in
-    (so_far_none c.if-is_count.self.is_count_star c.in-Each.covered s.b.rest.now c.put-in-Each.new.self c.args.ex.now s.a.rest.now, refl)
+    (so_far_none c.if-is_count.self.is_count_star c.in-Each.covered s.b.rest.now c.take-entry.new.self c.args.ex.now s.a.rest.now, refl, refl)
 
 pub push_down-requires-in-loop-input : goal.push_down-requires-in-loop-input
 push_down-requires-in-loop-input t c =
@@ -126,10 +127,10 @@ push_down-requires-in-loop-input t c =
     let turn = zip_turn s.a.rest.now s.b.rest.now c.loop-input.yielded s c.loop-input.input-iterator c.next.new.self c.next.result refl refl c.loop-input.yielded_by (c.in-Some.input, c.in-Some.asked) c.in-Some.is c.next.ensures.steps in
     let here = places s.a.rest.now s.b.rest.now j c.in-Some.input.now c.in-Some.asked.now turn in
     let there : slice_get c.in-Each.inputs j ≡ Some c.in-Some.input.now = ap (λ (l : List Node). slice_get l j) (sym own) ∙ here.0 in
-    let so = subst (λ (l : List Node). SoFar c.if-is_count.self.is_count_star c.loop-input.self.is_count_star c.in-Each.covered c.in-Each.asked c.put-in-Each.new.self c.loop-input.lp c.args.ex.now l j) own
-    (subst (λ (l : List (List Name)). SoFar c.if-is_count.self.is_count_star c.loop-input.self.is_count_star c.in-Each.covered l c.put-in-Each.new.self c.loop-input.lp c.args.ex.now s.a.rest.now j) listed c.loop-input.invariant.0) in
-    let k = each_call c.args.asked c.args.lp.now c.take-entry.new.self c.put-in-Each.new.self c.args.ex.now c.args.node c.in-Each.inputs c.in-Each.asked c.in-Each.covered c.take-entry.result c.in-Each.entry c.take-entry.ensures.after.0
-    c.take-entry.ensures.given c.take-entry.ensures.after.2 c.put-in-Each.ensures (sym c.in-Each.is ∙ c.in_ok-entry.ensures)
+    let so = subst (λ (l : List Node). SoFar c.if-is_count.self.is_count_star c.loop-input.self.is_count_star c.in-Each.covered c.in-Each.asked c.take-entry.new.self c.loop-input.lp c.args.ex.now l j) own
+    (subst (λ (l : List (List Name)). SoFar c.if-is_count.self.is_count_star c.loop-input.self.is_count_star c.in-Each.covered l c.take-entry.new.self c.loop-input.lp c.args.ex.now s.a.rest.now j) listed c.loop-input.invariant.0) in
+    let k = each_call c.args.asked c.args.lp.now c.take-entry.new.self c.args.ex.now c.args.node c.in-Each.inputs c.in-Each.asked c.in-Each.covered c.take-entry.result c.in-Each.entry c.take-entry.ensures.after.0
+    c.take-entry.ensures.given c.take-entry.ensures.after.2 (sym c.in-Each.is ∙ c.in_ok-entry.ensures)
     c.if-is_count.self.is_count_star c.loop-input.self.is_count_star c.loop-input.lp c.in-Some.input.now j c.requires there so in
     (omega (arith, k.falls, c.decreases), k.plan)
 
@@ -142,10 +143,10 @@ cover-requires t c =
     let turn = zip_turn s.a.rest.now s.b.rest.now c.loop-input.yielded s c.loop-input.input-iterator c.next.new.self c.next.result refl refl c.loop-input.yielded_by (c.in-Some.input, c.in-Some.asked) c.in-Some.is c.next.ensures.steps in
     let here = places s.a.rest.now s.b.rest.now j c.in-Some.input.now c.in-Some.asked.now turn in
     let there : slice_get c.in-Each.inputs j ≡ Some c.in-Some.input.now = ap (λ (l : List Node). slice_get l j) (sym own) ∙ here.0 in
-    let so = subst (λ (l : List Node). SoFar c.if-is_count.self.is_count_star c.loop-input.self.is_count_star c.in-Each.covered c.in-Each.asked c.put-in-Each.new.self c.loop-input.lp c.args.ex.now l j) own
-    (subst (λ (l : List (List Name)). SoFar c.if-is_count.self.is_count_star c.loop-input.self.is_count_star c.in-Each.covered l c.put-in-Each.new.self c.loop-input.lp c.args.ex.now s.a.rest.now j) listed c.loop-input.invariant.0) in
-    each_stands c.args.asked c.args.lp.now c.take-entry.new.self c.put-in-Each.new.self c.args.ex.now c.args.node c.in-Each.inputs c.in-Each.asked c.in-Each.covered c.take-entry.result c.in-Each.entry c.take-entry.ensures.after.0
-    c.take-entry.ensures.given c.take-entry.ensures.after.2 c.put-in-Each.ensures (sym c.in-Each.is ∙ c.in_ok-entry.ensures)
+    let so = subst (λ (l : List Node). SoFar c.if-is_count.self.is_count_star c.loop-input.self.is_count_star c.in-Each.covered c.in-Each.asked c.take-entry.new.self c.loop-input.lp c.args.ex.now l j) own
+    (subst (λ (l : List (List Name)). SoFar c.if-is_count.self.is_count_star c.loop-input.self.is_count_star c.in-Each.covered l c.take-entry.new.self c.loop-input.lp c.args.ex.now s.a.rest.now j) listed c.loop-input.invariant.0) in
+    each_stands c.args.asked c.args.lp.now c.take-entry.new.self c.args.ex.now c.args.node c.in-Each.inputs c.in-Each.asked c.in-Each.covered c.take-entry.result c.in-Each.entry c.take-entry.ensures.after.0
+    c.take-entry.ensures.given c.take-entry.ensures.after.2 (sym c.in-Each.is ∙ c.in_ok-entry.ensures)
     c.if-is_count.self.is_count_star c.loop-input.self.is_count_star c.push_down-in-loop-input.new.self.is_count_star c.loop-input.lp c.push_down-in-loop-input.new.lp c.in-Some.input.now c.in_ok-copied_names-in-Each.field-0 j c.requires there so
     c.in_ok-push_down-in-Each.ensures.prunes
 
@@ -158,8 +159,8 @@ loop-input-preserved t c =
     let turn = zip_turn s.a.rest.now s.b.rest.now c.loop-input.yielded s c.loop-input.input-iterator c.next.new.self c.next.result refl refl c.loop-input.yielded_by (c.in-Some.input, c.in-Some.asked) c.in-Some.is c.next.ensures.steps in
     let here = places s.a.rest.now s.b.rest.now j c.in-Some.input.now c.in-Some.asked.now turn in
     let there : slice_get c.in-Each.inputs j ≡ Some c.in-Some.input.now = ap (λ (l : List Node). slice_get l j) (sym own) ∙ here.0 in
-    let so = subst (λ (l : List Node). SoFar c.if-is_count.self.is_count_star c.loop-input.self.is_count_star c.in-Each.covered c.in-Each.asked c.put-in-Each.new.self c.loop-input.lp c.args.ex.now l j) own
-    (subst (λ (l : List (List Name)). SoFar c.if-is_count.self.is_count_star c.loop-input.self.is_count_star c.in-Each.covered l c.put-in-Each.new.self c.loop-input.lp c.args.ex.now s.a.rest.now j) listed c.loop-input.invariant.0) in
+    let so = subst (λ (l : List Node). SoFar c.if-is_count.self.is_count_star c.loop-input.self.is_count_star c.in-Each.covered c.in-Each.asked c.take-entry.new.self c.loop-input.lp c.args.ex.now l j) own
+    (subst (λ (l : List (List Name)). SoFar c.if-is_count.self.is_count_star c.loop-input.self.is_count_star c.in-Each.covered l c.take-entry.new.self c.loop-input.lp c.args.ex.now s.a.rest.now j) listed c.loop-input.invariant.0) in
     let names = c.in-Some.asked.now in
     let i = c.in-Some.input.now in
     let u = c.push_down-in-loop-input.new.lp in
@@ -168,15 +169,16 @@ loop-input-preserved t c =
     let on : (l : List Name) → c.in-Each.covered ≡ Some l → z ≡ covered_at (asked_columns l (columns_at u c.args.ex.now i)) u i = λ l e. absurd (none_some c.in-Each.covered l none e) in
     let off : c.in-Each.covered ≡ None → z ≡ u = λ e. refl in
     let grows : length c.loop-input.lp ≤ length z = c.in_ok-push_down-in-Each.ensures.grows in
-    let next = each_more c.args.asked c.args.lp.now c.take-entry.new.self c.put-in-Each.new.self c.args.ex.now c.args.node c.in-Each.inputs c.in-Each.asked c.in-Each.covered c.take-entry.result c.in-Each.entry c.take-entry.ensures.after.0
-    c.take-entry.ensures.given c.take-entry.ensures.after.2 c.put-in-Each.ensures (sym c.in-Each.is ∙ c.in_ok-entry.ensures)
+    let next = each_more c.args.asked c.args.lp.now c.take-entry.new.self c.args.ex.now c.args.node c.in-Each.inputs c.in-Each.asked c.in-Each.covered c.take-entry.result c.in-Each.entry c.take-entry.ensures.after.0
+    c.take-entry.ensures.given c.take-entry.ensures.after.2 (sym c.in-Each.is ∙ c.in_ok-entry.ensures)
     c.if-is_count.self.is_count_star c.loop-input.self.is_count_star c.push_down-in-loop-input.new.self.is_count_star c.loop-input.lp u i names j c.requires there so
     (subst (λ (l : List Name). PrunesAt (not c.loop-input.self.is_count_star) l c.loop-input.lp c.push_down-in-loop-input.new.lp c.args.ex.now c.in-Some.input.now) c.in_ok-copied_names-in-Each.ensures c.in_ok-push_down-in-Each.ensures.prunes)
     z (ap (λ (l : List (List Name)). slice_get l j) (sym listed) ∙ here.1) on off c.in_ok-push_down-in-Each.ensures.marks c.in_ok-push_down-in-Each.ensures.stays grows in (
-      subst (λ (k : ℕ). SoFar c.if-is_count.self.is_count_star c.push_down-in-loop-input.new.self.is_count_star c.in-Each.covered s.b.rest.now c.put-in-Each.new.self z c.args.ex.now s.a.rest.now k) (sym (length_push c.loop-input.yielded (c.in-Some.input, c.in-Some.asked)))
-          (subst (λ (l : List Node). SoFar c.if-is_count.self.is_count_star c.push_down-in-loop-input.new.self.is_count_star c.in-Each.covered s.b.rest.now c.put-in-Each.new.self z c.args.ex.now l (j + 1)) (sym own)
-          (subst (λ (l : List (List Name)). SoFar c.if-is_count.self.is_count_star c.push_down-in-loop-input.new.self.is_count_star c.in-Each.covered l c.put-in-Each.new.self z c.args.ex.now c.in-Each.inputs (j + 1)) (sym listed) next)),
+      subst (λ (k : ℕ). SoFar c.if-is_count.self.is_count_star c.push_down-in-loop-input.new.self.is_count_star c.in-Each.covered s.b.rest.now c.take-entry.new.self z c.args.ex.now s.a.rest.now k) (sym (length_push c.loop-input.yielded (c.in-Some.input, c.in-Some.asked)))
+          (subst (λ (l : List Node). SoFar c.if-is_count.self.is_count_star c.push_down-in-loop-input.new.self.is_count_star c.in-Each.covered s.b.rest.now c.take-entry.new.self z c.args.ex.now l (j + 1)) (sym own)
+          (subst (λ (l : List (List Name)). SoFar c.if-is_count.self.is_count_star c.push_down-in-loop-input.new.self.is_count_star c.in-Each.covered l c.take-entry.new.self z c.args.ex.now c.in-Each.inputs (j + 1)) (sym listed) next)),
       c.loop-input.invariant.1,
+      c.loop-input.invariant.2,
     )
 
 pub loop-input-preserved-in_ok-cover-in-Each : goal.loop-input-preserved-in_ok-cover-in-Each
@@ -188,8 +190,8 @@ loop-input-preserved-in_ok-cover-in-Each t c =
     let turn = zip_turn s.a.rest.now s.b.rest.now c.loop-input.yielded s c.loop-input.input-iterator c.next.new.self c.next.result refl refl c.loop-input.yielded_by (c.in-Some.input, c.in-Some.asked) c.in-Some.is c.next.ensures.steps in
     let here = places s.a.rest.now s.b.rest.now j c.in-Some.input.now c.in-Some.asked.now turn in
     let there : slice_get c.in-Each.inputs j ≡ Some c.in-Some.input.now = ap (λ (l : List Node). slice_get l j) (sym own) ∙ here.0 in
-    let so = subst (λ (l : List Node). SoFar c.if-is_count.self.is_count_star c.loop-input.self.is_count_star c.in-Each.covered c.in-Each.asked c.put-in-Each.new.self c.loop-input.lp c.args.ex.now l j) own
-    (subst (λ (l : List (List Name)). SoFar c.if-is_count.self.is_count_star c.loop-input.self.is_count_star c.in-Each.covered l c.put-in-Each.new.self c.loop-input.lp c.args.ex.now s.a.rest.now j) listed c.loop-input.invariant.0) in
+    let so = subst (λ (l : List Node). SoFar c.if-is_count.self.is_count_star c.loop-input.self.is_count_star c.in-Each.covered c.in-Each.asked c.take-entry.new.self c.loop-input.lp c.args.ex.now l j) own
+    (subst (λ (l : List (List Name)). SoFar c.if-is_count.self.is_count_star c.loop-input.self.is_count_star c.in-Each.covered l c.take-entry.new.self c.loop-input.lp c.args.ex.now s.a.rest.now j) listed c.loop-input.invariant.0) in
     let names = c.in-Some.asked.now in
     let i = c.in-Some.input.now in
     let u = c.push_down-in-loop-input.new.lp in
@@ -199,25 +201,45 @@ loop-input-preserved-in_ok-cover-in-Each t c =
     c.in_ok-cover-in-Each.ensures.placed c.args.ex.now ∙ ap (λ (m : List Name). covered_at (asked_columns m (columns_at u c.args.ex.now i)) u i) (some_same c.in-Each.covered c.in-Some-covered.names l some e) in
     let off : c.in-Each.covered ≡ None → z ≡ u = λ e. absurd (none_some c.in-Each.covered c.in-Some-covered.names e some) in
     let grows : length c.loop-input.lp ≤ length z = omega (arith, c.in_ok-cover-in-Each.ensures.grows, c.in_ok-push_down-in-Each.ensures.grows) in
-    let next = each_more c.args.asked c.args.lp.now c.take-entry.new.self c.put-in-Each.new.self c.args.ex.now c.args.node c.in-Each.inputs c.in-Each.asked c.in-Each.covered c.take-entry.result c.in-Each.entry c.take-entry.ensures.after.0
-    c.take-entry.ensures.given c.take-entry.ensures.after.2 c.put-in-Each.ensures (sym c.in-Each.is ∙ c.in_ok-entry.ensures)
+    let next = each_more c.args.asked c.args.lp.now c.take-entry.new.self c.args.ex.now c.args.node c.in-Each.inputs c.in-Each.asked c.in-Each.covered c.take-entry.result c.in-Each.entry c.take-entry.ensures.after.0
+    c.take-entry.ensures.given c.take-entry.ensures.after.2 (sym c.in-Each.is ∙ c.in_ok-entry.ensures)
     c.if-is_count.self.is_count_star c.loop-input.self.is_count_star c.push_down-in-loop-input.new.self.is_count_star c.loop-input.lp u i names j c.requires there so
     (subst (λ (l : List Name). PrunesAt (not c.loop-input.self.is_count_star) l c.loop-input.lp c.push_down-in-loop-input.new.lp c.args.ex.now c.in-Some.input.now) c.in_ok-copied_names-in-Each.ensures c.in_ok-push_down-in-Each.ensures.prunes)
     z (ap (λ (l : List (List Name)). slice_get l j) (sym listed) ∙ here.1) on off c.in_ok-push_down-in-Each.ensures.marks c.in_ok-push_down-in-Each.ensures.stays grows in (
-      subst (λ (k : ℕ). SoFar c.if-is_count.self.is_count_star c.push_down-in-loop-input.new.self.is_count_star c.in-Each.covered s.b.rest.now c.put-in-Each.new.self z c.args.ex.now s.a.rest.now k) (sym (length_push c.loop-input.yielded (c.in-Some.input, c.in-Some.asked)))
-          (subst (λ (l : List Node). SoFar c.if-is_count.self.is_count_star c.push_down-in-loop-input.new.self.is_count_star c.in-Each.covered s.b.rest.now c.put-in-Each.new.self z c.args.ex.now l (j + 1)) (sym own)
-          (subst (λ (l : List (List Name)). SoFar c.if-is_count.self.is_count_star c.push_down-in-loop-input.new.self.is_count_star c.in-Each.covered l c.put-in-Each.new.self z c.args.ex.now c.in-Each.inputs (j + 1)) (sym listed) next)),
+      subst (λ (k : ℕ). SoFar c.if-is_count.self.is_count_star c.push_down-in-loop-input.new.self.is_count_star c.in-Each.covered s.b.rest.now c.take-entry.new.self z c.args.ex.now s.a.rest.now k) (sym (length_push c.loop-input.yielded (c.in-Some.input, c.in-Some.asked)))
+          (subst (λ (l : List Node). SoFar c.if-is_count.self.is_count_star c.push_down-in-loop-input.new.self.is_count_star c.in-Each.covered s.b.rest.now c.take-entry.new.self z c.args.ex.now l (j + 1)) (sym own)
+          (subst (λ (l : List (List Name)). SoFar c.if-is_count.self.is_count_star c.push_down-in-loop-input.new.self.is_count_star c.in-Each.covered l c.take-entry.new.self z c.args.ex.now c.in-Each.inputs (j + 1)) (sym listed) next)),
       c.loop-input.invariant.1,
+      c.loop-input.invariant.2,
     )
 
-pub returns-in-None-clause-prunes : goal.returns-in-None-clause-prunes
-returns-in-None-clause-prunes t c =
+pub put-requires-in-Each-clause-node : goal.put-requires-in-Each-clause-node
+put-requires-in-Each-clause-node t c = entry_stays c.args.lp.now c.take-entry.new.self c.loop-input.lp c.args.node c.take-entry.result c.take-entry.ensures.after.0 c.take-entry.ensures.given c.take-entry.ensures.after.2 c.loop-input.invariant.0.grows
+
+pub put-requires-in-Each-clause-inputs : goal.put-requires-in-Each-clause-inputs
+put-requires-in-Each-clause-inputs t c =
     let s = c.into_iter-input-iterator.result in
     let own : s.a.rest.now ≡ c.in-Each.inputs = search rules in
     let listed : s.b.rest.now ≡ c.in-Each.asked = search rules in
     let j = length c.loop-input.yielded in
-    let so = subst (λ (l : List Node). SoFar c.if-is_count.self.is_count_star c.loop-input.self.is_count_star c.in-Each.covered c.in-Each.asked c.put-in-Each.new.self c.loop-input.lp c.args.ex.now l j) own
-    (subst (λ (l : List (List Name)). SoFar c.if-is_count.self.is_count_star c.loop-input.self.is_count_star c.in-Each.covered l c.put-in-Each.new.self c.loop-input.lp c.args.ex.now s.a.rest.now j) listed c.loop-input.invariant.0) in
+    let so = subst (λ (l : List Node). SoFar c.if-is_count.self.is_count_star c.loop-input.self.is_count_star c.in-Each.covered c.in-Each.asked c.take-entry.new.self c.loop-input.lp c.args.ex.now l j) own
+    (subst (λ (l : List (List Name)). SoFar c.if-is_count.self.is_count_star c.loop-input.self.is_count_star c.in-Each.covered l c.take-entry.new.self c.loop-input.lp c.args.ex.now s.a.rest.now j) listed c.loop-input.invariant.0) in
+    let ended : j ≡ min (length c.in-Each.inputs) (length c.in-Each.asked) =
+    zip_end s.a.rest.now s.b.rest.now c.loop-input.yielded s c.loop-input.input-iterator c.next.new.self c.next.result refl refl c.loop-input.yielded_by c.in-None.is c.next.ensures.steps
+    ∙ ap₂ (λ (l : List Node) (m : List (List Name)). min (length l) (length m)) own listed in
+    let left = each_left c.args.asked c.args.lp.now c.take-entry.new.self c.args.ex.now c.args.node c.in-Each.inputs c.in-Each.asked c.in-Each.covered c.take-entry.result c.in-Each.entry c.take-entry.ensures.after.0
+    c.take-entry.ensures.given c.take-entry.ensures.after.2 (sym c.in-Each.is ∙ c.in_ok-entry.ensures)
+    c.if-is_count.self.is_count_star c.loop-input.self.is_count_star c.loop-input.lp j c.requires ended so in
+    subst (λ (q : IR). (u : Trees IR) × StandsOnce plan_shape c.loop-input.lp (inputs_of q) u) (sym c.loop-input.invariant.2) left
+
+pub returns-in-None-clause-prunes : goal.returns-in-None-clause-prunes
+returns-in-None-clause-prunes t c = on_ok_weaker c.put-in-Each.result (λ back.
+    let s = c.into_iter-input-iterator.result in
+    let own : s.a.rest.now ≡ c.in-Each.inputs = search rules in
+    let listed : s.b.rest.now ≡ c.in-Each.asked = search rules in
+    let j = length c.loop-input.yielded in
+    let so = subst (λ (l : List Node). SoFar c.if-is_count.self.is_count_star c.loop-input.self.is_count_star c.in-Each.covered c.in-Each.asked c.take-entry.new.self c.loop-input.lp c.args.ex.now l j) own
+    (subst (λ (l : List (List Name)). SoFar c.if-is_count.self.is_count_star c.loop-input.self.is_count_star c.in-Each.covered l c.take-entry.new.self c.loop-input.lp c.args.ex.now s.a.rest.now j) listed c.loop-input.invariant.0) in
     let ended : j ≡ min (length c.in-Each.inputs) (length c.in-Each.asked) =
     zip_end s.a.rest.now s.b.rest.now c.loop-input.yielded s c.loop-input.input-iterator c.next.new.self c.next.result refl refl c.loop-input.yielded_by c.in-None.is c.next.ensures.steps
     ∙ ap₂ (λ (l : List Node) (m : List (List Name)). min (length l) (length m)) own listed in
@@ -225,19 +247,23 @@ returns-in-None-clause-prunes t c =
       | then-is_count w ↦ mark_set c.args.self.now.is_count_star (sym c.is_count.ensures ∙ w.if-is_count.true) (ap (λ (p : ProjectionPushDown). p.is_count_star) w.self-is)
       | else-is_count w ↦ mark_kept c.args.self.now.is_count_star (sym c.is_count.ensures ∙ w.if-is_count.false) (ap (λ (p : ProjectionPushDown). p.is_count_star) w.self-is)
     ] in
-    each_step c.args.asked c.args.lp.now c.take-entry.new.self c.put-in-Each.new.self c.args.ex.now c.args.node c.in-Each.inputs c.in-Each.asked c.in-Each.covered c.take-entry.result c.in-Each.entry c.take-entry.ensures.after.0
-    c.take-entry.ensures.given c.take-entry.ensures.after.2 c.put-in-Each.ensures (sym c.in-Each.is ∙ c.in_ok-entry.ensures)
-    (not c.args.self.now.is_count_star) c.if-is_count.self.is_count_star c.loop-input.self.is_count_star c.loop-input.lp j
+    let top = not c.args.self.now.is_count_star in
+    each_step c.args.asked c.args.lp.now c.take-entry.new.self c.args.ex.now c.args.node c.in-Each.inputs c.in-Each.asked c.in-Each.covered c.take-entry.result c.in-Each.entry c.take-entry.ensures.after.0
+    c.take-entry.ensures.given c.take-entry.ensures.after.2 (sym c.in-Each.is ∙ c.in_ok-entry.ensures)
+    top c.if-is_count.self.is_count_star c.loop-input.self.is_count_star c.loop-input.lp c.put-in-Each.new.lp j
     (top_marked c.args.self.now.is_count_star (is_count (op_at c.args.ex.now c.take-entry.result)) c.if-is_count.self.is_count_star is) ended so
+    (back c.args.ex.now
+    ∙ ap (put_back top (ltb 0 c.len-is_asked.result) c.loop-input.lp c.args.ex.now c.args.node) c.loop-input.invariant.2
+    ∙ ap (λ (some : Bool). put_back top some c.loop-input.lp c.args.ex.now c.args.node c.in-Each.entry) (some_len c.args.asked c.len-is_asked.result c.len-is_asked.ensures.value))) c.put-in-Each.ensures.placed
 
 pub returns-in-None-clause-marks : goal.returns-in-None-clause-marks
-returns-in-None-clause-marks t c =
+returns-in-None-clause-marks t c = on_ok_weaker c.put-in-Each.result (λ back.
     let s = c.into_iter-input-iterator.result in
     let own : s.a.rest.now ≡ c.in-Each.inputs = search rules in
     let listed : s.b.rest.now ≡ c.in-Each.asked = search rules in
     let j = length c.loop-input.yielded in
-    let so = subst (λ (l : List Node). SoFar c.if-is_count.self.is_count_star c.loop-input.self.is_count_star c.in-Each.covered c.in-Each.asked c.put-in-Each.new.self c.loop-input.lp c.args.ex.now l j) own
-    (subst (λ (l : List (List Name)). SoFar c.if-is_count.self.is_count_star c.loop-input.self.is_count_star c.in-Each.covered l c.put-in-Each.new.self c.loop-input.lp c.args.ex.now s.a.rest.now j) listed c.loop-input.invariant.0) in
+    let so = subst (λ (l : List Node). SoFar c.if-is_count.self.is_count_star c.loop-input.self.is_count_star c.in-Each.covered c.in-Each.asked c.take-entry.new.self c.loop-input.lp c.args.ex.now l j) own
+    (subst (λ (l : List (List Name)). SoFar c.if-is_count.self.is_count_star c.loop-input.self.is_count_star c.in-Each.covered l c.take-entry.new.self c.loop-input.lp c.args.ex.now s.a.rest.now j) listed c.loop-input.invariant.0) in
     let ended : j ≡ min (length c.in-Each.inputs) (length c.in-Each.asked) =
     zip_end s.a.rest.now s.b.rest.now c.loop-input.yielded s c.loop-input.input-iterator c.next.new.self c.next.result refl refl c.loop-input.yielded_by c.in-None.is c.next.ensures.steps
     ∙ ap₂ (λ (l : List Node) (m : List (List Name)). min (length l) (length m)) own listed in
@@ -245,9 +271,9 @@ returns-in-None-clause-marks t c =
       | then-is_count w ↦ mark_set c.args.self.now.is_count_star (sym c.is_count.ensures ∙ w.if-is_count.true) (ap (λ (p : ProjectionPushDown). p.is_count_star) w.self-is)
       | else-is_count w ↦ mark_kept c.args.self.now.is_count_star (sym c.is_count.ensures ∙ w.if-is_count.false) (ap (λ (p : ProjectionPushDown). p.is_count_star) w.self-is)
     ] in
-    each_mark c.args.asked c.args.lp.now c.take-entry.new.self c.put-in-Each.new.self c.args.ex.now c.args.node c.in-Each.inputs c.in-Each.asked c.in-Each.covered c.take-entry.result c.in-Each.entry c.take-entry.ensures.after.0
-    c.take-entry.ensures.given c.take-entry.ensures.after.2 c.put-in-Each.ensures (sym c.in-Each.is ∙ c.in_ok-entry.ensures)
-    c.args.self.now.is_count_star c.if-is_count.self.is_count_star c.loop-input.self.is_count_star c.loop-input.lp j is ended so
+    each_mark c.args.asked c.args.lp.now c.take-entry.new.self c.args.ex.now c.args.node c.in-Each.inputs c.in-Each.asked c.in-Each.covered c.take-entry.result c.in-Each.entry c.take-entry.ensures.after.0
+    c.take-entry.ensures.given c.take-entry.ensures.after.2 (sym c.in-Each.is ∙ c.in_ok-entry.ensures)
+    c.args.self.now.is_count_star c.if-is_count.self.is_count_star c.loop-input.self.is_count_star c.loop-input.lp j is ended so) c.put-in-Each.ensures.placed
 
 pub returns-in-None-clause-stays : goal.returns-in-None-clause-stays
 returns-in-None-clause-stays t c =
@@ -272,3 +298,19 @@ returns-in_err-cover-in-Each-clause-stays t c =
       | else-is_count w ↦ ap (λ (p : ProjectionPushDown). p.is_count_star) w.self-is ∙ e
     ] in
     λ e. c.in_ok-push_down-in-Each.ensures.stays (c.loop-input.invariant.0.stays (set e))
+
+pub returns-in_err-copied_names-in-Each-clause-stays : goal.returns-in_err-copied_names-in-Each-clause-stays
+returns-in_err-copied_names-in-Each-clause-stays t c =
+    let set : c.args.self.now.is_count_star ≡ true → c.if-is_count.self.is_count_star ≡ true = λ e. elim c.if-is_count.branch [
+      | then-is_count w ↦ ap (λ (p : ProjectionPushDown). p.is_count_star) w.self-is
+      | else-is_count w ↦ ap (λ (p : ProjectionPushDown). p.is_count_star) w.self-is ∙ e
+    ] in
+    λ e. c.loop-input.invariant.0.stays (set e)
+
+pub returns-in_err-push_down-in-Each-clause-stays : goal.returns-in_err-push_down-in-Each-clause-stays
+returns-in_err-push_down-in-Each-clause-stays t c =
+    let set : c.args.self.now.is_count_star ≡ true → c.if-is_count.self.is_count_star ≡ true = λ e. elim c.if-is_count.branch [
+      | then-is_count w ↦ ap (λ (p : ProjectionPushDown). p.is_count_star) w.self-is
+      | else-is_count w ↦ ap (λ (p : ProjectionPushDown). p.is_count_star) w.self-is ∙ e
+    ] in
+    λ e. c.in_err-push_down-in-Each.ensures.stays (c.loop-input.invariant.0.stays (set e))

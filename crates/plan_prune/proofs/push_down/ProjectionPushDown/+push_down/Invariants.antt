@@ -7,6 +7,6 @@ use Rattle.plan_prune.proofs.push_down.ProjectionPushDown.+push_down.Given as go
 abbrev pub decreases-push_down : goal.decreases-push_down
 decreases-push_down l = height_at plan_shape l.lp.now l.node
 
--- the inputs up to here are pruned, the mark is set where they count rows, and the names that go on top stay
+-- the inputs up to here are pruned, the mark is set where they count rows, and the names that go on top and the node that goes back stay
 abbrev pub invariant-loop-input : goal.invariant-loop-input
-invariant-loop-input l = SoFar l.initial.self.is_count_star l.self.is_count_star l.initial.covered l.initial.input-iterator.b.rest.now l.initial.lp l.lp l.ex l.initial.input-iterator.a.rest.now (length l.yielded) × (l.covered ≡ l.initial.covered)
+invariant-loop-input l = SoFar l.initial.self.is_count_star l.self.is_count_star l.initial.covered l.initial.input-iterator.b.rest.now l.initial.lp l.lp l.ex l.initial.input-iterator.a.rest.now (length l.yielded) × (l.covered ≡ l.initial.covered) × (l.entry ≡ l.initial.entry)

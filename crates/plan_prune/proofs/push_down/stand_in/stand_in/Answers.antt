@@ -1,4 +1,4 @@
-use Rattle.std.proofs.Common.{◌≡◌, [], ◌∙◌, ap, sym, subst, All, List, Some, None}
+use Rattle.std.proofs.Common.{◌∙◌, ap, sym, subst, All, List, Some, None}
 use Rattle.plan_expr.specs.declared.expr_ir.ExprIR.{ExprIR}
 use Rattle.plan_expr.specs.Leaves.{Name}
 use Rattle.plan_expr.specs.Operands.{IsExpr}

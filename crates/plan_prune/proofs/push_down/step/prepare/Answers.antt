@@ -15,5 +15,8 @@ returns-in-Distinct c = IfOk-weaker c.prepare-in-Distinct.result _ _ (λ step sa
 pub returns-in-MapFunction : goal.returns-in-MapFunction
 returns-in-MapFunction c = IfOk-weaker c.prepare-in-MapFunction.result _ _ (λ step same. same c.args.ex.now ∙ ap (step_of c.args.lp.now c.args.ex.now c.args.asked) (sym c.in-MapFunction.is)) c.prepare-in-MapFunction.ensures
 
+pub returns-in-HConcat : goal.returns-in-HConcat
+returns-in-HConcat c = IfOk-weaker c.prepare-in-HConcat.result _ _ (λ step same. same c.args.ex.now ∙ ap (step_of c.args.lp.now c.args.ex.now c.args.asked) (sym c.in-HConcat.is)) c.prepare-in-HConcat.ensures
+
 pub returns-in-Cache : goal.returns-in-Cache
 returns-in-Cache c = IfOk-weaker c.prepare-in-Cache.result _ _ (λ step same. same c.args.ex.now ∙ ap (step_of c.args.lp.now c.args.ex.now c.args.asked) (sym c.in-Cache.is)) c.prepare-in-Cache.ensures
