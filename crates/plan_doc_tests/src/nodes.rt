@@ -1,7 +1,7 @@
 //! What sorts, distinct rows, sinks, unions and caches read as, and entries that are no nodes.
 
 use crate::several::{cache, union};
-use plan_core::{Items, Node, PlSmallStr};
+use plan_core::{Arena, Items, Node, PlSmallStr};
 use plan_doc::{ReadError, read_document};
 use plan_expr::{ExprIR, OutputName};
 use plan_ir::IR;
@@ -34,11 +34,20 @@ const CACHE: &str = r#"{"op":"Cache","input":2,"id":7,"hits":4294967295}"#;
 
 const NEVER_HIT: &str = r#"{"op":"Cache","input":4294967295,"id":4294967295,"hits":0}"#;
 
-pub fn reads_as(rt: &impl Abort, alloc: Global, entry: &str, wanted: IR) -> Result<(), Fail> {
+// The nodes of a document with one entry.
+fn read_nodes(alloc: Global, entry: &str) -> Result<Arena<IR>, Fail> {
     let text = ONE.replacen(alloc, "ENTRY", entry, 1)?;
-    let lp = read_document(alloc, text.as_bytes())?.lp;
-    assert_eq!(rt; lp.len(), 1);
-    assert!(rt; *lp.get(Node(0)) == wanted, "another node: {entry}");
+    let document = read_document(alloc, text.as_bytes())?;
+    Ok(document.lp)
+}
+
+fn is_alone(lp: &Arena<IR>, wanted: &IR) -> bool {
+    lp.len() == 1 && lp.get(Node(0)) == wanted
+}
+
+pub fn reads_as(rt: &impl Abort, alloc: Global, entry: &str, wanted: IR) -> Result<(), Fail> {
+    let lp = read_nodes(alloc, entry)?;
+    assert!(rt; is_alone(&lp, &wanted), "another node: {entry}");
     Ok(())
 }
 
