@@ -1,0 +1,4 @@
+-- The lemmas of this crate.
+pub mod PlaceLemmas
+pub mod GivenLemmas
+pub mod OrderLemmas
