@@ -11,7 +11,7 @@ use crate::made::{check_forms, check_leaves, check_namings};
 use plan_core::{Arena, DataType, Node, PolarsError, PolarsResult, Schema};
 use plan_expr::{AExpr, ExprIR};
 use plan_function::at;
-use plan_meaning::expr_type;
+use plan_frame::expr_type;
 use plan_options::SortMultipleOptions;
 
 /// Whether there are as many marks as keys, or one for all.
