@@ -4,7 +4,6 @@ ghost use Rattle.std.specs.Borrow.{sem};
 ghost use Rattle.plan_ir.specs.declared.ir.IR.TheVariants.{Invalid};
 ghost use Rattle.plan_meaning.specs.Typed.{typed};
 ghost use Rattle.plan_builder.specs.Builds.{Adds, columns_at, IsBuilt, MayFollow, Stays};
-    ghost use Rattle.plan_builder.specs.Rests.{rests};
 
 use plan_core::{Arena, Node, Schema};
 use plan_expr::AExpr;
@@ -21,6 +20,7 @@ pub struct IRBuilder<'a> {
 }
 
 impl<'a> IRBuilder<'a> {
+    ghost use Rattle.plan_builder.specs.Rests.{rests};
 
     /// A builder on the plan at `root`.
     pub fn new(root: Node, expr_arena: &'a Arena<AExpr>, lp_arena: &'a mut Arena<IR>) -> Self

@@ -10,8 +10,8 @@ ghost use Rattle.plan_meaning.specs.Typed.{IsNodeTyped};
 
 use plan_core::{Arena, DataType, Node, PolarsError, PolarsResult, Schema};
 use plan_expr::{AExpr, ExprIR, has_form, may_be_named};
-use plan_function::at;
 use plan_frame::{expr_type, reads_only};
+use plan_function::at;
 
 /// Whether the type is Boolean.
 fn is_boolean(dtype: Option<DataType>) -> bool

@@ -20,8 +20,8 @@ use plan_core::{
     Arena, DataType, Items, Node, PlSmallStr, PolarsError, PolarsResult, Schema, TryClone,
 };
 use plan_expr::{AExpr, ExprIR, is_scalar, list_of, output_name};
-use plan_function::at;
 use plan_frame::expr_type;
+use plan_function::at;
 use plan_options::GroupbyOptions;
 use std::alloc::{AllocError, Global};
 

@@ -15,8 +15,8 @@ use plan_core::{
     Arena, DataType, Names, Node, PlSmallStr, PolarsError, PolarsResult, Schema, TryClone,
 };
 use plan_expr::{AExpr, ExprIR, has_form, may_be_named, output_name};
-use plan_function::at;
 use plan_frame::{expr_type, reads_only};
+use plan_function::at;
 use std::alloc::{AllocError, Global};
 
 /// Each expression has a form; the first expression stands at place 1.

@@ -3,7 +3,6 @@ ghost use Rattle.std.specs.Prelude.{◌≡◌, List, ℕ, None, Some, IfNone, If
 ghost use Rattle.plan_core.specs.Columns.{names_of};
 ghost use Rattle.plan_meaning.specs.Functions.{former, name_in, names_now, new_name, stay_apart};
 ghost use Rattle.plan_frame.specs.Reshaped.{renamed_columns};
-    ghost use Rattle.std.specs.Prelude.{List, ℕ, map, string_bytes};
 
 use indexmap::IndexMap;
 use plan_core::{PlSmallStr, Schema};
@@ -17,6 +16,7 @@ pub struct Renaming {
 }
 
 impl Model for Renaming {
+    ghost use Rattle.std.specs.Prelude.{List, ℕ, map, string_bytes};
 
     ghost Value = { List (List ℕ × List ℕ) };
 

@@ -19,8 +19,8 @@ use crate::push_down::stand_in::{first_many, stand_in};
 use crate::push_down::step::Step;
 use plan_core::{Arena, Items, Names, Node, ProjectionOptions, Schema, TryClone};
 use plan_expr::{AExpr, ExprIR};
-use plan_ir::IR;
 use plan_frame::{all_scalar, counts_rows};
+use plan_ir::IR;
 use std::alloc::{AllocError, Global};
 
 /// Whether a node counts the rows of its input: a selection of their number alone does.
