@@ -23,7 +23,7 @@ use Rattle.plan_meaning.specs.PlanAt.{one_plan, plan_at}
 use Rattle.plan_meaning.specs.Steps.{IsValid}
 use Rattle.plan_meaning.specs.Typing.{AllHold, checks, each, is_column, is_empty, is_known, schema}
 use Rattle.plan_meaning.proofs.CheckParts.{hold_join, pass_each}
-use Rattle.plan_meaning.proofs.FrameLemmas.{length-map, some_type_is, weaker}
+use Rattle.plan_frame.proofs.FrameLemmas.{length-map, some_type_is, weaker}
 use Rattle.plan_meaning.proofs.NodeExprs.{all_stand}
 use Rattle.plan_meaning.proofs.Validity.{one_stands}
 use Rattle.plan_builder.specs.Builds.{IsBuilt, MayFollow, columns_at, own_expr}

@@ -27,7 +27,8 @@ use Rattle.plan_ir.specs.declared.functions.FunctionIR.TheVariants.{Explode, Row
 use Rattle.plan_ir.specs.Parts.{plan_shape, roots_in}
 use Rattle.plan_ir.specs.Plans.{bare, frame_scan, plans_of}
 use Rattle.plan_meaning.specs.PlanAt.{one_plan}
-use Rattle.plan_meaning.specs.Typing.{AllHold, checks, function_checks, explode_checks, row_index_checks, unpivot_checks, unpivot_name_checks, unpivot_type_checks, frame_checks, made_checks, made_schema, number_checks, schema}
+use Rattle.plan_meaning.specs.Typing.{AllHold, checks, function_checks, explode_checks, row_index_checks, unpivot_checks, unpivot_name_checks, unpivot_type_checks, frame_checks, made_checks, number_checks, schema}
+use Rattle.plan_frame.specs.Made.{made_schema}
 use Rattle.plan_meaning.proofs.CheckParts.{good_made, is_same}
 use Rattle.plan_builder.specs.Builds.{addition, Adds, columns_at, IsBuilt, MayFollow, own_expr, selection}
 use Rattle.plan_builder.proofs.Follow.{alone_follow, over_follow}

@@ -12,10 +12,11 @@ use Rattle.plan_ir.specs.declared.ir.IR.{IR}
 use Rattle.plan_ir.specs.declared.ir.IR.TheVariants.{Select, HStack, GroupBy}
 use Rattle.plan_ir.specs.Parts.{IsPlan}
 use Rattle.plan_options.specs.declared.group.GroupbyOptions.{GroupbyOptions}
-use Rattle.plan_meaning.specs.Grouping.{group_exprs}
+use Rattle.plan_frame.specs.Grouping.{group_exprs}
 use Rattle.plan_meaning.specs.PlanAt.{plan_at}
 use Rattle.plan_meaning.specs.Steps.{IsValid}
-use Rattle.plan_meaning.specs.Typing.{made_schema, schema}
+use Rattle.plan_frame.specs.Made.{made_schema}
+use Rattle.plan_meaning.specs.Typing.{schema}
 
 -- a valid plan stands at a number
 pub record IsBuilt (lp : List IR) (ex : List AExpr) (root : Node) : Type 0 where

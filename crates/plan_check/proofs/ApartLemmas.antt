@@ -9,8 +9,8 @@ use Rattle.plan_core.specs.Columns.{Columns, HasDistinctNames, names_of}
 use Rattle.plan_core.specs.Names.{has}
 use Rattle.plan_options.specs.Schemas.{all_columns, SharesName}
 use Rattle.plan_expr.specs.Leaves.{Name}
-use Rattle.plan_meaning.specs.Typing.{are_apart, in_a_row, share_no_name, side_by_side}
-use Rattle.plan_meaning.proofs.BesideLemmas.{beside-distinct}
+use Rattle.plan_frame.specs.Beside.{are_apart, in_a_row, share_no_name, side_by_side}
+use Rattle.plan_frame.proofs.BesideLemmas.{beside-distinct}
 use Rattle.plan_check.proofs.ReadLemmas.{has-append}
 
 row-are : (ss : List Columns) → all_columns ss ≡ in_a_row ss

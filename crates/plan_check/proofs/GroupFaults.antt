@@ -23,10 +23,12 @@ use Rattle.plan_expr.specs.Leaves.{Name, leaves}
 use Rattle.plan_expr.specs.Naming.{Naming, by_column, by_literal, by_alias, unnamed, or_naming, naming, may_be_named, name_of}
 use Rattle.plan_expr.specs.Scalars.{is_scalar}
 use Rattle.plan_expr.specs.Types.{list_of, all_of}
-use Rattle.plan_meaning.specs.Exprs.{all_known, expr_type, op_type}
-use Rattle.plan_meaning.specs.Grouping.{gathered, gathered_expr, group_exprs}
-use Rattle.plan_meaning.specs.Typing.{Check, check, each, each_new, first_fault, or_fault, form_checks, leaf_checks, type_checks, once_checks, stored_checks, naming_checks, made_checks, made_schema, out_names}
-use Rattle.plan_meaning.proofs.GroupLemmas.{gathered-leaves, gathered-names}
+use Rattle.plan_frame.specs.Exprs.{all_known, expr_type, op_type}
+use Rattle.plan_frame.specs.Grouping.{gathered, gathered_expr, group_exprs}
+use Rattle.plan_meaning.specs.Typing.{Check, check, each, each_new, first_fault, or_fault, form_checks, leaf_checks, type_checks, once_checks, stored_checks, naming_checks, made_checks}
+use Rattle.plan_frame.specs.Made.{made_schema}
+use Rattle.plan_frame.specs.ExprLists.{out_names}
+use Rattle.plan_frame.proofs.GroupLemmas.{gathered-leaves, gathered-names}
 use Rattle.plan_function.proofs.CheckLemmas.{each-map, fault_append}
 
 -- gathered expressions

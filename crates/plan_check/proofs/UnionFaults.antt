@@ -6,7 +6,8 @@ use Rattle.plan_core.specs.Columns.{Columns}
 use Rattle.plan_options.specs.declared.union.UnionOptions.{UnionOptions}
 use Rattle.plan_ir.specs.Plans.{union}
 use Rattle.plan_meaning.specs.Typing.{at, checks, first_fault, first_schema, is_built_union, same_checks}
-use Rattle.plan_meaning.proofs.UnionLemmas.{AllAre, last_are, union_inputs}
+use Rattle.plan_frame.proofs.TurnLemmas.{AllAre}
+use Rattle.plan_meaning.proofs.UnionLemmas.{last_are, union_inputs}
 use Rattle.plan_meaning.proofs.Validity.{all_hold_unless}
 
 pub union_answer : (n : Node) (options : UnionOptions) (ss rest : List Columns) (s : Columns) → is_built_union options ss ≡ true → first_fault n (same_checks ss) ≡ None → ss ≡ rest ++ s ∷ [] → (first_fault n (checks (union options) ss) ≡ None) × (first_schema ss ≡ s)

@@ -3,15 +3,15 @@ ghost use Rattle.std.specs.Prelude.{◌≡◌, [], ◌∷◌};
 ghost use Rattle.plan_expr.specs.Operands.{IsExpr};
 ghost use Rattle.plan_expr.specs.Exprs.{named_at};
 ghost use Rattle.plan_ir.specs.Plans.{filter};
-ghost use Rattle.plan_meaning.specs.Exprs.{is_type};
+ghost use Rattle.plan_frame.specs.Exprs.{is_type};
 ghost use Rattle.plan_core.specs.declared.data_type.DataType.TheVariants.{Boolean};
 ghost use Rattle.plan_meaning.specs.Typing.{filter_checks, first_fault, Says};
 ghost use Rattle.plan_meaning.specs.Typed.{IsNodeTyped};
 
 use plan_core::{Arena, DataType, Node, PolarsError, PolarsResult, Schema};
 use plan_expr::{AExpr, ExprIR, has_form, may_be_named};
+use plan_frame::{expr_type, reads_only};
 use plan_function::at;
-use plan_meaning::{expr_type, reads_only};
 
 /// Whether the type is Boolean.
 fn is_boolean(dtype: Option<DataType>) -> bool

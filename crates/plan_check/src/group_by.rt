@@ -6,9 +6,10 @@ ghost use Rattle.plan_expr.specs.declared.aexpr.AExpr.{AExpr};
 ghost use Rattle.plan_expr.specs.Operands.{IsExpr};
 ghost use Rattle.plan_expr.specs.Exprs.{all_named_at, expr_at};
 ghost use Rattle.plan_ir.specs.Plans.{group_by};
-ghost use Rattle.plan_meaning.specs.Exprs.{expr_type as type_of_expr};
-ghost use Rattle.plan_meaning.specs.Grouping.{gathered, gathered_expr, group_exprs};
-ghost use Rattle.plan_meaning.specs.Typing.{each, is_built_group, type_checks, made_schema as schema_made, first_fault, Says, IsMade};
+ghost use Rattle.plan_frame.specs.Exprs.{expr_type as type_of_expr};
+ghost use Rattle.plan_frame.specs.Grouping.{gathered, gathered_expr, group_exprs};
+ghost use Rattle.plan_meaning.specs.Typing.{each, is_built_group, type_checks, first_fault, Says, IsMade};
+ghost use Rattle.plan_frame.specs.Made.{made_schema as schema_made};
 ghost use Rattle.plan_meaning.specs.Typed.{IsNodeTyped};
 
 use crate::columns::check_stored;
@@ -19,8 +20,8 @@ use plan_core::{
     Arena, DataType, Items, Node, PlSmallStr, PolarsError, PolarsResult, Schema, TryClone,
 };
 use plan_expr::{AExpr, ExprIR, is_scalar, list_of, output_name};
+use plan_frame::expr_type;
 use plan_function::at;
-use plan_meaning::expr_type;
 use plan_options::GroupbyOptions;
 use std::alloc::{AllocError, Global};
 

@@ -3,7 +3,8 @@ ghost use Rattle.std.specs.Prelude.{◌≡◌, [], ◌∷◌, IfOk};
 ghost use Rattle.plan_core.specs.declared.error.PolarsError.TheVariants.{Duplicate};
 ghost use Rattle.plan_options.specs.declared.union.HConcatOptions.{HConcatOptions};
 ghost use Rattle.plan_ir.specs.Plans.{hconcat};
-ghost use Rattle.plan_meaning.specs.Typing.{are_apart, check, first_fault, side_by_side as columns_beside, Says};
+ghost use Rattle.plan_frame.specs.Beside.{are_apart, side_by_side as columns_beside};
+ghost use Rattle.plan_meaning.specs.Typing.{check, first_fault, Says};
 ghost use Rattle.plan_meaning.specs.Typed.{IsNodeTyped};
 
 use crate::columns::check_stored;

@@ -6,7 +6,8 @@ ghost use Rattle.plan_core.specs.declared.options.ProjectionOptions.{ProjectionO
 ghost use Rattle.plan_expr.specs.Operands.{IsExpr};
 ghost use Rattle.plan_expr.specs.Exprs.{all_named_at};
 ghost use Rattle.plan_ir.specs.Plans.{hstack, select};
-ghost use Rattle.plan_meaning.specs.Typing.{form_checks, leaf_checks, type_checks, once_checks, naming_checks, made_schema as schema_made, first_fault, Says, IsMade};
+ghost use Rattle.plan_meaning.specs.Typing.{form_checks, leaf_checks, type_checks, once_checks, naming_checks, first_fault, Says, IsMade};
+ghost use Rattle.plan_frame.specs.Made.{made_schema as schema_made};
 ghost use Rattle.plan_meaning.specs.Typed.{IsNodeTyped};
 
 use crate::columns::check_stored;
@@ -14,8 +15,8 @@ use plan_core::{
     Arena, DataType, Names, Node, PlSmallStr, PolarsError, PolarsResult, Schema, TryClone,
 };
 use plan_expr::{AExpr, ExprIR, has_form, may_be_named, output_name};
+use plan_frame::{expr_type, reads_only};
 use plan_function::at;
-use plan_meaning::{expr_type, reads_only};
 use std::alloc::{AllocError, Global};
 
 /// Each expression has a form; the first expression stands at place 1.

@@ -10,8 +10,8 @@ ghost use Rattle.plan_meaning.specs.Typed.{IsNodeTyped};
 use crate::made::{check_forms, check_leaves, check_namings};
 use plan_core::{Arena, DataType, Node, PolarsError, PolarsResult, Schema};
 use plan_expr::{AExpr, ExprIR};
+use plan_frame::expr_type;
 use plan_function::at;
-use plan_meaning::expr_type;
 use plan_options::SortMultipleOptions;
 
 /// Whether there are as many marks as keys, or one for all.

@@ -8,8 +8,8 @@ use Rattle.plan_core.specs.Names.{has}
 use Rattle.plan_core.specs.declared.data_type.DataType.{DataType}
 use Rattle.plan_core.proofs.ColumnLemmas.{flip_false}
 use Rattle.plan_expr.specs.Leaves.{Name}
-use Rattle.plan_meaning.specs.Frames.{Column, column_names, with_new_column}
-use Rattle.plan_meaning.specs.Typing.{with_new}
+use Rattle.plan_frame.specs.Frames.{Column, column_names, with_new_column}
+use Rattle.plan_frame.specs.Beside.{with_new}
 use Rattle.plan_table.specs.declared.column.Column.{Column as Typed}
 use Rattle.plan_table.specs.Tables.{column_of, types_of, with_column}
 use Rattle.plan_value.specs.Shown.{column_shown, columns_shown}

@@ -9,10 +9,10 @@ use Rattle.plan_expr.specs.declared.expr_ir.ExprIR.{ExprIR}
 use Rattle.plan_expr.specs.Exprs.{Named, all_named_at, expr_at, named_at}
 use Rattle.plan_expr.specs.Leaves.{Name}
 use Rattle.plan_expr.specs.Naming.{name_of}
-use Rattle.plan_meaning.specs.Frames.{Column, Frame}
-use Rattle.plan_meaning.specs.Frames as frames
-use Rattle.plan_meaning.specs.Meaning.{filled, val}
-use Rattle.plan_meaning.specs.Steps.{made_columns}
+use Rattle.plan_frame.specs.Frames.{Column, Frame}
+use Rattle.plan_frame.specs.Frames as frames
+use Rattle.plan_frame.specs.Meaning.{filled, val}
+use Rattle.plan_frame.specs.Made.{made_columns}
 use Rattle.plan_table.specs.declared.column.Column.{Column as Typed}
 use Rattle.plan_table.specs.Tables.{types_of, with_column}
 use Rattle.plan_value.specs.Shown.{column_shown, columns_shown}

@@ -12,9 +12,9 @@ use Rattle.std.proofs.lemmas.List.Sorted.{All-permutation, list_any-IsPermutatio
 use Rattle.std.proofs.lemmas.Map.Keys.{IsDistinct-IsPermutation, IsDistinct-cons}
 use Rattle.plan_options.specs.declared.distinct.UniqueKeepStrategy.{UniqueKeepStrategy}
 use Rattle.plan_options.specs.declared.distinct.UniqueKeepStrategy.TheVariants as keeps
-use Rattle.plan_meaning.specs.Meaning.{Cell, are_alike, places_from}
-use Rattle.plan_meaning.specs.Orders.{AreKept, has_earlier, has_later, may_be_kept, must_be_kept}
-use Rattle.plan_meaning.proofs.KeptRows.{alike_equivalence}
+use Rattle.plan_frame.specs.Meaning.{Cell, are_alike, places_from}
+use Rattle.plan_frame.specs.Orders.{AreKept, has_earlier, has_later, may_be_kept, must_be_kept}
+use Rattle.plan_frame.proofs.KeptRows.{alike_equivalence}
 use Rattle.plan_value.specs.Groups.{AreNumbered, rows_numbered}
 use Rattle.plan_eval.specs.Distinct.{kept, kept_of}
 use Rattle.plan_eval.proofs.PartLemmas.{NoneWithin, Passes, first-passes, first-there, last-passes, last-there, later-number, only-passes, only-there}

@@ -11,10 +11,10 @@ use Rattle.plan_core.specs.Columns.{HasDistinctNames, names_of}
 use Rattle.plan_core.specs.Names.{has, with_names}
 use Rattle.plan_core.proofs.ColumnLemmas.{flip_false}
 use Rattle.plan_expr.specs.Leaves.{Name}
-use Rattle.plan_meaning.specs.Frames.{Column, column_or, row}
-use Rattle.plan_meaning.specs.Mapped.{alone, exploded_rows, exploded_values, items, rows_given}
-use Rattle.plan_meaning.specs.Values.{Value, null}
-use Rattle.plan_meaning.proofs.NameSets.{has_cons, has_first, has_later, has-once, named, same_named}
+use Rattle.plan_frame.specs.Frames.{Column, column_or, row}
+use Rattle.plan_frame.specs.Reshaped.{alone, exploded_rows, exploded_values, items, rows_given}
+use Rattle.plan_frame.specs.Values.{Value, null}
+use Rattle.plan_frame.proofs.NameSets.{has_cons, has_first, has_later, has-once, named, same_named}
 use Rattle.plan_table.specs.declared.column.Column.{Column as Typed}
 use Rattle.plan_table.specs.declared.table.Table.{Table}
 use Rattle.plan_table.specs.declared.value.PlainValue.{PlainValue}

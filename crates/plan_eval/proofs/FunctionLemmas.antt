@@ -2,8 +2,6 @@
 use Rattle.std.proofs.Common.{◌≡◌, ◌∙◌, ◌++◌, ◌+◌, ℕ, suc, Bool, true, false, not, ◌&&◌, List, [], ◌∷◌, map, length, Option, unwrap_or, pos, refl, sym, ap, subst, add-one}
 use Rattle.std.proofs.Math.Path.{fun_ext}
 use Rattle.std.specs.Int.{w64, int_wrap, cast_signed}
-use Prim.Native.Nat.{◌^◌, ◌%◌}
-use mir.Val.{bits}
 use Rattle.std.specs.List.{AllByRecursion, IsDistinct, list_any, range_with_len}
 use Rattle.std.specs.Str.{bytes_eq}
 use Rattle.std.proofs.lemmas.Bool.{and_parts, not-true}
@@ -12,11 +10,11 @@ use Rattle.plan_core.specs.Columns.{Columns, HasDistinctNames, names_of}
 use Rattle.plan_core.specs.Names.{has, AreDistinct}
 use Rattle.plan_core.specs.declared.error.PolarsError.TheVariants.{Duplicate}
 use Rattle.plan_expr.specs.Leaves.{Name}
-use Rattle.plan_meaning.specs.Frames.{Column}
-use Rattle.plan_meaning.specs.Functions.{become_one, name_in, names_now, new_name, renamed, renamed_columns, stay_apart}
-use Rattle.plan_meaning.specs.Mapped.{row_numbers}
+use Rattle.plan_frame.specs.Frames.{Column}
+use Rattle.plan_meaning.specs.Functions.{become_one, name_in, names_now, new_name, renamed, stay_apart}
+use Rattle.plan_frame.specs.Reshaped.{renamed_columns, row_numbers}
 use Rattle.plan_meaning.specs.Typing.{AllHold, Check, check, each_new, rename_checks, row_index_checks}
-use Rattle.plan_meaning.specs.Values.{Value, whole}
+use Rattle.plan_frame.specs.Values.{Value, whole}
 use Rattle.plan_meaning.proofs.CheckParts.{hold_back}
 use Rattle.plan_function.proofs.RenameLemmas.{names-renamed, or_false}
 use Rattle.plan_table.specs.declared.column.Column.{Column as Typed}
@@ -24,6 +22,8 @@ use Rattle.plan_table.specs.Tables.{types_of}
 use Rattle.plan_value.specs.Shown.{column_shown, columns_shown}
 use Rattle.plan_value.proofs.PlaceLemmas.{range-more}
 use Rattle.plan_eval.specs.Function.{under}
+use Prim.Native.Nat.{◌^◌, ◌%◌}
+use mir.Val.{bits}
 
 -- other names
 

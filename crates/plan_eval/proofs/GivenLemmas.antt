@@ -8,7 +8,7 @@ use Rattle.plan_expr.specs.declared.aexpr.AExpr.{AExpr}
 use Rattle.plan_ir.specs.declared.ir.IR.{IR}
 use Rattle.plan_ir.specs.Plans.{Op, bare, plans_at}
 use Rattle.plan_meaning.specs.Contents.{Contents}
-use Rattle.plan_meaning.specs.Frames.{Frame}
+use Rattle.plan_frame.specs.Frames.{Frame}
 use Rattle.plan_meaning.specs.Steps.{MayAll}
 use Rattle.plan_meaning.specs.Typing.{AllValid}
 use Rattle.plan_meaning.proofs.SideLemmas.{next, schemas-join, whole}

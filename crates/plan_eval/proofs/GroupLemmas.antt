@@ -16,12 +16,12 @@ use Rattle.plan_expr.specs.declared.aexpr.AExpr.{AExpr}
 use Rattle.plan_expr.specs.declared.expr_ir.ExprIR.{ExprIR}
 use Rattle.plan_expr.specs.Exprs.{Named, all_named_at, named_at}
 use Rattle.plan_expr.specs.Naming.{name_of}
-use Rattle.plan_meaning.specs.Frames.{Column, Frame, picked, picked_columns, row, rows_at, with_column, with_columns}
-use Rattle.plan_meaning.specs.Grouping.{gathered_expr, nameless, over_keys, row_exprs}
-use Rattle.plan_meaning.specs.Meaning.{Cell, one, many, are_alike, cells, filled, only_value, rows_alike, val, vals, value_at}
-use Rattle.plan_meaning.specs.Orders.{AreKept, key_cells}
-use Rattle.plan_meaning.specs.Steps.{grouped, made_columns}
-use Rattle.plan_meaning.specs.Values.{Value}
+use Rattle.plan_frame.specs.Frames.{Column, Frame, picked, picked_columns, row, rows_at, with_column, with_columns}
+use Rattle.plan_frame.specs.Grouping.{gathered_expr, nameless, over_keys, row_exprs}
+use Rattle.plan_frame.specs.Meaning.{Cell, one, many, are_alike, cells, filled, only_value, rows_alike, val, vals, value_at}
+use Rattle.plan_frame.specs.Orders.{AreKept, key_cells}
+use Rattle.plan_frame.specs.Made.{grouped, made_columns}
+use Rattle.plan_frame.specs.Values.{Value}
 use Rattle.plan_value.specs.Groups.{AreNumbered, rows_numbered}
 use Rattle.plan_value.proofs.WindowLemmas.{places-same}
 use Rattle.plan_eval.specs.Distinct.{kept, kept_of}

@@ -13,12 +13,14 @@ use Rattle.plan_expr.specs.declared.expr_ir.ExprIR.{ExprIR}
 use Rattle.plan_expr.specs.Exprs.{Named, all_named_at}
 use Rattle.plan_expr.specs.Leaves.{Name}
 use Rattle.plan_expr.specs.Naming.{name_of}
-use Rattle.plan_meaning.specs.Grouping.{gathered, group_exprs}
-use Rattle.plan_meaning.specs.Typing.{AllHold, made_checks, made_column, made_schema, out_names}
+use Rattle.plan_frame.specs.Grouping.{gathered, group_exprs}
+use Rattle.plan_meaning.specs.Typing.{AllHold, made_checks}
+use Rattle.plan_frame.specs.Made.{made_column, made_schema}
+use Rattle.plan_frame.specs.ExprLists.{out_names}
 use Rattle.plan_meaning.proofs.CheckParts.{MadeGood, made_good}
-use Rattle.plan_meaning.proofs.GroupLemmas.{all_back, all_front}
+use Rattle.plan_frame.proofs.GroupLemmas.{all_back, all_front}
 use Rattle.plan_meaning.proofs.KeptExprs.{new_distinct}
-use Rattle.plan_meaning.proofs.MadeColumns.{types_made}
+use Rattle.plan_frame.proofs.MadeColumns.{types_made}
 use Rattle.plan_eval.specs.Given.{stored_column}
 
 abbrev HasType : Columns → Columns → Named → Type 0

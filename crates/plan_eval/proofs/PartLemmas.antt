@@ -3,7 +3,7 @@ use Rattle.std.proofs.Common.{◌≡◌, ℕ, zero, suc, ◌+◌, ◌-◌, ◌<�
 use Rattle.std.specs.Prelude.{nat_eq}
 use Rattle.std.specs.List.{slice_get}
 use Rattle.std.proofs.lemmas.Option.{same_Some, slice_get-get_or}
-use Rattle.plan_meaning.specs.Meaning.{places_from}
+use Rattle.plan_frame.specs.Meaning.{places_from}
 use Rattle.plan_eval.specs.Distinct.{only}
 
 -- a number passes, and is one of so many from a first one on

@@ -11,13 +11,13 @@ use Rattle.plan_ir.specs.Parts.{inputs_of, IsPlan}
 use Rattle.plan_ir.specs.Plans.{Op, bare, op_at, plans_at}
 use Rattle.plan_ir.proofs.PlanLemmas.{plan_open}
 use Rattle.plan_meaning.specs.Contents.{Contents, Fits, FitsAll}
-use Rattle.plan_meaning.specs.Frames.{HasSchema}
+use Rattle.plan_frame.specs.Frames.{HasSchema}
 use Rattle.plan_meaning.specs.PlanAt.{one_plan, plan_at}
 use Rattle.plan_meaning.specs.Steps.{IsValid, May, MayAll}
 use Rattle.plan_meaning.specs.Typing.{AllHold, AllValid, checks, schema, schema_by, schemas}
-use Rattle.plan_meaning.proofs.GroupLemmas.{all_back, all_front}
+use Rattle.plan_frame.proofs.GroupLemmas.{all_back, all_front}
 use Rattle.plan_meaning.proofs.Runs.{may_has, may_have_all}
-use Rattle.plan_meaning.proofs.UnionLemmas.{HaveSchemas}
+use Rattle.plan_frame.proofs.TurnLemmas.{HaveSchemas}
 use Rattle.plan_meaning.proofs.Validity.{bare-valid, one_stands, schemas-bare, valid-bare}
 use Rattle.plan_table.specs.declared.source_key.SourceKey.{SourceKey}
 use Rattle.plan_table.specs.declared.table.Table.{Table}

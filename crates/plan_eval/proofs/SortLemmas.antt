@@ -12,12 +12,12 @@ use Rattle.std.proofs.lemmas.List.Sorted.{ranks_by}
 use Rattle.plan_expr.specs.declared.aexpr.AExpr.{AExpr}
 use Rattle.plan_expr.specs.declared.expr_ir.ExprIR.{ExprIR}
 use Rattle.plan_expr.specs.Exprs.{Named, all_named_at, expr_at, named_at}
-use Rattle.plan_meaning.specs.Frames.{Frame}
-use Rattle.plan_meaning.specs.Meaning.{Cell, val}
-use Rattle.plan_meaning.specs.Orders.{key_cells, rows_cmp}
+use Rattle.plan_frame.specs.Frames.{Frame}
+use Rattle.plan_frame.specs.Meaning.{Cell, val}
+use Rattle.plan_frame.specs.Orders.{key_cells, rows_cmp}
 use Rattle.plan_meaning.specs.Typing.{AllHold, key_checks}
 use Rattle.plan_meaning.proofs.CheckParts.{keys_good}
-use Rattle.plan_meaning.proofs.OrderLemmas.{rows_total}
+use Rattle.plan_frame.proofs.OrderLemmas.{rows_total}
 use Rattle.plan_meaning.proofs.Runs.{keys_are}
 use Rattle.plan_table.specs.declared.table.Table.{Table}
 use Rattle.plan_table.specs.Tables.{HasRows}

@@ -4,9 +4,9 @@ use Rattle.std.specs.Borrow.{Bor}
 use Rattle.std.proofs.lemmas.List.{map-append, take_more}
 use Rattle.plan_table.specs.declared.table.Table.{Table}
 use Rattle.plan_expr.specs.Leaves.{Name}
-use Rattle.plan_meaning.specs.Values.{Value}
-use Rattle.plan_meaning.specs.Frames.{Frame, Column, column_or, cut, table_columns}
-use Rattle.plan_meaning.specs.Contents.{stack, stacked, total_height, frame_or, no_frame, path}
+use Rattle.plan_frame.specs.Values.{Value}
+use Rattle.plan_frame.specs.Frames.{Frame, Column, column_or, cut, table_columns, stack, stacked, total_height}
+use Rattle.plan_meaning.specs.Contents.{frame_or, no_frame, path}
 use Rattle.std.specs.Option.{unwrap_or}
 use Rattle.plan_table.specs.declared.source_key.SourceKey.{SourceKey}
 use Rattle.plan_table.specs.declared.source_key.SourceKey.TheVariants as keys

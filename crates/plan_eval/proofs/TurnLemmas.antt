@@ -9,12 +9,12 @@ use Rattle.plan_core.proofs.ColumnLemmas.{flip_false}
 use Rattle.plan_options.specs.declared.union.UnionOptions.{UnionOptions}
 use Rattle.plan_expr.specs.Leaves.{Name}
 use Rattle.plan_ir.specs.Plans.{union}
-use Rattle.plan_meaning.specs.Contents.{stack, stacked, total_height}
-use Rattle.plan_meaning.specs.Frames.{Column, Frame, HasSchema, HaveTypes, appended, appended_columns, column_or, found, in_turn, picked_columns, row, rows_at, table_columns}
+use Rattle.plan_frame.specs.Frames.{stack, stacked, total_height, Column, Frame, HasSchema, HaveTypes, appended, appended_columns, column_or, found, in_turn, picked_columns, row, rows_at, table_columns}
 use Rattle.plan_meaning.specs.Typing.{AllHold, checks}
-use Rattle.plan_meaning.specs.Values.{Value, null}
-use Rattle.plan_meaning.proofs.NameSets.{same_named}
-use Rattle.plan_meaning.proofs.UnionLemmas.{AllAre, HaveSchemas, appended_has, never_built, union_inputs}
+use Rattle.plan_frame.specs.Values.{Value, null}
+use Rattle.plan_frame.proofs.NameSets.{same_named}
+use Rattle.plan_frame.proofs.TurnLemmas.{AllAre, HaveSchemas, appended_has}
+use Rattle.plan_meaning.proofs.UnionLemmas.{never_built, union_inputs}
 use Rattle.plan_table.specs.declared.source_key.SourceKey.{SourceKey}
 use Rattle.plan_table.specs.declared.table.Table.{Table}
 use Rattle.plan_table.specs.Tables.{HasRows}

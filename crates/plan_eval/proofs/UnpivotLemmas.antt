@@ -7,9 +7,10 @@ use Rattle.plan_core.specs.Columns.{Columns, HasDistinctNames, names_of}
 use Rattle.plan_core.specs.Names.{has, AreDistinct}
 use Rattle.plan_expr.specs.Leaves.{Name}
 use Rattle.plan_ir.specs.declared.functions.UnpivotArgsIR.{UnpivotArgsIR}
-use Rattle.plan_meaning.specs.Frames.{column_names}
-use Rattle.plan_meaning.specs.Functions.{all_differ, columns_at, unpivoted_names, value_name, variable_name}
-use Rattle.plan_meaning.proofs.NameSets.{names-append}
+use Rattle.plan_frame.specs.Frames.{column_names}
+use Rattle.plan_meaning.specs.Functions.{all_differ, unpivoted_names, value_name, variable_name}
+use Rattle.plan_frame.specs.Reshaped.{columns_at}
+use Rattle.plan_frame.proofs.NameSets.{names-append}
 use Rattle.plan_function.proofs.UnpivotColumns.{differ_front, names-at}
 use Rattle.plan_table.specs.declared.column.Column.{Column as Typed}
 use Rattle.plan_table.specs.Tables.{types_of, with_column}

@@ -2,8 +2,8 @@
 use Rattle.std.specs.Prelude.{ℕ, ◌-◌, List, [], ◌∷◌, length, map, Option, Some, None, slice_get}
 use Rattle.std.specs.List.{filter_map}
 use Rattle.plan_expr.specs.Leaves.{Name}
-use Rattle.plan_meaning.specs.Frames.{Frame, column_or}
-use Rattle.plan_meaning.specs.Meaning.{Cell, many}
+use Rattle.plan_frame.specs.Frames.{Frame, column_or}
+use Rattle.plan_frame.specs.Meaning.{Cell, many}
 use Rattle.plan_options.specs.declared.distinct.UniqueKeepStrategy.{UniqueKeepStrategy}
 use Rattle.plan_options.specs.declared.distinct.UniqueKeepStrategy.TheVariants as keeps
 

@@ -4,8 +4,8 @@ use Rattle.std.specs.List.{flat_map, range_with_len}
 use Rattle.std.specs.Borrow.{Bor}
 use Rattle.plan_core.specs.Names.{has}
 use Rattle.plan_expr.specs.Leaves.{Name}
-use Rattle.plan_meaning.specs.Frames.{Column, row}
-use Rattle.plan_meaning.specs.Mapped.{exploded_values, items}
+use Rattle.plan_frame.specs.Frames.{Column, row}
+use Rattle.plan_frame.specs.Reshaped.{exploded_values, items}
 use Rattle.plan_table.specs.declared.column.Column.{Column as Typed}
 use Rattle.plan_value.specs.Shown.{values_of}
 

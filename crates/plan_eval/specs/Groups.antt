@@ -3,9 +3,9 @@ use Rattle.std.specs.Prelude.{ℕ, List, [], ◌∷◌, map}
 use Rattle.plan_expr.specs.declared.expr_ir.ExprIR.{ExprIR}
 use Rattle.plan_expr.specs.Exprs.{Named}
 use Rattle.plan_expr.specs.Naming.{name_of}
-use Rattle.plan_meaning.specs.Frames.{Column, Frame, rows_at}
-use Rattle.plan_meaning.specs.Grouping.{gathered_expr}
-use Rattle.plan_meaning.specs.Meaning.{Cell, only_value, val, value_at}
+use Rattle.plan_frame.specs.Frames.{Column, Frame, rows_at}
+use Rattle.plan_frame.specs.Grouping.{gathered_expr}
+use Rattle.plan_frame.specs.Meaning.{Cell, only_value, val, value_at}
 
 -- what keys are in some rows, under their names
 abbrev pub columns_in : List ℕ → List ExprIR → List Cell → List Column

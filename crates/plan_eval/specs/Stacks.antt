@@ -2,8 +2,8 @@
 use Rattle.std.specs.Prelude.{◌≡◌, List, map, Option, option_map, unwrap_or}
 use Rattle.std.specs.Borrow.{Bor}
 use Rattle.plan_expr.specs.Leaves.{Name}
-use Rattle.plan_meaning.specs.Frames.{Frame}
-use Rattle.plan_meaning.specs.Contents.{no_frame, stacked, total_height}
+use Rattle.plan_frame.specs.Frames.{Frame, stacked, total_height}
+use Rattle.plan_meaning.specs.Contents.{no_frame}
 use Rattle.plan_table.specs.declared.table.Table.{Table}
 use Rattle.plan_value.specs.Shown.{frame_of}
 

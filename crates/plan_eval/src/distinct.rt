@@ -4,8 +4,8 @@ ghost use Rattle.std.specs.Prelude.{◌≡◌, true, List, [], ◌∷◌, IfOk, 
 ghost use Rattle.std.specs.List.Sorted.{IsPermutation, IsSorted};
 ghost use Rattle.std.specs.Ordering.{nat_cmp};
 ghost use Rattle.plan_ir.specs.Plans.{distinct as distinct_op};
-ghost use Rattle.plan_meaning.specs.Frames.{column_names};
-ghost use Rattle.plan_meaning.specs.Orders.{told_columns};
+ghost use Rattle.plan_frame.specs.Frames.{column_names};
+ghost use Rattle.plan_frame.specs.Orders.{told_columns};
 ghost use Rattle.plan_table.specs.declared.source_key.SourceKey.{SourceKey};
 ghost use Rattle.plan_table.specs.declared.table.Table.{Table as TableType};
 ghost use Rattle.plan_eval.specs.Distinct.{kept, kept_of, columns_named};

@@ -4,9 +4,8 @@ ghost use Rattle.std.specs.Prelude.{◌≡◌, ◌++◌, [], map, IfOk, OnOk, fa
 ghost use Rattle.std.specs.List.{filter as only_where};
 ghost use Rattle.plan_core.specs.Columns.{HasDistinctNames};
 ghost use Rattle.plan_core.specs.Names.{has, with_names};
-ghost use Rattle.plan_meaning.specs.Frames.{row as row_of};
-ghost use Rattle.plan_meaning.specs.Functions.{exploded_columns as exploded_types, item_type as type_of_items};
-ghost use Rattle.plan_meaning.specs.Mapped.{alone as stands_alone, exploded as exploded_of, exploded_values, items};
+ghost use Rattle.plan_frame.specs.Frames.{row as row_of};
+ghost use Rattle.plan_frame.specs.Reshaped.{exploded_columns as exploded_types, item_type as type_of_items, alone as stands_alone, exploded as exploded_of, exploded_values, items};
 ghost use Rattle.plan_table.specs.Tables.{types_of};
 ghost use Rattle.plan_value.specs.Shown.{columns_shown, frame_of, schema_of, single_of, value_of, values_of};
 ghost use Rattle.plan_eval.specs.Explode.{borrowed_columns, columns_over, longest as longest_of, row_places, rows_by};

@@ -3,7 +3,7 @@ ghost use Rattle.std.specs.Prelude.{◌≡◌, List, [], ◌∷◌, IfOk};
 ghost use Rattle.plan_expr.specs.Operands.{IsExpr};
 ghost use Rattle.plan_expr.specs.Exprs.{named_at};
 ghost use Rattle.plan_ir.specs.Plans.{filter as filter_op};
-ghost use Rattle.plan_meaning.specs.Steps.{true_rows as true_rows_of};
+ghost use Rattle.plan_frame.specs.Rows.{true_rows as true_rows_of};
 ghost use Rattle.plan_table.specs.declared.source_key.SourceKey.{SourceKey};
 ghost use Rattle.plan_table.specs.declared.table.Table.{Table as TableType};
 ghost use Rattle.plan_eval.specs.Given.{Gives};

@@ -3,8 +3,8 @@
 ghost use Rattle.std.specs.Prelude.{◌≡◌, List, IfOk, OnOk, fold, map};
 ghost use Rattle.plan_core.specs.Columns.{Columns as ColumnTypes};
 ghost use Rattle.plan_ir.specs.Plans.{hconcat as hconcat_op};
-ghost use Rattle.plan_meaning.specs.Frames.{highest as highest_of, picked, picked_columns, with_new_column};
-ghost use Rattle.plan_meaning.specs.Typing.{with_new};
+ghost use Rattle.plan_frame.specs.Frames.{highest as highest_of, picked, picked_columns, with_new_column};
+ghost use Rattle.plan_frame.specs.Beside.{with_new};
 ghost use Rattle.plan_options.specs.declared.union.HConcatOptions.{HConcatOptions};
 ghost use Rattle.plan_table.specs.declared.source_key.SourceKey.{SourceKey};
 ghost use Rattle.plan_table.specs.declared.table.Table.{Table as TableType};

@@ -4,7 +4,7 @@ ghost use Rattle.plan_core.specs.declared.options.ProjectionOptions.{ProjectionO
 ghost use Rattle.plan_expr.specs.Operands.{IsExpr};
 ghost use Rattle.plan_expr.specs.Exprs.{all_named_at};
 ghost use Rattle.plan_ir.specs.Plans.{select as select_op};
-ghost use Rattle.plan_meaning.specs.Steps.{all_scalar as are_scalar};
+ghost use Rattle.plan_frame.specs.ExprLists.{all_scalar as are_scalar};
 ghost use Rattle.plan_meaning.specs.Typing.{AllHold, checks};
 ghost use Rattle.plan_table.specs.declared.source_key.SourceKey.{SourceKey};
 ghost use Rattle.plan_table.specs.declared.table.Table.{Table as TableType};
@@ -14,7 +14,7 @@ ghost use Rattle.plan_value.specs.Shown.{schema_of};
 use crate::made::made;
 use plan_core::{Arena, Schema};
 use plan_expr::{AExpr, ExprIR};
-use plan_meaning::all_scalar;
+use plan_frame::all_scalar;
 use plan_table::{Columns, Table};
 use std::alloc::{AllocError, Global};
 

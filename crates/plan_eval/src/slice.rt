@@ -2,7 +2,7 @@
 //! end.
 ghost use Rattle.std.specs.Prelude.{◌≡◌, [], ◌∷◌, IfOk};
 ghost use Rattle.plan_ir.specs.Plans.{slice as slice_op};
-ghost use Rattle.plan_meaning.specs.Steps.{cut_to, slice_rows, start_of as start};
+ghost use Rattle.plan_frame.specs.Rows.{cut_to, slice_rows, start_of as start};
 ghost use Rattle.plan_eval.specs.Given.{Gives};
 ghost use Rattle.plan_table.specs.declared.source_key.SourceKey.{SourceKey};
 ghost use Rattle.plan_table.specs.declared.table.Table.{Table as TableType};

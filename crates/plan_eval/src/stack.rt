@@ -1,8 +1,7 @@
 //! Tables one after another, cut to some columns.
 ghost use Rattle.std.specs.Prelude.{◌≡◌, ◌++◌, length, replicate, IfOk, OnOk};
 ghost use Rattle.plan_core.specs.Columns.{names_of};
-ghost use Rattle.plan_meaning.specs.Contents.{stack as stack_of, stacked, total_height};
-ghost use Rattle.plan_meaning.specs.Frames.{column_or};
+ghost use Rattle.plan_frame.specs.Frames.{stack as stack_of, stacked, total_height, column_or};
 ghost use Rattle.plan_value.specs.Shown.{column_shown, frame_of, schema_of, value_of, values_of};
 ghost use Rattle.plan_eval.specs.Stacks.{shown_tables};
 

@@ -2,9 +2,10 @@
 //! and its values. Each of its columns is made as a whole.
 ghost use Rattle.std.specs.Prelude.{◌≡◌, ◌*◌, IfOk, true};
 ghost use Rattle.plan_core.specs.declared.data_type.DataType.TheVariants.{String as string_type};
-ghost use Rattle.plan_meaning.specs.Frames.{table_columns};
-ghost use Rattle.plan_meaning.specs.Functions.{all_differ, columns_at, first_type as has_first_type, type_or as has_type_or, unpivoted_columns, unpivoted_names, value_name as value_named, variable_name as variable_named};
-ghost use Rattle.plan_meaning.specs.Mapped.{names_down as names_below, repeated as repeated_values, unpivoted as unpivoted_of, values_down as values_below};
+ghost use Rattle.plan_frame.specs.Frames.{table_columns};
+ghost use Rattle.plan_meaning.specs.Functions.{all_differ, first_type as has_first_type, unpivoted_columns, unpivoted_names, value_name as value_named, variable_name as variable_named};
+ghost use Rattle.plan_frame.specs.Reshaped.{columns_at, type_or as has_type_or, names_down as names_below, repeated as repeated_values, values_down as values_below};
+ghost use Rattle.plan_meaning.specs.Mapped.{unpivoted as unpivoted_of};
 ghost use Rattle.plan_table.specs.Tables.{types_of};
 ghost use Rattle.plan_value.specs.Shown.{columns_shown, frame_of, schema_of, values_of};
 

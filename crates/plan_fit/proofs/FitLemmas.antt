@@ -18,7 +18,7 @@ use Rattle.plan_ir.proofs.PlanLemmas.{plan_open}
 use Rattle.plan_meaning.specs.PlanAt.{one_plan}
 use Rattle.plan_expr.specs.Leaves.{Name}
 use Rattle.plan_meaning.specs.Typing.{file_columns}
-use Rattle.plan_meaning.specs.Frames.{Frame}
+use Rattle.plan_frame.specs.Frames.{Frame}
 use Rattle.plan_meaning.specs.Contents.{Contents, Fits, FitsAll, FitsAt, frame_at, same_source}
 use Rattle.plan_table.specs.declared.column.Column.{Column as Typed}
 use Rattle.plan_table.specs.declared.source_key.SourceKey.{SourceKey}

@@ -12,11 +12,11 @@ use Rattle.plan_ir.specs.declared.scan.ScanSources.TheVariants.{Paths}
 use Rattle.plan_ir.specs.Plans.{Op, slice, filter, scan, frame_scan, simple_projection, select, hstack, sort, group_by, distinct, map_function, sink, union, hconcat, cache, invalid}
 use Rattle.plan_expr.specs.Leaves.{Name}
 use Rattle.plan_meaning.specs.Typing.{file_columns}
-use Rattle.plan_meaning.specs.Values.{Value, AllOf}
-use Rattle.plan_meaning.specs.Values as spec
-use Rattle.plan_meaning.specs.Frames.{HaveTypes, HoldsAll, IsFrame}
+use Rattle.plan_frame.specs.Values.{Value, AllOf}
+use Rattle.plan_frame.specs.Values as spec
+use Rattle.plan_frame.specs.Frames.{HaveTypes, HoldsAll, IsFrame}
 use Rattle.plan_meaning.specs.Contents.{FitsAt, HasFrame, path}
-use Rattle.plan_meaning.proofs.FrameLemmas.{is_type_some, schema_holds, length-map}
+use Rattle.plan_frame.proofs.FrameLemmas.{is_type_some, schema_holds, length-map}
 use Rattle.plan_table.specs.declared.column.Column.{Column as Typed}
 use Rattle.plan_table.specs.declared.source_key.SourceKey.{SourceKey}
 use Rattle.plan_table.specs.declared.source_key.SourceKey.TheVariants as keys

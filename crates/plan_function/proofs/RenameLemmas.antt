@@ -13,10 +13,11 @@ use Rattle.plan_core.specs.declared.data_type.DataType.{DataType}
 use Rattle.plan_core.specs.Columns.{Columns, names_of, type_of, with_type}
 use Rattle.plan_core.specs.Names.{has, AreDistinct}
 use Rattle.plan_expr.specs.Leaves.{Name}
-use Rattle.plan_meaning.specs.Functions.{new_name, name_in, renamed, renamed_columns, become_one, stay_apart}
+use Rattle.plan_meaning.specs.Functions.{new_name, name_in, renamed, become_one, stay_apart}
+use Rattle.plan_frame.specs.Reshaped.{renamed_columns}
 use Rattle.std.proofs.lemmas.Bool.{and_parts, not-true, false_from_ne_true, eq-eqb}
 use Rattle.std.proofs.lemmas.List.{append-nil, map-append}
-use Rattle.plan_meaning.proofs.NameSets.{named, same_named, has_cons, has_first, has_later, has_front, has_back, has_either, only, some-type_of, distinct_cons, names-append}
+use Rattle.plan_frame.proofs.NameSets.{named, same_named, has_cons, has_first, has_later, has_front, has_back, has_either, only, some-type_of, distinct_cons, names-append}
 use Rattle.plan_meaning.specs.Typing.{Check, check, each_new, first_fault, or_fault, at, rename_checks}
 use Rattle.plan_function.proofs.CheckLemmas.{drop-at, drop-end, fault_append}
 

@@ -12,8 +12,9 @@ use Rattle.plan_core.specs.Names.{has, with_names}
 use Rattle.plan_core.proofs.ColumnLemmas.{flip_false}
 use Rattle.plan_ir.specs.declared.functions.UnpivotArgsIR.{UnpivotArgsIR}
 use Rattle.plan_expr.specs.Leaves.{Name}
-use Rattle.plan_meaning.specs.Functions.{told_names, value_names, all_differ, type_or, columns_at}
-use Rattle.plan_meaning.proofs.NameSets.{has_cons, has_first, has_front, has_back, has-append, has-once, names-append}
+use Rattle.plan_meaning.specs.Functions.{told_names, value_names, all_differ}
+use Rattle.plan_frame.specs.Reshaped.{type_or, columns_at}
+use Rattle.plan_frame.proofs.NameSets.{has_cons, has_first, has_front, has_back, has-append, has-once, names-append}
 use Rattle.plan_function.proofs.CheckLemmas.{drop-at}
 
 -- value columns

@@ -5,7 +5,7 @@ ghost use Rattle.plan_core.specs.Columns.{type_of};
 ghost use Rattle.plan_core.specs.Names.{has};
 ghost use Rattle.plan_ir.specs.declared.functions.FunctionIR.TheVariants.{Explode};
 ghost use Rattle.plan_ir.specs.Plans.{map_function};
-ghost use Rattle.plan_meaning.specs.Functions.{exploded_columns, item_type as type_of_items};
+ghost use Rattle.plan_frame.specs.Reshaped.{exploded_columns, item_type as type_of_items};
 ghost use Rattle.plan_meaning.specs.Typing.{each, explode_checks, is_list_type, first_fault, Says};
 ghost use Rattle.plan_meaning.specs.Typed.{IsNodeTyped};
 

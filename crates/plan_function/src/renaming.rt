@@ -1,7 +1,8 @@
 //! The new names that a renaming gives.
 ghost use Rattle.std.specs.Prelude.{◌≡◌, List, ℕ, None, Some, IfNone, IfOk, IfSome, is_some};
 ghost use Rattle.plan_core.specs.Columns.{names_of};
-ghost use Rattle.plan_meaning.specs.Functions.{former, name_in, names_now, new_name, renamed_columns, stay_apart};
+ghost use Rattle.plan_meaning.specs.Functions.{former, name_in, names_now, new_name, stay_apart};
+ghost use Rattle.plan_frame.specs.Reshaped.{renamed_columns};
 
 use indexmap::IndexMap;
 use plan_core::{PlSmallStr, Schema};

@@ -10,19 +10,23 @@ use Rattle.plan_tree.specs.Rose.{Roses, rose, no_roses, more}
 use Rattle.plan_expr.specs.Exprs.{Named}
 use Rattle.plan_ir.specs.Plans.{Op, slice, filter, scan, frame_scan, simple_projection, select, hstack, sort, group_by, distinct, map_function, sink, union, hconcat, cache, invalid, Plan}
 use Rattle.plan_expr.specs.Leaves.{Name, leaves}
-use Rattle.plan_meaning.specs.Exprs.{all_known, is_type}
-use Rattle.plan_meaning.specs.Grouping.{gathered, group_exprs}
-use Rattle.plan_meaning.specs.Typing.{is_empty, side_by_side, each, is_known, is_column, has_columns, names_or, columns_or, file_columns, all_read, put_out_checks, scan_name_checks, subset_checks, made_schema, first_schema, schema_by, schemas, checks, AllHold, AllValid}
+use Rattle.plan_frame.specs.Exprs.{all_known, is_type}
+use Rattle.plan_frame.specs.Grouping.{gathered, group_exprs}
+use Rattle.plan_meaning.specs.Typing.{is_empty, each, is_known, is_column, has_columns, columns_or, file_columns, all_read, put_out_checks, scan_name_checks, subset_checks, first_schema, schema_by, schemas, checks, AllHold, AllValid}
+use Rattle.plan_frame.specs.Beside.{side_by_side}
+use Rattle.plan_frame.specs.Frames.{names_or}
+use Rattle.plan_frame.specs.Made.{made_schema}
 use Rattle.plan_meaning.specs.Steps.{IsValid}
 use Rattle.plan_meaning.specs.Relating.{Asked, all, names, cached}
-use Rattle.plan_meaning.specs.Counting.{counts_rows, stand_ins, first_stand_in, stand_in_names}
-use Rattle.plan_meaning.specs.Asked.{asked_names, is_asked, set_of, with_more, kept, asks_columns, kept_exprs, selected_exprs, all_leaves, needed_names, asks_selected, asks_added, asks_stacked, asks_grouped, asks_held, asks_alike, asks, own_site, sites, reads, allowed, Fair, IsFair, SiteFair, AllSites}
-use Rattle.plan_meaning.proofs.NameSets.{has_cons, has_first, has_later, some-type_of, keeps_names, from_names, distinct_names, distinct_none}
+use Rattle.plan_frame.specs.ExprLists.{counts_rows, all_leaves}
+use Rattle.plan_meaning.specs.Counting.{stand_ins, first_stand_in, stand_in_names}
+use Rattle.plan_meaning.specs.Asked.{asked_names, is_asked, set_of, with_more, kept, asks_columns, kept_exprs, selected_exprs, needed_names, asks_selected, asks_added, asks_stacked, asks_grouped, asks_held, asks_alike, asks, own_site, sites, reads, allowed, Fair, IsFair, SiteFair, AllSites}
+use Rattle.plan_frame.proofs.NameSets.{has_cons, has_first, has_later, some-type_of, keeps_names, from_names, distinct_names, distinct_none}
 use Rattle.plan_meaning.proofs.CheckParts.{hold_front, each_pass, name_passes, known_leaf, scan_good, made_good, keys_good}
 use Rattle.plan_meaning.proofs.UnionLemmas.{union_inputs}
 use Rattle.plan_meaning.proofs.FunctionLemmas.{fair_function}
-use Rattle.plan_meaning.proofs.GroupLemmas.{all_back, all_front, gathered_known}
-use Rattle.plan_meaning.proofs.MadeColumns.{types_kept}
+use Rattle.plan_frame.proofs.GroupLemmas.{all_back, all_front, gathered_known}
+use Rattle.plan_meaning.proofs.KeptColumns.{types_kept}
 use Rattle.plan_meaning.proofs.StandIns.{IsStandIn, AreStandIns, first_stands, are_stand_ins}
 use Rattle.plan_meaning.proofs.KeptExprs.{all_append, all_kept_exprs, all_selected, known_leaves, where_has, distinct_where}
 

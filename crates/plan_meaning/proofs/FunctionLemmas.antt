@@ -1,38 +1,27 @@
 -- Functions of whole frames: what they give has its columns, and what they ask can be asked of their input.
-use Rattle.std.proofs.Common.{◌≡◌, ℕ, Bool, true, false, cond, ◌||◌, List, [], ◌∷◌, map, Option, Some, None, unwrap_or, refl, sym, ap, ◌∙◌, subst, ⊎_elim, pos}
+use Rattle.std.proofs.Common.{◌≡◌, ℕ, Bool, true, false, cond, ◌||◌, List, [], ◌∷◌, Option, Some, None, unwrap_or, refl, sym, ap, ◌∙◌, subst, ⊎_elim, pos}
 use Rattle.std.specs.List.{AllByRecursion, IsDistinct, filter as only_where, filter_map, cons_option, range_with_len}
 use Rattle.std.specs.Int.{w64, int_wrap}
 use Rattle.std.specs.Str.{bytes_eq}
 use Rattle.std.proofs.lemmas.List.FromFn.{length-map-range_with_len}
-use Rattle.plan_core.specs.declared.data_type.DataType.TheVariants.{Int64}
 use Rattle.plan_core.specs.Columns.{Columns, names_of}
 use Rattle.plan_core.specs.Names.{has, with_names, AreDistinct}
 use Rattle.plan_ir.specs.declared.functions.FunctionIR.{FunctionIR}
 use Rattle.plan_ir.specs.declared.functions.FunctionIR.TheVariants.{Rename, RowIndex, Unpivot, Explode}
 use Rattle.plan_expr.specs.Leaves.{Name}
-use Rattle.plan_meaning.specs.Functions.{renamed, former, renamed_columns, exploded_columns, function_schema}
+use Rattle.plan_meaning.specs.Functions.{renamed, former, function_schema}
+use Rattle.plan_frame.specs.Reshaped.{exploded_columns}
 use Rattle.plan_meaning.specs.Typing.{function_checks, AllHold}
-use Rattle.plan_meaning.specs.Values.{whole, AllOf}
-use Rattle.plan_meaning.specs.Frames.{Frame, Column, HaveTypes, HasSchema}
+use Rattle.plan_frame.specs.Values.{whole}
+use Rattle.plan_frame.specs.Frames.{Frame, HasSchema}
 use Rattle.plan_meaning.specs.Mapped.{mapped}
 use Rattle.plan_meaning.specs.Relating.{Asked, all, names as these, cached}
 use Rattle.plan_meaning.specs.Asked.{set_of, unpivot_names, asks_function, IsFair}
-use Rattle.plan_meaning.proofs.NameSets.{named, has_cons, has_first, has_later, some-type_of, distinct_cons, distinct_names}
+use Rattle.plan_frame.proofs.NameSets.{named, has_cons, has_first, has_later, some-type_of, distinct_cons, distinct_names}
 use Rattle.plan_meaning.proofs.KeptExprs.{where_has, distinct_where}
-use Rattle.plan_meaning.proofs.ExplodeLemmas.{exploded_has, explode_known, names-exploded}
+use Rattle.plan_frame.proofs.ReshapedLemmas.{exploded_has, names-exploded, renamed_have, whole_numbers}
+use Rattle.plan_meaning.proofs.ExplodeLemmas.{explode_known}
 use Rattle.plan_meaning.proofs.UnpivotLemmas.{unpivoted_has, unpivot_apart, unpivot_known}
-
--- frames
-
-renamed_have : (now : Name → Name) (h : ℕ) (cs : List Column) (s : Columns) → HaveTypes h cs s → HaveTypes h (map (λ (c : Column). record { name = now c.name; values = c.values }) cs) (renamed_columns now s)
-renamed_have now h [] [] k = tt
-renamed_have now h (c ∷ cs) (s ∷ ss) k = (ap now k.0, k.1, k.2, renamed_have now h cs ss k.3)
-renamed_have now h [] (s ∷ ss) k = absurd k
-renamed_have now h (c ∷ cs) [] k = absurd k
-
-whole_numbers : (ns : List ℕ) → AllOf Int64 (map (λ (i : ℕ). whole (int_wrap w64 (pos i))) ns)
-whole_numbers [] = tt
-whole_numbers (n ∷ ns) = (tt, whole_numbers ns)
 
 -- what a function makes of a frame has its columns
 pub mapped_has : (f : FunctionIR) (s : Columns) (g : Frame) → AllHold (function_checks f s) → HasSchema g s → HasSchema (mapped f g) (function_schema f s)

@@ -1,5 +1,5 @@
 -- Expressions that are kept of a list: what holds of each, their names, leaves and height.
-use Rattle.std.proofs.Common.{◌≡◌, ℕ, suc, ◌&&◌, Bool, true, false, cond, List, [], ◌∷◌, ◌++◌, refl, sym, ap, ap₂, ◌∙◌, subst, inl, inr, ◌⊎◌, ⊎_elim, is_some, append-nil}
+use Rattle.std.proofs.Common.{◌≡◌, ℕ, suc, ◌&&◌, Bool, true, false, cond, List, [], ◌∷◌, ◌++◌, refl, sym, ap, ap₂, ◌∙◌, subst, inl, inr, ◌⊎◌, ⊎_elim, is_some, append-nil, map}
 use Rattle.std.specs.List.{AllByRecursion, IsDistinct, filter as only_where}
 use Rattle.std.specs.Str.{bytes_eq}
 use Rattle.std.proofs.lemmas.Bool.{both_ways, and_parts, and_from, or_parts, not-true, false_from_ne_true, cond-true}
@@ -10,15 +10,14 @@ use Rattle.plan_expr.specs.Exprs.{Named}
 use Rattle.plan_expr.specs.Leaves.{Name, leaves}
 use Rattle.plan_expr.specs.Naming.{name_of}
 use Rattle.plan_expr.specs.Scalars.{is_scalar}
-use Rattle.plan_meaning.specs.Exprs.{all_known}
-use Rattle.plan_meaning.specs.Typing.{AllHold, each_new, out_names}
-use Rattle.plan_meaning.specs.Steps.{all_scalar}
+use Rattle.plan_frame.specs.Exprs.{all_known}
+use Rattle.plan_meaning.specs.Typing.{AllHold, each_new}
+use Rattle.plan_frame.specs.ExprLists.{out_names, all_scalar, first_many, all_leaves}
 use Rattle.plan_meaning.specs.Relating.{Asked, all}
-use Rattle.plan_meaning.specs.Counting.{first_many}
-use Rattle.plan_meaning.specs.Asked.{is_asked, kept_exprs, selected_exprs, all_leaves}
-use Rattle.plan_meaning.proofs.NameSets.{named, has_cons, has_first, has_later, has_front, has_either, has-append}
+use Rattle.plan_meaning.specs.Asked.{is_asked, kept_exprs, selected_exprs}
+use Rattle.plan_frame.proofs.NameSets.{named, has_cons, has_first, has_later, has_front, has_either, has-append}
 use Rattle.plan_meaning.proofs.CheckParts.{known_leaf, pass_names}
-use Rattle.plan_meaning.proofs.MadeColumns.{first_apart}
+use Rattle.plan_meaning.proofs.KeptColumns.{first_apart}
 
 pub all_append : {X : Type 0} (P : X → Type 0) (xs ys : List X) → AllByRecursion P xs → AllByRecursion P ys → AllByRecursion P (xs ++ ys)
 all_append P [] ys h k = k
@@ -230,3 +229,14 @@ selected-all es = ap (λ (ks : List Named). cond (all_scalar ks) (ks ++ first_ma
     at : (t : Bool) → all_scalar es ≡ t → cond t (es ++ first_many es) es ≡ es
     at true s = ap (λ (x : List Named). es ++ x) (first-none es s) ∙ append-nil es
     at false s = refl
+
+-- aggregates that are kept are kept however they are written
+pub kept-named : (f : Named → Named) → ((e : Named) → (f e).name ≡ e.name) → (a : Asked) (es : List Named) → kept_exprs a (map f es) ≡ map f (kept_exprs a es)
+kept-named f same a [] = refl
+kept-named f same a (e ∷ es) =
+    ap (λ (b : Bool). cond b (f e ∷ kept_exprs a (map f es)) (kept_exprs a (map f es))) (ap (λ n. is_asked a (name_of n)) (same e))
+    ∙ at (is_asked a (name_of e.name)) (kept-named f same a es)
+  where
+    at : (b : Bool) → kept_exprs a (map f es) ≡ map f (kept_exprs a es) → cond b (f e ∷ kept_exprs a (map f es)) (kept_exprs a (map f es)) ≡ map f (cond b (e ∷ kept_exprs a es) (kept_exprs a es))
+    at true r = ap (λ (l : List Named). f e ∷ l) r
+    at false r = r

@@ -4,7 +4,7 @@ use Rattle.plan_core.specs.Columns.{Columns}
 use Rattle.plan_tree.specs.Rose.{Roses, rose, no_roses, more}
 use Rattle.plan_ir.specs.Plans.{Op, Plan}
 use Rattle.plan_meaning.specs.Typing.{schema_by, schemas, checks, AllHold, AllValid}
-use Rattle.plan_meaning.specs.Frames.{Frame}
+use Rattle.plan_frame.specs.Frames.{Frame}
 use Rattle.plan_meaning.specs.Contents.{Contents, FitsAll}
 use Rattle.plan_meaning.specs.Steps.{MayAll, May, IsValid}
 use Rattle.plan_meaning.specs.Relating.{Refines, Relates, Replaced, ReplacedAll}

@@ -4,11 +4,12 @@ use Rattle.plan_core.specs.Columns.{Columns}
 use Rattle.plan_tree.specs.Rose.{Roses, rose, no_roses, more}
 use Rattle.plan_ir.specs.Plans.{Op, Plan}
 use Rattle.plan_meaning.specs.Typing.{schema_by, schema, schemas, checks, AllHold, AllValid}
-use Rattle.plan_meaning.specs.Frames.{Frame}
+use Rattle.plan_frame.specs.Frames.{Frame}
 use Rattle.plan_meaning.specs.Contents.{Contents, FitsAt, FitsAll, Fits}
 use Rattle.plan_meaning.specs.Steps.{Step, MayAll, May, IsValid}
 use Rattle.plan_meaning.specs.Relating.{Relates}
-use Rattle.plan_meaning.proofs.Runs.{valid_runs, HaveSchemas, may_have_all}
+use Rattle.plan_meaning.proofs.Runs.{valid_runs, may_have_all}
+use Rattle.plan_frame.proofs.TurnLemmas.{HaveSchemas}
 
 -- one relation after another
 pub relates_trans : (S T U : Columns → Columns → Type 0) (F G H : Frame → Frame → Type 0) → ((r s t : Columns) → S r s → T s t → U r t) → ((f g h : Frame) → F f g → G g h → H f h) → (r q p : Plan) → Relates S F r q → Relates T G q p → Relates U H r p

@@ -1,5 +1,5 @@
 -- What a node gives has its columns, and it gives something; so for plans.
-use Rattle.std.proofs.Common.{◌≡◌, ℕ, ◌&&◌, Bool, true, false, cond, List, [], ◌∷◌, map, Option, Some, None, is_some, unwrap_or, refl, sym, ap, subst}
+use Rattle.std.proofs.Common.{◌≡◌, ℕ, ◌&&◌, true, false, List, [], ◌∷◌, map, Option, Some, None, unwrap_or, refl, sym, ap, subst}
 use Rattle.std.specs.List.{AllByRecursion, range_with_len}
 use Rattle.std.proofs.lemmas.List.Sorted.{IsPermutation-refl}
 use Rattle.std.proofs.lemmas.Bool.{and_parts}
@@ -9,34 +9,32 @@ use Rattle.plan_core.specs.Columns.{Columns, names_of, type_of}
 use Rattle.plan_tree.specs.Rose.{Roses, rose, no_roses, more}
 use Rattle.plan_expr.specs.Exprs.{Named}
 use Rattle.plan_ir.specs.Plans.{Op, slice, filter, scan, frame_scan, simple_projection, select, hstack, sort, group_by, distinct, map_function, sink, union, hconcat, cache, Plan}
-use Rattle.plan_core.specs.declared.data_type.DataType.TheVariants as types
 use Rattle.plan_expr.specs.Leaves.{Name}
-use Rattle.plan_expr.specs.Naming.{name_of}
-use Rattle.plan_expr.specs.Scalars.{is_scalar}
 use Rattle.plan_expr.specs.Types.{is_plain}
-use Rattle.plan_meaning.specs.Exprs.{expr_type}
+use Rattle.plan_frame.specs.Exprs.{expr_type}
 use Rattle.plan_meaning.specs.Functions.{function_schema}
 use Rattle.plan_options.specs.declared.distinct.UniqueKeepStrategy.TheVariants.{First}
-use Rattle.plan_meaning.specs.Grouping.{gathered, group_exprs, row_exprs}
+use Rattle.plan_frame.specs.Grouping.{group_exprs}
 use Rattle.plan_meaning.specs.Mapped.{mapped}
-use Rattle.plan_meaning.specs.Typing.{each, is_known, is_column, columns_or, file_columns, has_columns, put_out_checks, is_plain_type, first_schema, made_schema, schema_by, side_by_side, schema, schemas, checks, AllHold, AllValid}
-use Rattle.plan_meaning.specs.Frames.{Frame, Column, HaveTypes, HasSchema, Holds, HoldsAll, with_columns, cut, in_turn, beside}
-use Rattle.plan_meaning.specs.Meaning.{are_alike, val, filled}
-use Rattle.plan_meaning.specs.Orders.{key_cells, rows_cmp, told_columns}
-use Rattle.plan_meaning.specs.Contents.{Contents, Source, frame_or, no_frame, handed_in, HasFrame, HasHandedIn, sources_of, frames_of, stack, FitsAt, FitsAll, Fits}
-use Rattle.plan_meaning.specs.Steps.{Step, MayAll, May, IsValid, filtered, true_rows, slice_rows, all_scalar, made_columns, made, selected, grouped}
-use Rattle.plan_meaning.specs.Frames.{rows_at}
-use Rattle.std.proofs.lemmas.Bool.{and_parts as parts_of}
-use Rattle.plan_meaning.proofs.FrameLemmas.{rows_schema, schema_holds, all_hold, cut_schema, stack_has, is_type_some, with_has}
-use Rattle.plan_meaning.proofs.Sound.{val_sound, val_single, Fills, cell_fills, one_fills}
+use Rattle.plan_meaning.specs.Typing.{each, is_known, is_column, columns_or, file_columns, has_columns, put_out_checks, is_plain_type, first_schema, schema_by, schema, schemas, checks, AllHold, AllValid}
+use Rattle.plan_frame.specs.Made.{made_schema, made, selected, grouped}
+use Rattle.plan_frame.specs.Beside.{side_by_side}
+use Rattle.plan_frame.specs.Frames.{Frame, HasSchema, Holds, HoldsAll, with_columns, cut, in_turn, beside, stack, rows_at}
+use Rattle.plan_frame.specs.Meaning.{are_alike, val}
+use Rattle.plan_frame.specs.Orders.{key_cells, rows_cmp, told_columns}
+use Rattle.plan_meaning.specs.Contents.{Contents, Source, frame_or, no_frame, handed_in, HasFrame, HasHandedIn, sources_of, frames_of, FitsAt, FitsAll, Fits}
+use Rattle.plan_meaning.specs.Steps.{Step, MayAll, May, IsValid}
+use Rattle.plan_frame.specs.Rows.{filtered, true_rows, slice_rows}
+use Rattle.plan_frame.proofs.FrameLemmas.{rows_schema, schema_holds, all_hold, cut_schema, stack_has, is_type_some}
+use Rattle.plan_frame.proofs.Sound.{val_sound}
 use Rattle.plan_meaning.proofs.CheckParts.{hold_back, each_pass, scan_good, FrameGood, frame_good, made_good, keys_good}
-use Rattle.plan_meaning.proofs.KeptRows.{alike_equivalence, kept_exists}
-pub use Rattle.plan_meaning.proofs.UnionLemmas.{HaveSchemas}
+use Rattle.plan_frame.proofs.KeptRows.{alike_equivalence, kept_exists}
+use Rattle.plan_frame.proofs.TurnLemmas.{HaveSchemas}
 use Rattle.plan_meaning.proofs.UnionLemmas.{union_has}
-use Rattle.plan_meaning.proofs.GroupLemmas.{all_front, row-schema, rows_typed}
-use Rattle.plan_meaning.proofs.BesideLemmas.{beside_has}
+use Rattle.plan_frame.proofs.BesideLemmas.{beside_has}
 use Rattle.plan_meaning.proofs.FunctionLemmas.{mapped_has}
-use Rattle.plan_meaning.proofs.OrderLemmas.{IsKey, rows_total, sorted_exists}
+use Rattle.plan_frame.proofs.OrderLemmas.{IsKey, rows_total, sorted_exists}
+use Rattle.plan_frame.proofs.MadeLemmas.{made_have, typed_fill, selected_has, grouped_has}
 
 -- a frame that has columns holds those that are among them
 among_hold : (holds : Name → DataType → Type 0) (s cs : Columns) → ((a : Name) (t : DataType) → type_of s a ≡ Some t → holds a t) → AllByRecursion (λ (c : Name × DataType). is_column s c ≡ true) cs → AllByRecursion (λ (c : Name × DataType). holds c.0 c.1) cs
@@ -75,46 +73,6 @@ handed_holds c None (s ∷ schema) output g h = let n = g.number in absurd (no n
   where
     no : false ≡ true → ⊥
     no e = cc
-
--- the columns that expressions make, beside others
-made_have : (h : ℕ) (g : Frame) (s : Columns) (es : List Named) (cs : List Column) (base : Columns) → HaveTypes h cs base → AllByRecursion (λ (e : Named). Fills (unwrap_or (expr_type e.expr s) types.Int64) h (val e.expr g)) es → HaveTypes h (with_columns cs (made_columns h g es)) (made_schema base es s)
-made_have h g s [] cs base k a = k
-made_have h g s (e ∷ es) cs base k a =
-    made_have h g s es _ _ (with_has h cs base (record { name = name_of e.name; values = filled h (val e.expr g) }) (unwrap_or (expr_type e.expr s) types.Int64) k a.0.0 a.0.1) a.1
-
-typed_some : (o : Option DataType) → is_some o ≡ true → o ≡ Some (unwrap_or o types.Int64)
-typed_some None e = cc
-typed_some (Some t) e = refl
-
--- expressions that have types fill columns as high as the frame
-typed_fill : (g : Frame) (s : Columns) (es : List Named) → HasSchema g s → AllByRecursion (λ (e : Named). is_some (expr_type e.expr s) ≡ true) es → AllByRecursion (λ (e : Named). Fills (unwrap_or (expr_type e.expr s) types.Int64) g.height (val e.expr g)) es
-typed_fill g s [] has a = tt
-typed_fill g s (e ∷ es) has a =
-    let t = unwrap_or (expr_type e.expr s) types.Int64 in
-    (cell_fills t g.height (val e.expr g) ((val_sound s e.expr).by g t has (typed_some (expr_type e.expr s) a.0)), typed_fill g s es has a.1)
-
--- and where they are scalar, columns of any height
-scalar_fill : (h : ℕ) (g : Frame) (s : Columns) (es : List Named) → HasSchema g s → all_scalar es ≡ true → AllByRecursion (λ (e : Named). is_some (expr_type e.expr s) ≡ true) es → AllByRecursion (λ (e : Named). Fills (unwrap_or (expr_type e.expr s) types.Int64) h (val e.expr g)) es
-scalar_fill h g s [] has q a = tt
-scalar_fill h g s (e ∷ es) has q a =
-    let t = unwrap_or (expr_type e.expr s) types.Int64 in
-    let p = parts_of (is_scalar e.expr) (all_scalar es) q in
-    (one_fills t h g.height (val e.expr g) ((val_single e.expr p.0).at g) ((val_sound s e.expr).by g t has (typed_some (expr_type e.expr s) a.0)), scalar_fill h g s es has p.1 a.1)
-
--- a selection has a column for each expression
-selected_has : (g : Frame) (s : Columns) (es : List Named) → HasSchema g s → AllByRecursion (λ (e : Named). is_some (expr_type e.expr s) ≡ true) es → HasSchema (selected es g) (made_schema [] es s)
-selected_has g s es has a = at (all_scalar es) refl
-  where
-    at : (b : Bool) → all_scalar es ≡ b → HasSchema (made (cond b 1 g.height) [] es g) (made_schema [] es s)
-    at true q = made_have 1 g s es [] [] tt (scalar_fill 1 g s es has q a)
-    at false q = made_have g.height g s es [] [] tt (typed_fill g s es has a)
-
--- a grouping has a column for each key, and for each aggregate
-grouped_has : (keys aggs : List Named) (rows : List ℕ) (g : Frame) (s : Columns) → HasSchema g s → AllByRecursion (λ (e : Named). is_some (expr_type e.expr s) ≡ true) (group_exprs keys aggs) → HasSchema (grouped keys aggs rows g) (made_schema [] (group_exprs keys aggs) s)
-grouped_has keys aggs rows g s has a =
-    let by_row = made_have g.height g s (row_exprs keys aggs) [] [] tt (typed_fill g s (row_exprs keys aggs) has (rows_typed keys aggs s a)) in
-    let typed = all_front (λ (e : Named). is_some (expr_type e.expr s) ≡ true) keys (map gathered aggs) a in
-    rows_schema rows (made g.height [] (row_exprs keys aggs) g) (made_schema [] (group_exprs keys aggs) s) (subst (HasSchema (made g.height [] (row_exprs keys aggs) g)) (row-schema keys s typed [] aggs) by_row)
 
 -- what keys are over a frame
 plain_some : (o : Option DataType) → is_plain_type o ≡ true → (t : DataType) × (o ≡ Some t) × (is_plain t ≡ true)

@@ -9,11 +9,14 @@ use Rattle.plan_expr.specs.Leaves.{Name}
 use Rattle.plan_expr.specs.Naming.{name_of}
 use Rattle.plan_expr.specs.Scalars.{is_scalar}
 use Rattle.plan_ir.specs.Plans.{Op, slice, filter, scan, frame_scan, simple_projection, select, hstack, sort, group_by, distinct, map_function, sink, union, hconcat, cache, invalid}
-use Rattle.plan_meaning.specs.Typing.{first_schema, out_names, made_schema, schema_by, schemas, side_by_side}
+use Rattle.plan_meaning.specs.Typing.{first_schema, schema_by, schemas}
+use Rattle.plan_frame.specs.ExprLists.{out_names, first_many}
+use Rattle.plan_frame.specs.Made.{made_schema}
+use Rattle.plan_frame.specs.Beside.{side_by_side}
 use Rattle.plan_meaning.specs.Functions.{function_schema}
-use Rattle.plan_meaning.specs.Counting.{first_many, last_name, first_name, stand_in, stand_ins, first_stand_in}
-use Rattle.plan_meaning.proofs.NameSets.{has_first, has_later, some-type_of}
-use Rattle.plan_meaning.proofs.MadeColumns.{some-made}
+use Rattle.plan_meaning.specs.Counting.{last_name, first_name, stand_in, stand_ins, first_stand_in}
+use Rattle.plan_frame.proofs.NameSets.{has_first, has_later, some-type_of}
+use Rattle.plan_frame.proofs.MadeColumns.{some-made}
 
 -- what stands in is one of the columns, where anything does
 abbrev pub IsStandIn : Option Name → Columns → Type 0

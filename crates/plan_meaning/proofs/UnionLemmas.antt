@@ -1,5 +1,5 @@
 -- Unions: inputs with the same columns, and their rows in turn.
-use Rattle.std.proofs.Common.{◌≡◌, ℕ, ◌+◌, ◌<◌, Bool, true, false, not, arith, slice_index_or, List, [], ◌∷◌, ◌++◌, length, refl, sym, ap₂, ◌∙◌, subst, length-append}
+use Rattle.std.proofs.Common.{◌≡◌, ◌<◌, Bool, true, false, not, arith, slice_index_or, List, [], ◌∷◌, ◌++◌, length, refl, sym, ◌∙◌}
 use Rattle.std.specs.List.{AllByRecursion}
 use Rattle.std.proofs.lemmas.Bool.{and_parts}
 use Rattle.plan_core.specs.declared.error.PolarsError.TheVariants.{SchemaMismatch}
@@ -7,19 +7,9 @@ use Rattle.plan_core.specs.Columns.{Columns, same_columns}
 use Rattle.plan_options.specs.declared.union.UnionOptions.{UnionOptions}
 use Rattle.plan_ir.specs.Plans.{union}
 use Rattle.plan_meaning.specs.Typing.{checks, each, first_schema, is_built_union, is_empty, is_none, same_checks, AllHold}
-use Rattle.plan_meaning.specs.Frames.{Frame, Column, HaveTypes, HasSchema, appended_columns, appended, in_turn}
+use Rattle.plan_frame.specs.Frames.{Frame, HasSchema, in_turn}
 use Rattle.plan_meaning.proofs.CheckParts.{each_pass, pass_each, same_is, is_same}
-use Rattle.plan_meaning.proofs.FrameLemmas.{all_append}
-
--- frames have these columns, one for one
-abbrev pub HaveSchemas : List Frame → List Columns → Type 0
-HaveSchemas [] [] = Unit {0}
-HaveSchemas (f ∷ fs) (s ∷ ss) = HasSchema f s × HaveSchemas fs ss
-HaveSchemas _ _ = ⊥
-
--- all of some columns are these
-abbrev pub AllAre : Columns → List Columns → Type 0
-AllAre s ss = AllByRecursion (λ (t : Columns). t ≡ s) ss
+use Rattle.plan_frame.proofs.TurnLemmas.{HaveSchemas, AllAre, in_turn_has}
 
 passed : (s : Columns) (ss : List Columns) → AllByRecursion (λ (t : Columns). same_columns s t ≡ true) ss → AllAre s ss
 passed s [] h = tt
@@ -54,27 +44,6 @@ union_whole options ss good = (and_parts (not (is_empty ss)) (is_none options.sl
 pub union_good : (options : UnionOptions) (s : Columns) (ss : List Columns) → is_none options.slice ≡ true → AllAre s (s ∷ ss) → AllHold (checks (union options) (s ∷ ss))
 unfolding is_built_union same_checks
 union_good options s ss whole h = (whole, pass_each SchemaMismatch 1 (same_columns s) (s ∷ ss) (pass s (s ∷ ss) h))
-
--- frames with the same columns have them in turn
-
-appended_have : (h i : ℕ) (cs ds : List Column) (s : Columns) → HaveTypes h cs s → HaveTypes i ds s → HaveTypes (h + i) (appended_columns cs ds) s
-appended_have h i [] [] [] p q = tt
-appended_have h i (c ∷ cs) (d ∷ ds) (x ∷ s) p q =
-    (p.0, length-append c.values d.values ∙ ap₂ (λ (m n : ℕ). m + n) p.1 q.1, all_append x.1 c.values d.values p.2 q.2, appended_have h i cs ds s p.3 q.3)
-appended_have h i [] (d ∷ ds) [] p q = absurd q
-appended_have h i [] ds (x ∷ s) p q = absurd p
-appended_have h i (c ∷ cs) ds [] p q = absurd p
-appended_have h i (c ∷ cs) [] (x ∷ s) p q = absurd q
-
-pub appended_has : (f g : Frame) (s : Columns) → HasSchema f s → HasSchema g s → HasSchema (appended f g) s
-appended_has f g s p q = appended_have f.height g.height f.columns g.columns s p q
-
-pub in_turn_has : (s t : Columns) (ss : List Columns) (fs : List Frame) → AllAre s (t ∷ ss) → HaveSchemas fs (t ∷ ss) → HasSchema (in_turn fs) s
-in_turn_has s t ss [] e h = absurd h
-in_turn_has s t [] (f ∷ []) e h = subst (HasSchema f) e.0 h.0
-in_turn_has s t (u ∷ ss) (f ∷ g ∷ fs) e h = appended_has f (in_turn (g ∷ fs)) s (subst (HasSchema f) e.0 h.0) (in_turn_has s u ss (g ∷ fs) e.1 h.1)
-in_turn_has s t [] (f ∷ g ∷ fs) e h = absurd h.1
-in_turn_has s t (u ∷ ss) (f ∷ []) e h = absurd h.1
 
 -- what the inputs of a valid union give has its columns in turn
 pub union_has : (options : UnionOptions) (ss : List Columns) (fs : List Frame) → AllHold (checks (union options) ss) → HaveSchemas fs ss → HasSchema (in_turn fs) (first_schema ss)

@@ -1,6 +1,6 @@
 -- Unpivots: what their checks say, that what they give has its columns, what they ask, and their columns as these are made.
-use Rattle.std.proofs.Common.{◌≡◌, ℕ, suc, ◌+◌, ◌*◌, Bool, true, false, cond, List, [], ◌∷◌, ◌++◌, length, length-append, replicate, Option, Some, None, is_some, unwrap_or, refl, sym, ap₂, ◌∙◌, subst, arith, ⊎_elim}
-use Rattle.std.specs.List.{AllByRecursion, flat_map, list_all}
+use Rattle.std.proofs.Common.{◌≡◌, suc, ◌*◌, Bool, true, false, cond, List, [], ◌∷◌, ◌++◌, length, replicate, Option, Some, None, is_some, unwrap_or, refl, sym, ◌∙◌, subst, ⊎_elim}
+use Rattle.std.specs.List.{AllByRecursion, list_all}
 use Rattle.std.proofs.lemmas.Bool.{and_parts, not-true}
 use Rattle.std.proofs.lemmas.List.{length-replicate}
 use Rattle.plan_core.specs.declared.data_type.DataType.{DataType}
@@ -10,15 +10,17 @@ use Rattle.plan_core.specs.Columns.{Columns, names_of, type_of}
 use Rattle.plan_core.specs.Names.{has, with_names, AreDistinct}
 use Rattle.plan_ir.specs.declared.functions.UnpivotArgsIR.{UnpivotArgsIR}
 use Rattle.plan_expr.specs.Leaves.{Name}
-use Rattle.plan_meaning.specs.Functions.{value_names, variable_name, value_name, unpivoted_names, all_differ, type_or, columns_at, first_type, unpivoted_columns}
+use Rattle.plan_meaning.specs.Functions.{value_names, variable_name, value_name, unpivoted_names, all_differ, first_type, unpivoted_columns}
+use Rattle.plan_frame.specs.Reshaped.{type_or, columns_at, repeated, names_down, values_down}
 use Rattle.plan_meaning.specs.Typing.{Check, check, each, is_column, is_empty, is_known, unpivot_name_checks, unpivot_type_checks, unpivot_checks, AllHold}
-use Rattle.plan_meaning.specs.Values.{Value, text, AllOf}
-use Rattle.plan_meaning.specs.Frames.{Frame, Column, column_names, column_or, table_columns, HaveTypes, HasSchema}
-use Rattle.plan_meaning.specs.Mapped.{repeated, names_down, values_down, unpivoted}
+use Rattle.plan_frame.specs.Values.{text}
+use Rattle.plan_frame.specs.Frames.{Frame, column_or, table_columns, HaveTypes, HasSchema}
+use Rattle.plan_meaning.specs.Mapped.{unpivoted}
 use Rattle.plan_meaning.specs.Asked.{unpivot_names}
-use Rattle.plan_meaning.proofs.NameSets.{has_either, from_names, distinct_names, distinct_none, some-type_of}
+use Rattle.plan_frame.proofs.NameSets.{has_either, from_names, distinct_names, distinct_none, some-type_of}
 use Rattle.plan_meaning.proofs.CheckParts.{hold_front, hold_back, each_pass, name_passes}
-use Rattle.plan_meaning.proofs.FrameLemmas.{all_append, holds_or, is_type_some, replicate_of, schema_holds, weaker}
+use Rattle.plan_frame.proofs.FrameLemmas.{is_type_some, replicate_of, weaker}
+use Rattle.plan_frame.proofs.ReshapedLemmas.{names-shown, have_append, IsFilled, tables_have, flat_filled, each_of, typed_filled}
 
 -- what the checks on an unpivot say, part by part
 pub record UnpivotGood (args : UnpivotArgsIR) (s : Columns) : Type 0 where
@@ -53,60 +55,6 @@ unpivot_good args s h =
       alike = all_pass has_type names typed.0;
       differ = apart.0;
     }
-
--- lists one after another
-
-flat_length : {X Y : Type 0} (f : X → List Y) (h : ℕ) (xs : List X) → AllByRecursion (λ (x : X). length (f x) ≡ h) xs → length (flat_map f xs) ≡ length xs * h
-flat_length f h [] k = omega arith
-flat_length f h (x ∷ xs) k =
-    let here = k.0 in
-    let later = flat_length f h xs k.1 in
-    omega (arith, length-append (f x) (flat_map f xs))
-
-flat_of : {X : Type 0} (t : DataType) (f : X → List Value) (xs : List X) → AllByRecursion (λ (x : X). AllOf t (f x)) xs → AllOf t (flat_map f xs)
-flat_of t f [] k = tt
-flat_of t f (x ∷ xs) k = all_append t (f x) (flat_map f xs) k.0 (flat_of t f xs k.1)
-
--- columns
-
-columns_named : (h : ℕ) (cs : List Column) (s : Columns) → HaveTypes h cs s → column_names cs ≡ names_of s
-columns_named h [] [] k = refl
-columns_named h (c ∷ cs) (s ∷ ss) k = ap₂ (λ (a : Name) (l : List Name). a ∷ l) k.0 (columns_named h cs ss k.3)
-columns_named h [] (s ∷ ss) k = absurd k
-columns_named h (c ∷ cs) [] k = absurd k
-
--- the columns of a frame have the names of its schema
-pub names-shown : (g : Frame) (s : Columns) → HasSchema g s → column_names g.columns ≡ names_of s
-names-shown g s k = columns_named g.height g.columns s k
-
-have_append : (h : ℕ) (cs ds : List Column) (s t : Columns) → HaveTypes h cs s → HaveTypes h ds t → HaveTypes h (cs ++ ds) (s ++ t)
-have_append h [] ds [] t k l = l
-have_append h (c ∷ cs) ds (s ∷ ss) t k l = (k.0, k.1, k.2, have_append h cs ds ss t k.3 l)
-have_append h [] ds (s ∷ ss) t k l = absurd k
-have_append h (c ∷ cs) ds [] t k l = absurd k
-
--- a column of so many rows is of a type
-pub record IsFilled (t : DataType) (h : ℕ) (vs : List Value) : Type 0 where
-  pub long : length vs ≡ h
-  pub typed : AllOf t vs
-
-tables_have : (h : ℕ) (s : Columns) (v : Name → List Value) (names : List Name) → AllByRecursion (λ (a : Name). IsFilled (type_or s a) h (v a)) names → HaveTypes h (table_columns names v) (columns_at s names)
-tables_have h s v [] k = tt
-tables_have h s v (a ∷ names) k = (refl, k.0.long, k.0.typed, tables_have h s v names k.1)
-
--- columns of one type one after another
-flat_filled : (t : DataType) (h : ℕ) (f : Name → List Value) (names : List Name) → AllByRecursion (λ (a : Name). IsFilled t h (f a)) names → IsFilled t (length names * h) (flat_map f names)
-flat_filled t h f names k = record {
-  long = flat_length f h names (weaker (λ (a : Name). IsFilled t h (f a)) (λ (a : Name). length (f a) ≡ h) names (λ a i. i.long) k);
-  typed = flat_of t f names (weaker (λ (a : Name). IsFilled t h (f a)) (λ (a : Name). AllOf t (f a)) names (λ a i. i.typed) k);
-}
-
-each_of : {X : Type 0} (P : X → Type 0) (xs : List X) → ((x : X) → P x) → AllByRecursion P xs
-each_of P [] by = tt
-each_of P (x ∷ xs) by = (by x, each_of P xs by)
-
-typed_filled : (g : Frame) (s : Columns) (a : Name) (t : DataType) → HasSchema g s → type_of s a ≡ Some t → IsFilled t g.height (column_or g a)
-typed_filled g s a t k e = let h = holds_or g (a, t) (schema_holds g s a t k e) in record { long = h.0; typed = h.1 }
 
 known_type : (s : Columns) (a : Name) → is_known s a ≡ true → type_of s a ≡ Some (type_or s a)
 known_type s a e = at (type_of s a) e

@@ -9,13 +9,14 @@ use Rattle.plan_expr.specs.Exprs.{Named}
 use Rattle.plan_ir.specs.Plans.{Op, slice, filter, scan, frame_scan, simple_projection, select, hstack, sort, group_by, distinct, map_function, sink, union, hconcat, cache, invalid, Plan}
 use Rattle.plan_expr.specs.Leaves.{Name, leaves}
 use Rattle.plan_expr.specs.Naming.{name_of}
-use Rattle.plan_meaning.specs.Typing.{is_empty, names_or, columns_or, file_columns, first_schema, schema_by, schemas}
+use Rattle.plan_meaning.specs.Typing.{is_empty, columns_or, file_columns, first_schema, schema_by, schemas}
+use Rattle.plan_frame.specs.Frames.{names_or}
 use Rattle.plan_ir.specs.declared.functions.FunctionIR.{FunctionIR}
 use Rattle.plan_ir.specs.declared.functions.FunctionIR.TheVariants.{Rename, RowIndex, Unpivot, Explode}
 use Rattle.plan_ir.specs.declared.functions.UnpivotArgsIR.{UnpivotArgsIR}
 use Rattle.plan_meaning.specs.Functions.{renamed, former}
-use Rattle.plan_meaning.specs.Steps.{all_scalar}
-use Rattle.plan_meaning.specs.Counting.{first_many, counts_rows, stand_ins, first_stand_in, stand_in_names}
+use Rattle.plan_frame.specs.ExprLists.{all_scalar, first_many, counts_rows, all_leaves}
+use Rattle.plan_meaning.specs.Counting.{stand_ins, first_stand_in, stand_in_names}
 use Rattle.plan_meaning.specs.Relating.{Asked, all, names, cached}
 
 -- the names that are asked, where not everything is
@@ -58,11 +59,6 @@ kept_exprs a es = only_where (λ (e : Named). is_asked a (name_of e.name)) es
 -- what a selection keeps: the expressions that are asked; where these are scalar throughout, the first that isn't too, last, since the height is its
 abbrev pub selected_exprs : Asked → List Named → List Named
 selected_exprs a es = if all_scalar (kept_exprs a es) then kept_exprs a es ++ first_many es else kept_exprs a es
-
--- the names that expressions read
-abbrev pub all_leaves : List Named → List Name
-all_leaves [] = []
-all_leaves (e ∷ es) = leaves e.expr ++ all_leaves es
 
 -- the names that a selection of the first expressions needs where it keeps the last: a count of rows the column that stands in for them, else what the kept ones read
 abbrev pub needed_names : List Named → Option Name → List Named → List Name

@@ -1,5 +1,5 @@
 -- Contents: what the sources of scans hold, and when they fit a plan.
-use Rattle.std.specs.Prelude.{◌≡◌, ℕ, ◌+◌, ◌==◌, Bool, false, List, [], ◌∷◌, ◌++◌, map, Option, Some, None, unwrap_or}
+use Rattle.std.specs.Prelude.{◌≡◌, ℕ, ◌==◌, Bool, false, List, [], map, Option, Some, None, unwrap_or}
 use Rattle.std.specs.List.{AllByRecursion}
 use Rattle.std.specs.Map.{lookup}
 use Rattle.std.specs.Str.{bytes_eq}
@@ -9,8 +9,7 @@ use Rattle.plan_ir.specs.declared.scan.ScanSources.{ScanSources}
 use Rattle.plan_ir.specs.declared.scan.ScanSources.TheVariants.{Paths}
 use Rattle.plan_ir.specs.Plans.{Op, slice, filter, scan, frame_scan, simple_projection, select, hstack, sort, group_by, distinct, map_function, sink, union, hconcat, cache, invalid, Plan}
 use Rattle.plan_expr.specs.Leaves.{Name}
-use Rattle.plan_meaning.specs.Values.{Value}
-use Rattle.plan_meaning.specs.Frames.{Frame, IsFrame, HoldsAll, column_or, table}
+use Rattle.plan_frame.specs.Frames.{Frame, IsFrame, HoldsAll}
 use Rattle.plan_meaning.specs.Typing.{file_columns}
 
 -- where a frame comes from: a path, a buffer by its number, or a frame that was handed in, by its number
@@ -94,17 +93,3 @@ FitsAll c (more (rose n op ts) rest) = FitsAt c op × FitsAll c ts × FitsAll c 
 -- contents fit each node of a plan
 abbrev pub Fits : Contents → Plan → Type 0
 Fits c (rose n op ts) = FitsAt c op × FitsAll c ts
-
--- the heights of frames, summed
-abbrev pub total_height : List Frame → ℕ
-total_height [] = 0
-total_height (f ∷ fs) = f.height + total_height fs
-
--- the columns of one name, one frame after another
-abbrev pub stacked : List Frame → Name → List Value
-stacked [] a = []
-stacked (f ∷ fs) a = column_or f a ++ stacked fs a
-
--- frames one after another, cut to these names
-abbrev pub stack : List Name → List Frame → Frame
-stack names fs = table (total_height fs) names (stacked fs)

@@ -1,23 +1,13 @@
 -- Where a plan counts rows, and the column that stands in for the rows that are counted.
-use Rattle.std.specs.Prelude.{Bool, true, false, not, ◌&&◌, ◌||◌, List, [], ◌∷◌, Option, Some, None, if◌then◌else◌}
+use Rattle.std.specs.Prelude.{Bool, true, false, not, ◌&&◌, ◌||◌, List, [], ◌∷◌, Option, Some, None}
 use Rattle.plan_core.specs.Columns.{Columns}
 use Rattle.plan_tree.specs.Rose.{Roses, rose, no_roses, more}
-use Rattle.plan_expr.specs.Exprs.{len as row_count, Expr, Named}
+use Rattle.plan_expr.specs.Exprs.{Named}
 use Rattle.plan_expr.specs.Leaves.{Name}
 use Rattle.plan_expr.specs.Naming.{name_of}
-use Rattle.plan_expr.specs.Scalars.{is_scalar}
 use Rattle.plan_ir.specs.Plans.{Op, select, hstack, cache, Plan}
 use Rattle.plan_meaning.specs.Typing.{first_schema}
-
--- whether an expression is the number of rows
-abbrev pub is_len : Expr → Bool
-is_len (rose n row_count no_roses) = true
-is_len e = false
-
--- whether expressions are the number of rows alone
-abbrev pub counts_rows : List Named → Bool
-counts_rows (e ∷ []) = is_len e.expr
-counts_rows es = false
+use Rattle.plan_frame.specs.ExprLists.{counts_rows, first_many}
 
 -- whether a node counts the rows of its input: a selection of their number alone does
 abbrev pub is_count : Op → Bool
@@ -37,11 +27,6 @@ meet_count (more (rose n op ts) rest) = is_count op || ((not (is_closed op) && m
 -- whether a node of a plan counts rows, and doesn't stand below a cache
 abbrev pub meets_count : Plan → Bool
 meets_count p = meet_count (more p no_roses)
-
--- the first expression that isn't scalar, if there is one
-abbrev pub first_many : List Named → List Named
-first_many [] = []
-first_many (e ∷ es) = if is_scalar e.expr then first_many es else e ∷ []
 
 -- the name of the last column, if there is one
 abbrev pub last_name : Columns → Option Name

@@ -3,13 +3,14 @@ use Rattle.std.specs.Prelude.{Bool, true, not, ◌&&◌, List, [], ◌∷◌, �
 use Rattle.std.specs.List.{filter as only_where, list_any}
 use Rattle.std.specs.Str.{bytes_eq}
 use Rattle.plan_core.specs.declared.data_type.DataType.{DataType}
-use Rattle.plan_core.specs.declared.data_type.DataType.TheVariants.{Int64, String, Boolean, List as ListOf}
-use Rattle.plan_core.specs.Columns.{Columns, names_of, type_of, plain}
+use Rattle.plan_core.specs.declared.data_type.DataType.TheVariants.{Int64, String}
+use Rattle.plan_core.specs.Columns.{Columns, names_of}
 use Rattle.plan_core.specs.Names.{has}
 use Rattle.plan_ir.specs.declared.functions.FunctionIR.{FunctionIR}
 use Rattle.plan_ir.specs.declared.functions.FunctionIR.TheVariants.{Rename, RowIndex, Unpivot, Explode}
 use Rattle.plan_ir.specs.declared.functions.UnpivotArgsIR.{UnpivotArgsIR}
 use Rattle.plan_expr.specs.Leaves.{Name}
+use Rattle.plan_frame.specs.Reshaped.{renamed_columns, type_or, columns_at, exploded_columns}
 
 -- the new name at the place of the first of some names that is this one, if one is
 abbrev pub new_name : (existing new : List Name) → Name → Option Name
@@ -43,10 +44,6 @@ abbrev pub stay_apart : (Name → Name) → List Name → Bool
 stay_apart now [] = true
 stay_apart now (a ∷ names) = not (list_any (become_one now a) names) && stay_apart now names
 
--- the columns under other names
-abbrev pub renamed_columns : (Name → Name) → Columns → Columns
-renamed_columns now s = map (λ (c : Name × DataType). (now c.0, c.1)) s
-
 -- the names that are told where some are, else the others
 abbrev pub told_names : (told others : List Name) → List Name
 told_names [] others = others
@@ -73,14 +70,6 @@ abbrev pub all_differ : List Name → Bool
 all_differ [] = true
 all_differ (a ∷ names) = not (has names a) && all_differ names
 
--- the type of a column, that of whole numbers where there is none
-abbrev pub type_or : Columns → Name → DataType
-type_or s a = unwrap_or (type_of s a) Int64
-
--- the columns of these names, in order
-abbrev pub columns_at : Columns → List Name → Columns
-columns_at s names = map (λ (a : Name). (a, type_or s a)) names
-
 -- the type of the first of these columns, that of whole numbers where there is none
 abbrev pub first_type : Columns → List Name → DataType
 first_type s [] = Int64
@@ -89,17 +78,6 @@ first_type s (a ∷ names) = type_or s a
 -- the columns of an unpivot: those that it repeats, the names of its value columns, and then their values
 abbrev pub unpivoted_columns : UnpivotArgsIR → Columns → Columns
 unpivoted_columns args s = columns_at s args.index ++ (variable_name args, String) ∷ (value_name args, first_type s (value_names args (names_of s))) ∷ []
-
--- the type of the values in a column's lists, the column's own where it has no lists
-abbrev pub item_type : DataType → DataType
-item_type Int64 = Int64
-item_type String = String
-item_type Boolean = Boolean
-item_type (ListOf t) = plain t
-
--- the columns, those of some names with the types of the values in their lists
-abbrev pub exploded_columns : List Name → Columns → Columns
-exploded_columns names s = map (λ (c : Name × DataType). (c.0, if has names c.0 then item_type c.1 else c.1)) s
 
 -- the columns that a function gives, from those of its input: a renaming the same under their new names, a numbering of the rows its own before them, an unpivot those that it repeats and its own two, an explode the same, with the types of the values in the lists that it takes apart
 abbrev pub function_schema : FunctionIR → Columns → Columns

@@ -1,16 +1,8 @@
 -- The definitions that contracts cite.
-pub mod Exprs
-pub mod Firsts
 pub mod Functions
-pub mod Grouping
 pub mod Typing
 pub mod TreeFaults
 pub mod Typed
-pub mod Values
-pub mod Frames
-pub mod Aggregates
-pub mod Meaning
-pub mod Orders
 pub mod Contents
 pub mod Mapped
 pub mod Steps

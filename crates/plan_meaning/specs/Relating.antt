@@ -7,7 +7,7 @@ use Rattle.plan_tree.specs.Rose.{Roses, rose, no_roses, more}
 use Rattle.plan_ir.specs.Plans.{Op, Plan}
 use Rattle.plan_expr.specs.Leaves.{Name}
 use Rattle.plan_meaning.specs.Typing.{schema}
-use Rattle.plan_meaning.specs.Frames.{Frame, Agree}
+use Rattle.plan_frame.specs.Frames.{Frame, Agree}
 use Rattle.plan_meaning.specs.Contents.{Contents, Fits}
 use Rattle.plan_meaning.specs.Steps.{May, IsValid}
 

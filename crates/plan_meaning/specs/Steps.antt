@@ -1,21 +1,17 @@
 -- What a plan may give: a frame for each node, from those of its inputs.
-use Rattle.std.specs.Prelude.{◌≡◌, ℕ, ℤ, pos, negsuc, ◌+ℤ◌, ◌-◌, min, Bool, true, ◌&&◌, List, [], ◌∷◌, map, if◌then◌else◌}
-use Rattle.std.specs.List.{range_with_len}
+use Rattle.std.specs.Prelude.{◌≡◌, ℕ, List, [], ◌∷◌}
 use Rattle.plan_core.specs.Columns.{names_of}
 use Rattle.plan_tree.specs.Rose.{Roses, rose, no_roses, more}
-use Rattle.plan_expr.specs.Exprs.{Named, Expr}
 use Rattle.plan_ir.specs.Plans.{Op, slice, filter, scan, frame_scan, simple_projection, select, hstack, sort, group_by, distinct, map_function, sink, union, hconcat, cache, invalid, Plan}
-use Rattle.plan_expr.specs.Naming.{name_of}
-use Rattle.plan_expr.specs.Scalars.{is_scalar}
-use Rattle.plan_meaning.specs.Values.{is_true}
-use Rattle.plan_meaning.specs.Frames.{Frame, Column, rows_at, with_columns, cut, in_turn, beside}
-use Rattle.plan_meaning.specs.Meaning.{Cell, are_alike, val, value_at, filled, places_from}
+use Rattle.plan_frame.specs.Frames.{Frame, rows_at, cut, in_turn, beside, stack}
+use Rattle.plan_frame.specs.Meaning.{are_alike}
 use Rattle.plan_options.specs.declared.distinct.UniqueKeepStrategy.TheVariants.{First}
-use Rattle.plan_meaning.specs.Grouping.{row_exprs}
 use Rattle.plan_meaning.specs.Mapped.{mapped}
-use Rattle.plan_meaning.specs.Contents.{Contents, frames_of, handed_in, stack}
-use Rattle.plan_meaning.specs.Orders.{AreAll, AreKept, AreSorted, key_cells, rows_cmp, told_columns}
+use Rattle.plan_meaning.specs.Contents.{Contents, frames_of, handed_in}
+use Rattle.plan_frame.specs.Orders.{AreAll, AreKept, AreSorted, key_cells, rows_cmp, told_columns}
 use Rattle.plan_meaning.specs.Typing.{file_columns, columns_or, schemas, checks, AllHold, AllValid}
+use Rattle.plan_frame.specs.Rows.{filtered, slice_rows}
+use Rattle.plan_frame.specs.Made.{made, selected, grouped}
 
 -- there is no input
 abbrev pub OnNone : List Frame → Type 0 → Type 0
@@ -26,55 +22,6 @@ OnNone (f ∷ fs) P = ⊥
 abbrev pub OnOne : List Frame → (Frame → Type 0) → Type 0
 OnOne (f ∷ []) P = P f
 OnOne _ P = ⊥
-
--- the rows below a height in which a cell is true
-abbrev pub true_rows : Cell → ℕ → List ℕ
-true_rows c h = places_from (λ i. is_true (value_at c i)) 0 h
-
--- the rows of a frame for which an expression is true
-abbrev pub filtered : Expr → Frame → Frame
-filtered e f = rows_at (true_rows (val e f) f.height) f
-
--- the place at an offset, which below zero counts from the end
-abbrev pub start_of : ℤ → ℕ → ℤ
-start_of (pos n) h = pos n
-start_of (negsuc n) h = pos h +ℤ negsuc n
-
--- a place cut to 0 and the height
-abbrev pub cut_to : ℕ → ℤ → ℕ
-cut_to h (pos n) = min n h
-cut_to h (negsuc n) = 0
-
--- the rows from a start to so many rows after it, both cut to the height
-abbrev pub rows_between : ℕ → ℤ → ℕ → List ℕ
-rows_between h start len =
-    let first = cut_to h start in
-    range_with_len first (cut_to h (start +ℤ pos len) - first)
-
--- the rows of a slice of so many rows
-abbrev pub slice_rows : ℤ → ℕ → ℕ → List ℕ
-slice_rows offset len h = rows_between h (start_of offset h) len
-
--- all expressions are scalar
-abbrev pub all_scalar : List Named → Bool
-all_scalar [] = true
-all_scalar (e ∷ es) = is_scalar e.expr && all_scalar es
-
--- the columns that expressions make over a frame, each of so many rows
-abbrev pub made_columns : ℕ → Frame → List Named → List Column
-made_columns h g es = map (λ (e : Named). record { name = name_of e.name; values = filled h (val e.expr g) }) es
-
--- columns of a height, and those that expressions make over a frame: each in the place of the one of its name, or last
-abbrev pub made : ℕ → List Column → List Named → Frame → Frame
-made h base es g = record { height = h; columns = with_columns base (made_columns h g es) }
-
--- what a selection makes of a frame: one row where all its expressions are scalar, else as many as the frame has
-abbrev pub selected : List Named → Frame → Frame
-selected es g = made (if all_scalar es then 1 else g.height) [] es g
-
--- of some rows of a frame, one of each group: the keys, and what the aggregates are over the rows of the group
-abbrev pub grouped : (keys aggs : List Named) → List ℕ → Frame → Frame
-grouped keys aggs rows g = rows_at rows (made g.height [] (row_exprs keys aggs) g)
 
 -- whether a node may give this frame from its inputs' frames: a slice or a filter some of the rows, a scan its sources one after another or a frame that is handed in, a projection its columns in their order, a selection what its expressions make, an addition that beside the input's columns, a sort all rows in an order, a grouping what it makes of the first row of each group, in their order or any, distinct rows some of them, a function what it makes of the whole frame, a union the rows of its inputs in turn or in any order, a concatenation its inputs beside one another, and a sink and a cache their input
 abbrev pub Step : Contents → Op → List Frame → Frame → Type 0

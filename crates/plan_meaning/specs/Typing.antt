@@ -1,5 +1,5 @@
 -- Which plans are valid: the schema of a plan, and the checks on its nodes in the order in which faults are told.
-use Rattle.std.specs.Prelude.{◌≡◌, ℕ, ℤ, suc, ◌==◌, min, Bool, true, false, not, ◌&&◌, ◌||◌, List, [], ◌∷◌, ◌++◌, map, fold, length, Option, Some, None, is_some, unwrap_or, if◌then◌else◌, Result, Ok, Err}
+use Rattle.std.specs.Prelude.{◌≡◌, ℕ, ℤ, suc, ◌==◌, min, Bool, true, false, not, ◌&&◌, ◌||◌, List, [], ◌∷◌, ◌++◌, length, Option, Some, None, is_some, if◌then◌else◌, Result, Ok, Err}
 use Rattle.std.specs.List.{list_all}
 use Rattle.plan_core.specs.declared.arena.Node.{Node}
 use Rattle.plan_core.specs.declared.error.At.{At}
@@ -11,7 +11,7 @@ use Rattle.plan_options.specs.declared.distinct.DistinctOptionsIR.{DistinctOptio
 use Rattle.plan_options.specs.declared.group.GroupbyOptions.{GroupbyOptions}
 use Rattle.plan_options.specs.declared.sort.SortMultipleOptions.{SortMultipleOptions}
 use Rattle.plan_options.specs.declared.union.UnionOptions.{UnionOptions}
-use Rattle.plan_core.specs.Columns.{Columns, names_of, type_of, with_types, same_columns}
+use Rattle.plan_core.specs.Columns.{Columns, names_of, type_of, same_columns}
 use Rattle.plan_core.specs.Names.{has}
 use Rattle.plan_tree.specs.Rose.{Rose, Roses, rose, no_roses, more}
 use Rattle.plan_ir.specs.declared.functions.FunctionIR.{FunctionIR}
@@ -23,11 +23,15 @@ use Rattle.plan_expr.specs.Forms.{has_form}
 use Rattle.plan_expr.specs.Types.{is_plain}
 use Rattle.plan_ir.specs.Plans.{Op, slice, filter, scan, frame_scan, simple_projection, select, hstack, sort, group_by, distinct, map_function, sink, union, hconcat, cache, invalid}
 use Rattle.plan_expr.specs.Leaves.{Name, leaves}
-use Rattle.plan_expr.specs.Naming.{naming, may_be_named, name_of}
+use Rattle.plan_expr.specs.Naming.{naming, may_be_named}
 use Rattle.plan_meaning.specs.Functions.{renamed, stay_apart, value_names, unpivoted_names, all_differ, first_type, function_schema}
-use Rattle.plan_meaning.specs.Exprs.{all_known, expr_type, is_type}
-use Rattle.plan_meaning.specs.Grouping.{group_exprs}
+use Rattle.plan_frame.specs.Exprs.{all_known, expr_type, is_type}
+use Rattle.plan_frame.specs.Grouping.{group_exprs}
 use Rattle.plan_core.specs.declared.data_type.DataType.TheVariants as types
+use Rattle.plan_frame.specs.ExprLists.{out_names}
+use Rattle.plan_frame.specs.Made.{made_schema}
+use Rattle.plan_frame.specs.Beside.{side_by_side, are_apart}
+use Rattle.plan_frame.specs.Frames.{names_or}
 
 -- Schemas
 
@@ -44,27 +48,6 @@ file_columns info = columns_or info.reader_schema []
 abbrev pub first_schema : List Columns → Columns
 first_schema [] = []
 first_schema (s ∷ ss) = s
-
--- the column that an expression makes over some columns: its output name, with its type
-abbrev pub made_column : Columns → Named → Name × DataType
-made_column s e = (name_of e.name, unwrap_or (expr_type e.expr s) types.Int64)
-
--- columns, and those that expressions make over some: each in the place of the one of its name, or last
-abbrev pub made_schema : Columns → List Named → Columns → Columns
-made_schema base es s = with_types base (map (made_column s) es)
-
--- the columns of inputs, those of one after those of another
-abbrev pub in_a_row : List Columns → Columns
-in_a_row [] = []
-in_a_row (s ∷ ss) = s ++ in_a_row ss
-
--- columns, and one more where none of them has its name
-abbrev pub with_new : Columns → Name × DataType → Columns
-with_new s c = if has (names_of s) c.0 then s else s ++ c ∷ []
-
--- inputs beside one another: their columns in a row, of each name the first
-abbrev pub side_by_side : List Columns → Columns
-side_by_side ss = fold with_new [] (in_a_row ss)
 
 -- the columns of a node, from those of its inputs
 abbrev pub schema_by : Op → List Columns → Columns
@@ -132,11 +115,6 @@ is_column s c = is_type (type_of s c.0) c.1
 abbrev pub each_new : ℕ → List Name → List Name → List Check
 each_new k before [] = []
 each_new k before (a ∷ names) = check Duplicate k (not (has before a)) ∷ each_new (suc k) (before ++ a ∷ []) names
-
--- the names that are told, else the others
-abbrev pub names_or : Option (List Name) → List Name → List Name
-names_or None names = names
-names_or (Some given) names = given
 
 -- a name is among those told; where none are told, each is
 abbrev pub has_columns : Option (List Name) → Name → Bool
@@ -208,10 +186,6 @@ frame_checks df schema outs =
     each SchemaFieldNotFound 1 (λ (c : Name × DataType). is_known schema c.0) outs
     ++ (number_checks df schema
     ++ each SchemaMismatch 1 (is_column schema) outs)
-
--- the names under which expressions are put out, in order
-abbrev pub out_names : List Named → List Name
-out_names es = map (λ (e : Named). name_of e.name) es
 
 -- each expression has a form
 unfoldable pub form_checks : List Named → List Check
@@ -344,15 +318,6 @@ is_built_union options ss = not (is_empty ss) && is_none options.slice
 -- each input has the columns of the first
 unfoldable pub same_checks : List Columns → List Check
 same_checks ss = each SchemaMismatch 1 (same_columns (first_schema ss)) ss
-
--- no column of some is called like one of others
-abbrev pub share_no_name : (s t : Columns) → Bool
-share_no_name s t = list_all (λ (a : Name). not (has (names_of t) a)) (names_of s)
-
--- no two of several have a column of one name
-unfoldable pub are_apart : List Columns → Bool
-are_apart [] = true
-are_apart (s ∷ ss) = share_no_name s (in_a_row ss) && are_apart ss
 
 -- the checks where a node has no inputs; else one that fails
 abbrev pub with_none : List Columns → List Check → List Check

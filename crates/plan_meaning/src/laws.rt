@@ -1,48 +1,21 @@
 //! Laws of what plans mean, as the contracts of functions that do nothing.
-ghost use Rattle.std.specs.Prelude.{◌≡◌, Decides, List, None, Ok, Some, true};
+ghost use Rattle.std.specs.Prelude.{◌≡◌, List, None, Ok};
 ghost use Rattle.plan_core.specs.declared.arena.Node.{Node};
 ghost use Rattle.plan_core.specs.Columns.{Columns};
-ghost use Rattle.plan_core.specs.declared.data_type.DataType.{DataType};
 ghost use Rattle.plan_expr.specs.declared.aexpr.AExpr.{AExpr};
 ghost use Rattle.plan_ir.specs.declared.ir.IR.{IR};
 ghost use Rattle.plan_ir.specs.Parts.{IsPlan};
-ghost use Rattle.plan_expr.specs.Exprs.{Expr};
 ghost use Rattle.plan_ir.specs.Plans.{Plan};
-ghost use Rattle.plan_expr.specs.Leaves.{leaves};
-ghost use Rattle.plan_expr.specs.Scalars.{is_scalar};
-ghost use Rattle.plan_meaning.specs.Exprs.{expr_type};
 ghost use Rattle.plan_meaning.specs.Typing.{schema};
 ghost use Rattle.plan_meaning.specs.TreeFaults.{tree_fault};
 ghost use Rattle.plan_meaning.specs.Typed.{typed};
 ghost use Rattle.plan_meaning.specs.PlanAt.{plan_at};
-ghost use Rattle.plan_meaning.specs.Frames.{Frame, HasSchema, Agree};
-ghost use Rattle.plan_meaning.specs.Meaning.{val, one, CellHas};
-ghost use Rattle.plan_meaning.specs.Values.{Value, same_value};
+ghost use Rattle.plan_frame.specs.Frames.{Frame, HasSchema};
 ghost use Rattle.plan_meaning.specs.Contents.{Contents, Fits};
 ghost use Rattle.plan_meaning.specs.Steps.{May, IsValid};
 ghost use Rattle.plan_meaning.specs.Relating.{Refines, Replaced};
 ghost use Rattle.plan_meaning.specs.Asked.{AllSites, SiteFair};
 ghost use Rattle.plan_meaning.specs.Scans.{Keeps};
-
-/// What an expression means depends only on the height of a frame and on the columns that it reads.
-pub fn meaning_depends_on_leaves()
-    ensures { (e : Expr) (f g : Frame) → Agree (leaves e) f g → val e f ≡ val e g }
-{}
-
-/// The values of an expression that has a type are of it, and one or as many as there are rows.
-pub fn values_have_their_type()
-    ensures { (e : Expr) (s : Columns) (f : Frame) (t : DataType) → HasSchema f s → expr_type e s ≡ Some t → CellHas t f.height (val e f) }
-{}
-
-/// Two values are the same just where they are equal.
-pub fn same_values_are_equal()
-    ensures { (x y : Value) → Decides (same_value x y) (x ≡ y) }
-{}
-
-/// A scalar expression has one value over each frame.
-pub fn scalar_expressions_have_one_value()
-    ensures { (e : Expr) (f : Frame) → is_scalar e ≡ true → (v : Value) × (val e f ≡ one v) }
-{}
 
 /// A frame that a valid plan may give has the plan's columns.
 pub fn frames_have_their_schema()

@@ -1,7 +1,4 @@
-//! What plans mean: the definitions, their laws, and what is asked of expressions over columns.
+//! What plans mean: the definitions and their laws.
 #![tactic(auto)]
 
-mod exprs;
 pub mod laws;
-
-pub use exprs::{all_scalar, counts_rows, expr_type, reads_only};

@@ -6,12 +6,14 @@ use Rattle.plan_tree.specs.Rose.{Roses, rose, no_roses, more}
 use Rattle.plan_expr.specs.Exprs.{Named}
 use Rattle.plan_ir.specs.declared.functions.FunctionIR.{FunctionIR}
 use Rattle.plan_ir.specs.Plans.{Op, slice, filter, scan, frame_scan, simple_projection, select, hstack, sort, group_by, distinct, map_function, sink, union, hconcat, cache, invalid}
-use Rattle.plan_meaning.specs.Typing.{is_empty, names_or, first_schema, schema_by, schemas, checks, AllHold, AllValid}
+use Rattle.plan_meaning.specs.Typing.{is_empty, first_schema, schema_by, schemas, checks, AllHold, AllValid}
+use Rattle.plan_frame.specs.Frames.{names_or}
 use Rattle.plan_meaning.specs.Relating.{Asked, all, names, cached}
-use Rattle.plan_meaning.specs.Asked.{set_of, with_more, asks_columns, kept_exprs, selected_exprs, all_leaves, needed_names, asks_selected, asks_added, asks_stacked, asks_function, asks_grouped, asks_held, grouping_names, asks_alike, asks as asks_of, IsFair}
+use Rattle.plan_meaning.specs.Asked.{set_of, with_more, asks_columns, kept_exprs, selected_exprs, needed_names, asks_selected, asks_added, asks_stacked, asks_function, asks_grouped, asks_held, grouping_names, asks_alike, asks as asks_of, IsFair}
+use Rattle.plan_frame.specs.ExprLists.{all_leaves}
 use Rattle.plan_meaning.specs.Asked as asked
 use Rattle.plan_meaning.specs.Counting.{is_closed, stand_ins, first_stand_in}
-use Rattle.plan_meaning.proofs.NameSets.{has_first, keeps_names}
+use Rattle.plan_frame.proofs.NameSets.{has_first, keeps_names}
 use Rattle.plan_meaning.proofs.StandIns.{are_stand_ins}
 use Rattle.plan_meaning.proofs.Fairness.{some_name, fair_asks, FairAll}
 use Rattle.plan_expr.specs.Leaves.{Name, leaves}

@@ -7,15 +7,15 @@ use Rattle.plan_core.specs.Names.{has}
 use Rattle.plan_tree.specs.Rose.{rose, no_roses, more}
 use Rattle.plan_expr.specs.Leaves.{Name}
 use Rattle.plan_ir.specs.Plans.{simple_projection, Plan}
-use Rattle.plan_meaning.specs.Exprs.{is_type}
-use Rattle.plan_meaning.specs.Values.{Value, null}
+use Rattle.plan_frame.specs.Exprs.{is_type}
+use Rattle.plan_frame.specs.Values.{Value, null}
 use Rattle.plan_meaning.specs.Typing.{is_column, is_empty, first_schema, schema, checks, AllHold}
-use Rattle.plan_meaning.specs.Frames.{Frame, HasSchema, column_or, cut, Agree}
+use Rattle.plan_frame.specs.Frames.{Frame, HasSchema, column_or, cut, Agree}
 use Rattle.plan_meaning.specs.Steps.{IsValid}
 use Rattle.plan_meaning.specs.Relating.{Asked, all, names, Holding, NarrowColumns, AgreeOn, Narrows, Relates}
 use Rattle.plan_meaning.specs.Asked.{Fair}
-use Rattle.plan_meaning.proofs.NameSets.{has_first, has_later, some-type_of}
-use Rattle.plan_meaning.proofs.FrameLemmas.{cut_same, found-table, schema_holds, some_type_is}
+use Rattle.plan_frame.proofs.NameSets.{has_first, has_later, some-type_of}
+use Rattle.plan_frame.proofs.FrameLemmas.{cut_same, found-table, schema_holds, some_type_is}
 use Rattle.plan_meaning.proofs.Runs.{valid_runs}
 use Rattle.plan_meaning.proofs.Related.{relates_top}
 use Rattle.plan_narrowing.specs.Pruned.{covered, typed_names}

@@ -13,10 +13,11 @@ use Rattle.plan_ir.specs.declared.scan.FileScan.TheVariants.{Parquet}
 use Rattle.plan_ir.specs.declared.scan.ScanSources.TheVariants.{Paths}
 use Rattle.plan_expr.specs.Exprs.{ExprOp, column, literal, binary, Expr, Named}
 use Rattle.plan_ir.specs.Plans.{Op, filter, scan, simple_projection, Plan}
-use Rattle.plan_meaning.specs.Values.{Value, whole, text}
-use Rattle.plan_meaning.specs.Frames.{Frame, cut}
-use Rattle.plan_meaning.specs.Contents.{Contents, path, stack, frames_of}
-use Rattle.plan_meaning.specs.Steps.{filtered, May}
+use Rattle.plan_frame.specs.Values.{Value, whole, text}
+use Rattle.plan_frame.specs.Frames.{Frame, cut, stack}
+use Rattle.plan_meaning.specs.Contents.{Contents, path, frames_of}
+use Rattle.plan_frame.specs.Rows.{filtered}
+use Rattle.plan_meaning.specs.Steps.{May}
 use Rattle.plan_meaning.specs.Relating.{names}
 use Rattle.plan_meaning.specs.Asked.{sites_of}
 use Rattle.plan_narrowing.specs.Pruned.{pruned, reading}

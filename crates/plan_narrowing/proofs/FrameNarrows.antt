@@ -6,15 +6,15 @@ use Rattle.plan_core.specs.Columns.{Columns, names_of, type_of}
 use Rattle.plan_core.specs.Names.{has}
 use Rattle.plan_ir.specs.Plans.{frame_scan}
 use Rattle.plan_expr.specs.Leaves.{Name}
-use Rattle.plan_meaning.specs.Exprs.{is_type}
+use Rattle.plan_frame.specs.Exprs.{is_type}
 use Rattle.plan_meaning.specs.Typing.{is_known, is_column, columns_or, checks, AllHold}
-use Rattle.plan_meaning.specs.Frames.{Frame, cut, column_or, Agree}
+use Rattle.plan_frame.specs.Frames.{Frame, cut, column_or, Agree}
 use Rattle.plan_meaning.specs.Contents.{Contents, handed_in}
 use Rattle.plan_meaning.specs.Steps.{Step}
 use Rattle.plan_meaning.specs.Relating.{names, Holding}
 use Rattle.plan_meaning.specs.Asked.{Fair}
-use Rattle.plan_meaning.proofs.NameSets.{some-type_of}
-use Rattle.plan_meaning.proofs.FrameLemmas.{agree_tables, some_type_is}
+use Rattle.plan_frame.proofs.NameSets.{some-type_of}
+use Rattle.plan_frame.proofs.FrameLemmas.{agree_tables, some_type_is}
 use Rattle.plan_meaning.proofs.CheckParts.{FrameGood, frame_good, good_frame}
 use Rattle.plan_narrowing.specs.Pruned.{typed_names}
 use Rattle.plan_narrowing.proofs.NarrowLemmas.{Local, AgreeOnAll}

@@ -11,7 +11,7 @@ use Rattle.plan_expr.specs.Leaves.{Name}
 use Rattle.plan_meaning.specs.Functions.{function_schema}
 use Rattle.plan_meaning.specs.Mapped.{mapped}
 use Rattle.plan_meaning.specs.Typing.{is_empty, function_checks, AllHold}
-use Rattle.plan_meaning.specs.Frames.{Frame, HasSchema, Agree}
+use Rattle.plan_frame.specs.Frames.{Frame, HasSchema, Agree}
 use Rattle.plan_meaning.specs.Relating.{Asked, all, names as these, cached, Holding, NarrowColumns, AgreeOn}
 use Rattle.plan_meaning.specs.Asked.{set_of, function_names, asks_function, Fair, IsFair}
 use Rattle.plan_narrowing.proofs.NarrowLemmas.{Local, one_step, same_one, same_cached}

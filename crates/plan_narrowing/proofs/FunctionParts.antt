@@ -6,7 +6,7 @@ use Rattle.plan_expr.specs.Leaves.{Name}
 use Rattle.plan_meaning.specs.Functions.{function_schema}
 use Rattle.plan_meaning.specs.Mapped.{mapped}
 use Rattle.plan_meaning.specs.Typing.{function_checks, AllHold}
-use Rattle.plan_meaning.specs.Frames.{Frame, HasSchema, Agree}
+use Rattle.plan_frame.specs.Frames.{Frame, HasSchema, Agree}
 use Rattle.plan_meaning.specs.Relating.{Holding}
 use Rattle.plan_meaning.specs.Asked.{function_names, Fair}
 use Rattle.plan_narrowing.proofs.ProjectionNarrows.{some_is}

@@ -12,21 +12,24 @@ use Rattle.plan_expr.specs.Naming.{name_of}
 use Rattle.plan_ir.specs.Plans.{group_by}
 use Rattle.plan_options.specs.declared.distinct.UniqueKeepStrategy.TheVariants.{First}
 use Rattle.plan_options.specs.declared.group.GroupbyOptions.{GroupbyOptions}
-use Rattle.plan_meaning.specs.Grouping.{gathered, group_exprs, over_keys, row_exprs}
-use Rattle.plan_meaning.specs.Typing.{made_column, made_schema, out_names, checks, AllHold}
-use Rattle.plan_meaning.specs.Frames.{Frame, Column, found, with_column, with_columns, rows_at, Agree}
-use Rattle.plan_meaning.specs.Meaning.{Cell, are_alike}
-use Rattle.plan_meaning.specs.Orders.{AreKept, key_cells}
+use Rattle.plan_frame.specs.Grouping.{gathered, group_exprs, over_keys, row_exprs}
+use Rattle.plan_frame.specs.Made.{made_column, made_schema, made, made_columns, grouped}
+use Rattle.plan_frame.specs.ExprLists.{out_names, all_leaves}
+use Rattle.plan_meaning.specs.Typing.{checks, AllHold}
+use Rattle.plan_frame.specs.Frames.{Frame, Column, found, with_column, with_columns, rows_at, Agree}
+use Rattle.plan_frame.specs.Meaning.{Cell, are_alike}
+use Rattle.plan_frame.specs.Orders.{AreKept, key_cells}
 use Rattle.plan_meaning.specs.Contents.{Contents}
-use Rattle.plan_meaning.specs.Steps.{Step, made, made_columns, grouped}
+use Rattle.plan_meaning.specs.Steps.{Step}
 use Rattle.plan_meaning.specs.Relating.{Asked, all, names, cached, Holding, NarrowColumns, AgreeOn}
-use Rattle.plan_meaning.specs.Asked.{is_asked, set_of, kept_exprs, all_leaves, grouping_names, asks_grouped, Fair}
-use Rattle.plan_meaning.proofs.NameSets.{has_front, has_back, has_either, has-append, adds_names}
-use Rattle.plan_meaning.proofs.FrameLemmas.{agree_fewer, agree_rows}
+use Rattle.plan_meaning.specs.Asked.{is_asked, set_of, kept_exprs, grouping_names, asks_grouped, Fair}
+use Rattle.plan_frame.proofs.NameSets.{has_front, has_back, has_either, has-append, adds_names}
+use Rattle.plan_frame.proofs.FrameLemmas.{agree_fewer, agree_rows}
 use Rattle.plan_meaning.proofs.CheckParts.{MadeGood, made_good, good_made}
-use Rattle.plan_meaning.proofs.MadeColumns.{types_kept, columns_kept, some-made}
-use Rattle.plan_meaning.proofs.KeptExprs.{all_append, all_where, all_kept_exprs, kept-all, kept_named, distinct_where, names-join, names-kept, has_where}
-use Rattle.plan_meaning.proofs.GroupLemmas.{all_front, all_back, gathered-names, kept-named, group_reads, row_reads, leaves-join}
+use Rattle.plan_meaning.proofs.KeptColumns.{types_kept, columns_kept}
+use Rattle.plan_frame.proofs.MadeColumns.{some-made}
+use Rattle.plan_meaning.proofs.KeptExprs.{all_append, all_where, all_kept_exprs, kept-all, kept_named, distinct_where, names-join, names-kept, has_where, kept-named}
+use Rattle.plan_frame.proofs.GroupLemmas.{all_front, all_back, gathered-names, group_reads, row_reads, leaves-join}
 use Rattle.plan_narrowing.specs.Pruned.{typed_names}
 use Rattle.plan_narrowing.proofs.NarrowLemmas.{Local, one_step, same_cached}
 use Rattle.plan_narrowing.proofs.OrderNarrows.{same_keys}

@@ -10,13 +10,14 @@ use Rattle.plan_core.specs.Names.{has}
 use Rattle.plan_ir.specs.declared.functions.FunctionIR.TheVariants.{RowIndex}
 use Rattle.plan_expr.specs.Leaves.{Name}
 use Rattle.plan_meaning.specs.Functions.{function_schema}
-use Rattle.plan_meaning.specs.Mapped.{mapped, row_numbers}
+use Rattle.plan_meaning.specs.Mapped.{mapped}
+use Rattle.plan_frame.specs.Reshaped.{row_numbers}
 use Rattle.plan_meaning.specs.Typing.{function_checks, row_index_checks, AllHold}
-use Rattle.plan_meaning.specs.Values.{Value}
-use Rattle.plan_meaning.specs.Frames.{Frame, HasSchema, found, Agree}
+use Rattle.plan_frame.specs.Values.{Value}
+use Rattle.plan_frame.specs.Frames.{Frame, HasSchema, found, Agree}
 use Rattle.plan_meaning.specs.Relating.{Holding}
 use Rattle.plan_meaning.specs.Asked.{function_names, Fair}
-use Rattle.plan_meaning.proofs.NameSets.{some-type_of}
+use Rattle.plan_frame.proofs.NameSets.{some-type_of}
 use Rattle.plan_meaning.proofs.KeptExprs.{has_where}
 use Rattle.plan_narrowing.proofs.FunctionParts.{FunctionKept}
 

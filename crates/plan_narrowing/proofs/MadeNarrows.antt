@@ -10,19 +10,19 @@ use Rattle.plan_tree.specs.Rose.{rose, no_roses, more}
 use Rattle.plan_expr.specs.Exprs.{column, literal, alias, binary, ternary, aggregate, call, window, len as row_count, Expr, Named}
 use Rattle.plan_expr.specs.Leaves.{Name, leaves}
 use Rattle.plan_expr.specs.Naming.{name_of, naming, may_be_named}
-use Rattle.plan_meaning.specs.Exprs.{all_known, expr_type}
-use Rattle.plan_meaning.specs.Typing.{out_names, made_column, made_schema}
-use Rattle.plan_meaning.specs.Frames.{Frame, Column, Agree}
-use Rattle.plan_meaning.specs.Meaning.{Cell, filled}
-use Rattle.plan_meaning.specs.Steps.{made_columns}
+use Rattle.plan_frame.specs.Exprs.{all_known, expr_type}
+use Rattle.plan_frame.specs.ExprLists.{out_names, is_len, counts_rows, all_leaves}
+use Rattle.plan_frame.specs.Made.{made_column, made_schema, made_columns}
+use Rattle.plan_frame.specs.Frames.{Frame, Column, Agree}
+use Rattle.plan_frame.specs.Meaning.{Cell, filled}
 use Rattle.plan_meaning.specs.Relating.{Asked, NarrowColumns, AgreeOn}
-use Rattle.plan_meaning.specs.Counting.{is_len, counts_rows, stand_in_names}
-use Rattle.plan_meaning.specs.Asked.{set_of, all_leaves, selected_exprs, needed_names}
-use Rattle.plan_meaning.proofs.NameSets.{has_front, has_back, adds_names}
-use Rattle.plan_meaning.proofs.FrameLemmas.{agree_fewer}
-use Rattle.plan_meaning.proofs.Depends.{val_depends, type_within}
+use Rattle.plan_meaning.specs.Counting.{stand_in_names}
+use Rattle.plan_meaning.specs.Asked.{set_of, selected_exprs, needed_names}
+use Rattle.plan_frame.proofs.NameSets.{has_front, has_back, adds_names}
+use Rattle.plan_frame.proofs.FrameLemmas.{agree_fewer}
+use Rattle.plan_frame.proofs.Depends.{val_depends, type_within}
 use Rattle.plan_meaning.proofs.CheckParts.{MadeGood}
-use Rattle.plan_meaning.proofs.MadeColumns.{types_made}
+use Rattle.plan_frame.proofs.MadeColumns.{types_made}
 use Rattle.plan_meaning.proofs.KeptExprs.{all_selected, new_distinct}
 use Rattle.plan_narrowing.specs.Pruned.{typed_names}
 use Rattle.plan_narrowing.proofs.NarrowLemmas.{holding_same, known_within}

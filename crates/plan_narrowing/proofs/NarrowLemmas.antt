@@ -6,18 +6,19 @@ use Rattle.plan_core.specs.Names.{has, with_names}
 use Rattle.plan_expr.specs.Exprs.{Named, Expr}
 use Rattle.plan_ir.specs.Plans.{Op, slice, filter}
 use Rattle.plan_expr.specs.Leaves.{Name, leaves}
-use Rattle.plan_meaning.specs.Exprs.{all_known, is_type}
+use Rattle.plan_frame.specs.Exprs.{all_known, is_type}
 use Rattle.plan_meaning.specs.Typing.{checks, AllHold}
-use Rattle.plan_meaning.specs.Frames.{Frame, HasSchema, rows_at, Agree}
-use Rattle.plan_meaning.specs.Meaning.{val}
+use Rattle.plan_frame.specs.Frames.{Frame, HasSchema, rows_at, Agree}
+use Rattle.plan_frame.specs.Meaning.{val}
 use Rattle.plan_meaning.specs.Contents.{Contents}
-use Rattle.plan_meaning.specs.Steps.{Step, slice_rows, true_rows, filtered}
+use Rattle.plan_meaning.specs.Steps.{Step}
+use Rattle.plan_frame.specs.Rows.{slice_rows, true_rows, filtered}
 use Rattle.plan_meaning.specs.Relating.{Asked, all, names, cached, Holding, NarrowColumns, AgreeOn}
 use Rattle.plan_meaning.specs.Asked.{with_more}
-use Rattle.plan_meaning.proofs.NameSets.{has_first, has_later, keeps_names, adds_names}
-use Rattle.plan_meaning.proofs.FrameLemmas.{agree_fewer, agree_rows}
-use Rattle.plan_meaning.proofs.Depends.{val_depends, type_within}
-use Rattle.plan_meaning.proofs.Runs.{HaveSchemas}
+use Rattle.plan_frame.proofs.NameSets.{has_first, has_later, keeps_names, adds_names}
+use Rattle.plan_frame.proofs.FrameLemmas.{agree_fewer, agree_rows}
+use Rattle.plan_frame.proofs.Depends.{val_depends, type_within}
+use Rattle.plan_frame.proofs.TurnLemmas.{HaveSchemas}
 use Rattle.plan_meaning.proofs.Related.{LocalTo, FramesRelated}
 use Rattle.plan_core.specs.declared.data_type.DataType.TheVariants as types
 

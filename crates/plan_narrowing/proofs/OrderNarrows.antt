@@ -12,22 +12,23 @@ use Rattle.plan_core.specs.Names.{has, with_names}
 use Rattle.plan_expr.specs.Exprs.{Named}
 use Rattle.plan_ir.specs.Plans.{sort, distinct, sink}
 use Rattle.plan_expr.specs.Leaves.{Name, leaves}
-use Rattle.plan_meaning.specs.Exprs.{expr_type}
-use Rattle.plan_meaning.specs.Typing.{checks, is_known, is_plain_type, names_or, subset_checks, AllHold}
-use Rattle.plan_meaning.specs.Values.{Value, null, same_value}
-use Rattle.plan_meaning.specs.Frames.{Column, Frame, HaveTypes, HasSchema, column, column_names, column_or, row, rows_at, Agree}
-use Rattle.plan_meaning.specs.Meaning.{Cell, many, are_alike}
-use Rattle.plan_meaning.specs.Orders.{AreKept, AreSorted, key_cells, rows_cmp, told_columns}
+use Rattle.plan_frame.specs.Exprs.{expr_type}
+use Rattle.plan_meaning.specs.Typing.{checks, is_known, is_plain_type, subset_checks, AllHold}
+use Rattle.plan_frame.specs.Frames.{names_or, Column, Frame, HaveTypes, HasSchema, column, column_names, column_or, row, rows_at, Agree}
+use Rattle.plan_frame.specs.Values.{Value, null, same_value}
+use Rattle.plan_frame.specs.Meaning.{Cell, many, are_alike}
+use Rattle.plan_frame.specs.Orders.{AreKept, AreSorted, key_cells, rows_cmp, told_columns}
 use Rattle.plan_meaning.specs.Contents.{Contents}
 use Rattle.plan_meaning.specs.Steps.{Step}
 use Rattle.plan_meaning.specs.Relating.{Asked, all, names, cached, Holding, NarrowColumns}
-use Rattle.plan_meaning.specs.Asked.{all_leaves, with_more}
-use Rattle.plan_meaning.proofs.NameSets.{has_back, has_cons, has_first, has_front, has_later, keeps_names, adds_names, some-type_of}
-use Rattle.plan_meaning.proofs.FrameLemmas.{agree_fewer, agree_rows}
-use Rattle.plan_meaning.proofs.Depends.{val_depends, type_within}
+use Rattle.plan_frame.specs.ExprLists.{all_leaves}
+use Rattle.plan_meaning.specs.Asked.{with_more}
+use Rattle.plan_frame.proofs.NameSets.{has_back, has_cons, has_first, has_front, has_later, keeps_names, adds_names, some-type_of}
+use Rattle.plan_frame.proofs.FrameLemmas.{agree_fewer, agree_rows}
+use Rattle.plan_frame.proofs.Depends.{val_depends, type_within}
 use Rattle.plan_meaning.proofs.CheckParts.{pass_each, pass_names, keys_good, good_keys}
 use Rattle.plan_narrowing.proofs.NarrowLemmas.{Local, holding_fewer, holding_same, one_step, same_one, same_cached}
-use Rattle.plan_meaning.proofs.BesideLemmas.{names-are}
+use Rattle.plan_frame.proofs.BesideLemmas.{names-are}
 use Rattle.plan_narrowing.proofs.MadeNarrows.{SameLeaves, front_leaves, back_leaves, same_known}
 
 -- sinks

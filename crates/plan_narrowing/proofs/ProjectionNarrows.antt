@@ -8,13 +8,13 @@ use Rattle.plan_core.specs.declared.error.PolarsError.TheVariants.{SchemaFieldNo
 use Rattle.plan_core.specs.Columns.{Columns, names_of, type_of}
 use Rattle.plan_core.specs.Names.{has, with_names}
 use Rattle.plan_ir.specs.Plans.{simple_projection}
-use Rattle.plan_meaning.specs.Exprs.{is_type}
+use Rattle.plan_frame.specs.Exprs.{is_type}
 use Rattle.plan_meaning.specs.Typing.{is_empty, is_known, is_column, each, checks, AllHold}
-use Rattle.plan_meaning.specs.Frames.{Frame, cut, column_or, Agree}
+use Rattle.plan_frame.specs.Frames.{Frame, cut, column_or, Agree}
 use Rattle.plan_meaning.specs.Relating.{Asked, all, names, cached, Holding, NarrowColumns, AgreeOn}
 use Rattle.plan_meaning.specs.Asked.{is_asked, kept, IsFair}
-use Rattle.plan_meaning.proofs.NameSets.{named, has_first, has_later, some-type_of, adds_names}
-use Rattle.plan_meaning.proofs.FrameLemmas.{agree_tables, agree_fewer, or_same, cut_same}
+use Rattle.plan_frame.proofs.NameSets.{named, has_first, has_later, some-type_of, adds_names}
+use Rattle.plan_frame.proofs.FrameLemmas.{agree_tables, agree_fewer, or_same, cut_same}
 use Rattle.plan_meaning.proofs.CheckParts.{hold_back, hold_join, each_pass, pass_each}
 use Rattle.plan_meaning.proofs.Fairness.{has_some, some_name, kept_asked, known_some}
 use Rattle.plan_expr.specs.Leaves.{Name}

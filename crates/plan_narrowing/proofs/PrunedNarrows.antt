@@ -15,15 +15,18 @@ use Rattle.plan_ir.specs.declared.scan.ScanSources.{ScanSources}
 use Rattle.plan_expr.specs.Exprs.{Named}
 use Rattle.plan_ir.specs.declared.functions.FunctionIR.{FunctionIR}
 use Rattle.plan_ir.specs.Plans.{Op, slice, filter, scan, frame_scan, simple_projection, select, hstack, sort, group_by, distinct, map_function, sink, union, hconcat, cache, invalid, Plan}
-use Rattle.plan_meaning.specs.Typing.{columns_or, file_columns, first_schema, names_or, out_names, made_schema, side_by_side, schema_by, schema, schemas, checks, AllHold, AllValid}
+use Rattle.plan_meaning.specs.Typing.{columns_or, file_columns, first_schema, schema_by, schema, schemas, checks, AllHold, AllValid}
+use Rattle.plan_frame.specs.Frames.{names_or, Agree}
+use Rattle.plan_frame.specs.ExprLists.{out_names, all_leaves}
+use Rattle.plan_frame.specs.Made.{made_schema, made}
+use Rattle.plan_frame.specs.Beside.{side_by_side}
 use Rattle.plan_meaning.specs.Functions.{function_schema}
-use Rattle.plan_meaning.specs.Grouping.{group_exprs}
-use Rattle.plan_meaning.specs.Steps.{made, IsValid}
+use Rattle.plan_frame.specs.Grouping.{group_exprs}
+use Rattle.plan_meaning.specs.Steps.{IsValid}
 use Rattle.plan_meaning.specs.Relating.{Refines, Asked, all, names, NarrowColumns, AgreeOn, Narrows}
-use Rattle.plan_meaning.specs.Asked.{set_of, kept_exprs, selected_exprs, needed_names, all_leaves, grouping_names, asks_added, Fair, IsFair}
+use Rattle.plan_meaning.specs.Asked.{set_of, kept_exprs, selected_exprs, needed_names, grouping_names, asks_added, Fair, IsFair}
 use Rattle.plan_meaning.specs.Asked as asked
 use Rattle.plan_meaning.specs.Counting.{is_closed, stand_ins, first_stand_in}
-use Rattle.plan_meaning.specs.Frames.{Agree}
 use Rattle.plan_meaning.proofs.Refining.{relates_refines}
 use Rattle.plan_meaning.proofs.Related.{SchemasRelated, AllRelate, relates_node, relates_top, relates_drop}
 use Rattle.plan_meaning.proofs.Fairness.{FairAll}

@@ -5,7 +5,7 @@ use Rattle.plan_core.specs.declared.data_type.DataType.{DataType}
 use Rattle.plan_core.specs.Columns.{Columns, names_of, type_of}
 use Rattle.plan_core.specs.Names.{has}
 use Rattle.plan_core.specs.declared.options.ProjectionOptions.{ProjectionOptions}
-use Rattle.plan_meaning.proofs.NameSets.{has_cons, has_first, has_later}
+use Rattle.plan_frame.proofs.NameSets.{has_cons, has_first, has_later}
 use Rattle.plan_tree.specs.Rose.{Roses, rose, no_roses, more, size}
 use Rattle.plan_expr.specs.Exprs.{Named}
 use Rattle.plan_ir.specs.Plans.{Op, slice, filter, scan, frame_scan, simple_projection, select, hstack, sort, group_by, distinct, map_function, sink, union, hconcat, cache, invalid, Plan}

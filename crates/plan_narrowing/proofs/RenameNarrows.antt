@@ -8,18 +8,19 @@ use Rattle.plan_core.specs.Columns.{Columns, names_of, type_of}
 use Rattle.plan_core.specs.Names.{has}
 use Rattle.plan_ir.specs.declared.functions.FunctionIR.TheVariants.{Rename}
 use Rattle.plan_expr.specs.Leaves.{Name}
-use Rattle.plan_meaning.specs.Functions.{renamed, former, renamed_columns, stay_apart, function_schema}
+use Rattle.plan_meaning.specs.Functions.{renamed, former, stay_apart, function_schema}
+use Rattle.plan_frame.specs.Reshaped.{renamed_columns}
 use Rattle.plan_meaning.specs.Mapped.{mapped}
 use Rattle.plan_meaning.specs.Typing.{Check, check, each_new, function_checks, rename_checks, AllHold}
-use Rattle.plan_meaning.specs.Values.{Value}
-use Rattle.plan_meaning.specs.Frames.{Column, Frame, HasSchema, found, column_names, Agree}
+use Rattle.plan_frame.specs.Values.{Value}
+use Rattle.plan_frame.specs.Frames.{Column, Frame, HasSchema, found, column_names, Agree}
 use Rattle.plan_meaning.specs.Relating.{Holding}
 use Rattle.plan_meaning.specs.Asked.{function_names, Fair}
-use Rattle.plan_meaning.proofs.NameSets.{named, same_named, has_cons, has_first, has_later, some-type_of}
+use Rattle.plan_frame.proofs.NameSets.{named, same_named, has_cons, has_first, has_later, some-type_of}
 use Rattle.plan_meaning.proofs.CheckParts.{hold_front, hold_back, hold_join}
 use Rattle.plan_function.proofs.RenameLemmas.{apart_one, fewer_apart, names-renamed, type-renamed, from_renamed, to_renamed}
 use Rattle.plan_narrowing.proofs.FunctionParts.{FunctionKept}
-use Rattle.plan_meaning.proofs.BesideLemmas.{names-are}
+use Rattle.plan_frame.proofs.BesideLemmas.{names-are}
 
 -- the name that becomes one, by what it becomes
 

@@ -15,16 +15,16 @@ use Rattle.plan_ir.specs.declared.scan.FileScan.{FileScan}
 use Rattle.plan_ir.specs.declared.scan.ScanSources.{ScanSources}
 use Rattle.plan_expr.specs.Exprs.{Named}
 use Rattle.plan_ir.specs.Plans.{scan, simple_projection}
-use Rattle.plan_meaning.specs.Exprs.{is_type}
-use Rattle.plan_meaning.specs.Values.{Value, null}
+use Rattle.plan_frame.specs.Exprs.{is_type}
+use Rattle.plan_frame.specs.Values.{Value, null}
 use Rattle.plan_meaning.specs.Typing.{is_empty, is_known, is_column, each, each_new, columns_or, file_columns, has_columns, put_out_checks, scan_name_checks, is_built_scan, checks, AllHold}
-use Rattle.plan_meaning.specs.Frames.{Frame, HasSchema, cut, column_or, Agree}
-use Rattle.plan_meaning.specs.Contents.{Contents, total_height, stacked, frames_of, stack}
+use Rattle.plan_frame.specs.Frames.{Frame, HasSchema, cut, column_or, Agree, total_height, stacked, stack}
+use Rattle.plan_meaning.specs.Contents.{Contents, frames_of}
 use Rattle.plan_meaning.specs.Steps.{Step}
 use Rattle.plan_meaning.specs.Relating.{names, Holding}
 use Rattle.plan_meaning.specs.Asked.{Fair}
-use Rattle.plan_meaning.proofs.NameSets.{named, same_named, has_cons, has_first, has_later, has_either, some-type_of, distinct_cons}
-use Rattle.plan_meaning.proofs.FrameLemmas.{agree_tables, found-table, is_type_some, some_type_is, schema_holds}
+use Rattle.plan_frame.proofs.NameSets.{named, same_named, has_cons, has_first, has_later, has_either, some-type_of, distinct_cons}
+use Rattle.plan_frame.proofs.FrameLemmas.{agree_tables, found-table, is_type_some, some_type_is, schema_holds}
 use Rattle.plan_meaning.proofs.CheckParts.{each_pass, pass_each, hold_join, pass_names, ScanGood, scan_good, good_scan}
 use Rattle.plan_expr.specs.Leaves.{Name}
 use Rattle.plan_narrowing.specs.Pruned.{typed_names, reading}

@@ -7,13 +7,15 @@ use Rattle.plan_core.specs.Names.{has, AreDistinct}
 use Rattle.plan_expr.specs.Exprs.{Named}
 use Rattle.plan_ir.specs.Plans.{select}
 use Rattle.plan_expr.specs.Leaves.{Name}
-use Rattle.plan_meaning.specs.Typing.{is_empty, out_names, made_schema, checks, AllHold}
-use Rattle.plan_meaning.specs.Frames.{Frame, Column, found, with_columns, Agree}
-use Rattle.plan_meaning.specs.Steps.{all_scalar, made_columns, selected}
+use Rattle.plan_meaning.specs.Typing.{is_empty, checks, AllHold}
+use Rattle.plan_frame.specs.ExprLists.{out_names, all_scalar, all_leaves}
+use Rattle.plan_frame.specs.Made.{made_schema, made_columns, selected}
+use Rattle.plan_frame.specs.Frames.{Frame, Column, found, with_columns, Agree}
 use Rattle.plan_meaning.specs.Relating.{Asked, all, names, Holding, AgreeOn}
-use Rattle.plan_meaning.specs.Asked.{selected_exprs, all_leaves, Fair}
+use Rattle.plan_meaning.specs.Asked.{selected_exprs, Fair}
 use Rattle.plan_meaning.proofs.CheckParts.{MadeGood, made_good, good_made}
-use Rattle.plan_meaning.proofs.MadeColumns.{types_selected, columns_selected, some-made}
+use Rattle.plan_meaning.proofs.KeptColumns.{types_selected, columns_selected}
+use Rattle.plan_frame.proofs.MadeColumns.{some-made}
 use Rattle.plan_meaning.proofs.KeptExprs.{all_selected, distinct_selected, named_selected, selected_named, scalar-selected}
 use Rattle.plan_meaning.proofs.Fairness.{has_some}
 use Rattle.plan_narrowing.specs.Pruned.{typed_names}

@@ -8,15 +8,17 @@ use Rattle.plan_core.specs.Names.{has, with_names, AreDistinct}
 use Rattle.plan_expr.specs.Exprs.{Named}
 use Rattle.plan_ir.specs.Plans.{hstack}
 use Rattle.plan_expr.specs.Leaves.{Name}
-use Rattle.plan_meaning.specs.Typing.{out_names, made_column, made_schema, checks, AllHold}
-use Rattle.plan_meaning.specs.Frames.{Frame, Column, HasSchema, found, with_columns, Agree}
-use Rattle.plan_meaning.specs.Steps.{made_columns, made}
+use Rattle.plan_frame.specs.ExprLists.{out_names, all_leaves}
+use Rattle.plan_frame.specs.Made.{made_column, made_schema, made_columns, made}
+use Rattle.plan_meaning.specs.Typing.{checks, AllHold}
+use Rattle.plan_frame.specs.Frames.{Frame, Column, HasSchema, found, with_columns, Agree}
 use Rattle.plan_meaning.specs.Relating.{names, Holding, NarrowColumns}
-use Rattle.plan_meaning.specs.Asked.{set_of, kept_exprs, all_leaves, Fair}
-use Rattle.plan_meaning.proofs.NameSets.{some-type_of, keeps_names, adds_names}
-use Rattle.plan_meaning.proofs.FrameLemmas.{agree_fewer}
+use Rattle.plan_meaning.specs.Asked.{set_of, kept_exprs, Fair}
+use Rattle.plan_frame.proofs.NameSets.{some-type_of, keeps_names, adds_names}
+use Rattle.plan_frame.proofs.FrameLemmas.{agree_fewer}
 use Rattle.plan_meaning.proofs.CheckParts.{MadeGood, made_good, good_made}
-use Rattle.plan_meaning.proofs.MadeColumns.{types_over, types_kept, columns_over, columns_kept, some-made, some-found}
+use Rattle.plan_frame.proofs.MadeColumns.{types_over, columns_over, some-made, some-found}
+use Rattle.plan_meaning.proofs.KeptColumns.{types_kept, columns_kept}
 use Rattle.plan_meaning.proofs.KeptExprs.{all_kept_exprs, distinct_kept, kept_named, has_where}
 use Rattle.plan_meaning.proofs.Fairness.{unmade}
 use Rattle.plan_narrowing.specs.Pruned.{typed_names}

@@ -6,16 +6,17 @@ use Rattle.plan_options.specs.declared.union.UnionOptions.{UnionOptions}
 use Rattle.plan_tree.specs.Rose.{Roses, rose, no_roses, more}
 use Rattle.plan_expr.specs.Leaves.{Name}
 use Rattle.plan_ir.specs.Plans.{Op, union}
-use Rattle.plan_meaning.specs.Values.{Value, null}
+use Rattle.plan_frame.specs.Values.{Value, null}
 use Rattle.plan_meaning.specs.Typing.{first_schema, schema_by, schemas, checks, AllHold, AllValid}
-use Rattle.plan_meaning.specs.Frames.{Frame, Column, found, column_or, HaveTypes, HasSchema, rows_at, table_columns, cut, appended_columns, appended, in_turn, Agree}
-use Rattle.plan_meaning.specs.Orders.{AreAll}
+use Rattle.plan_frame.specs.Frames.{Frame, Column, found, column_or, HaveTypes, HasSchema, rows_at, table_columns, cut, appended_columns, appended, in_turn, Agree}
+use Rattle.plan_frame.specs.Orders.{AreAll}
 use Rattle.plan_meaning.specs.Contents.{Contents}
 use Rattle.plan_meaning.specs.Steps.{Step, IsValid}
 use Rattle.plan_meaning.specs.Relating.{Asked, all, names, Holding, NarrowColumns, AgreeOn, Narrows}
 use Rattle.plan_meaning.specs.Asked.{set_of, Fair, IsFair}
-use Rattle.plan_meaning.proofs.FrameLemmas.{agree_rows}
-use Rattle.plan_meaning.proofs.UnionLemmas.{HaveSchemas, AllAre, union_inputs, union_whole, union_good, never_built, in_turn_has}
+use Rattle.plan_frame.proofs.FrameLemmas.{agree_rows}
+use Rattle.plan_frame.proofs.TurnLemmas.{HaveSchemas, AllAre, in_turn_has}
+use Rattle.plan_meaning.proofs.UnionLemmas.{union_inputs, union_whole, union_good, never_built}
 use Rattle.plan_meaning.proofs.Related.{SchemasRelated, FramesRelated, AllRelate, LocalTo, relates_node}
 use Rattle.plan_narrowing.specs.Pruned.{covered_each, covered_if, are_several, typed_names}
 use Rattle.plan_narrowing.proofs.AskedNames.{each_asked}

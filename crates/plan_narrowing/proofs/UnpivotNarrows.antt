@@ -11,16 +11,17 @@ use Rattle.plan_core.specs.Names.{has, with_names}
 use Rattle.plan_ir.specs.declared.functions.FunctionIR.TheVariants.{Unpivot}
 use Rattle.plan_ir.specs.declared.functions.UnpivotArgsIR.{UnpivotArgsIR}
 use Rattle.plan_expr.specs.Leaves.{Name}
-use Rattle.plan_meaning.specs.Functions.{told_names, value_names, type_or, columns_at, first_type, variable_name, value_name, unpivoted_names, all_differ, function_schema}
-use Rattle.plan_meaning.specs.Exprs.{is_type}
-use Rattle.plan_meaning.specs.Mapped.{repeated, names_down, values_down, mapped}
+use Rattle.plan_meaning.specs.Functions.{told_names, value_names, first_type, variable_name, value_name, unpivoted_names, all_differ, function_schema}
+use Rattle.plan_frame.specs.Reshaped.{type_or, columns_at, repeated, names_down, values_down}
+use Rattle.plan_frame.specs.Exprs.{is_type}
+use Rattle.plan_meaning.specs.Mapped.{mapped}
 use Rattle.plan_meaning.specs.Typing.{Check, check, each, is_empty, is_known, is_column, unpivot_name_checks, unpivot_type_checks, unpivot_checks, function_checks, AllHold}
-use Rattle.plan_meaning.specs.Values.{Value, text}
-use Rattle.plan_meaning.specs.Frames.{Frame, Column, column_names, column_or, table_columns, Agree}
+use Rattle.plan_frame.specs.Values.{Value, text}
+use Rattle.plan_frame.specs.Frames.{Frame, Column, column_names, column_or, table_columns, Agree}
 use Rattle.plan_meaning.specs.Relating.{Holding}
 use Rattle.plan_meaning.specs.Asked.{function_names, Fair}
-use Rattle.plan_meaning.proofs.NameSets.{has_first, has_front, has_back, has_later, adds_names}
-use Rattle.plan_meaning.proofs.FrameLemmas.{or_same}
+use Rattle.plan_frame.proofs.NameSets.{has_first, has_front, has_back, has_later, adds_names}
+use Rattle.plan_frame.proofs.FrameLemmas.{or_same}
 use Rattle.plan_narrowing.proofs.FunctionParts.{FunctionKept, self_holds}
 use Rattle.plan_narrowing.proofs.NarrowLemmas.{holding_same}
 

@@ -16,12 +16,15 @@ use Rattle.plan_options.specs.declared.group.GroupbyOptions.{GroupbyOptions}
 use Rattle.plan_options.specs.declared.union.HConcatOptions.{HConcatOptions}
 use Rattle.plan_core.specs.Columns.{with_types}
 use Rattle.plan_expr.specs.Leaves.{Name, leaves}
-use Rattle.plan_meaning.specs.Typing.{first_schema, names_or, out_names, side_by_side}
+use Rattle.plan_meaning.specs.Typing.{first_schema}
+use Rattle.plan_frame.specs.Frames.{names_or}
+use Rattle.plan_frame.specs.ExprLists.{out_names, all_leaves}
+use Rattle.plan_frame.specs.Beside.{side_by_side}
 use Rattle.plan_meaning.specs.PlanAt.{one_plan}
 use Rattle.plan_meaning.specs.Relating.{names as these}
 use Rattle.plan_meaning.specs.Counting.{is_closed, is_count, meets_count, stand_ins, first_stand_in}
 use Rattle.plan_ir.specs.declared.functions.FunctionIR.{FunctionIR}
-use Rattle.plan_meaning.specs.Asked.{function_names, set_of, kept_exprs, selected_exprs, all_leaves, needed_names, grouping_names}
+use Rattle.plan_meaning.specs.Asked.{function_names, set_of, kept_exprs, selected_exprs, needed_names, grouping_names}
 use Rattle.plan_schema.specs.Stored.{stored_all}
 
 -- the asked names with more, each last unless it is there; asked nothing, nothing

@@ -18,7 +18,8 @@ use Rattle.plan_ir.specs.declared.ir.IR.{IR}
 use Rattle.plan_ir.specs.declared.ir.IR.TheVariants as nodes
 use Rattle.plan_ir.specs.Parts.{plan_shape}
 use Rattle.plan_ir.specs.Plans.{Op, op_at, plans_of, bare, hconcat}
-use Rattle.plan_meaning.specs.Typing.{first_schema, in_a_row, side_by_side, with_new}
+use Rattle.plan_meaning.specs.Typing.{first_schema}
+use Rattle.plan_frame.specs.Beside.{in_a_row, side_by_side, with_new}
 use Rattle.plan_schema.specs.Stored.{stored_all}
 use Rattle.plan_narrowing.specs.Pruned.{asks_plans, held_names, pruned_all, pruned_hconcat, rebuilt, top_below}
 use Rattle.plan_narrowing.proofs.ListSteps.{take-next}

@@ -10,7 +10,7 @@ use Rattle.plan_expr.specs.Exprs.{expr_at, all_named_at}
 use Rattle.plan_expr.specs.Leaves.{Name, leaves}
 use Rattle.plan_expr.specs.Naming.{name_of}
 use Rattle.plan_expr.specs.Scalars.{is_scalar}
-use Rattle.plan_meaning.specs.Asked.{all_leaves}
+use Rattle.plan_frame.specs.ExprLists.{all_leaves}
 use Rattle.plan_narrowing.specs.Pruned.{typed_names}
 use Rattle.plan_narrowing.proofs.ListSteps.{with_names-append}
 use Rattle.plan_prune.specs.Kept.{many_at, names_at, with_typed}

@@ -16,10 +16,10 @@ use Rattle.plan_expr.specs.Leaves.{Name}
 use Rattle.plan_expr.specs.Naming.{name_of}
 use Rattle.plan_ir.specs.Plans.{Op, group_by}
 use Rattle.plan_meaning.specs.Relating.{names}
-use Rattle.plan_meaning.specs.Asked.{all_leaves, grouping_names, kept_exprs, set_of}
+use Rattle.plan_frame.specs.ExprLists.{all_leaves, out_names}
+use Rattle.plan_meaning.specs.Asked.{grouping_names, kept_exprs, set_of}
 use Rattle.plan_core.specs.Names.{with_names}
-use Rattle.plan_meaning.specs.Typing.{out_names}
-use Rattle.plan_meaning.proofs.GroupLemmas.{leaves-join}
+use Rattle.plan_frame.proofs.GroupLemmas.{leaves-join}
 use Rattle.plan_narrowing.specs.Pruned.{pruned_group_by, typed_name, typed_names}
 use Rattle.plan_narrowing.proofs.ListSteps.{with_names-append}
 use Rattle.plan_prune.specs.Kept.{stacked_at, is_some_name, names_at, with_typed, stored_after}

@@ -19,15 +19,14 @@ use Rattle.plan_ir.specs.Plans.{Op, select, hstack}
 use Rattle.plan_expr.specs.Leaves.{Name}
 use Rattle.plan_expr.specs.Naming.{name_of}
 use Rattle.plan_expr.specs.Scalars.{is_scalar}
-use Rattle.plan_meaning.specs.Steps.{all_scalar}
+use Rattle.plan_frame.specs.ExprLists.{all_scalar, first_many, out_names}
 use Rattle.plan_meaning.specs.Relating.{all, names}
-use Rattle.plan_meaning.specs.Counting.{first_many}
 use Rattle.plan_meaning.specs.Asked.{kept_exprs, selected_exprs, set_of}
 use Rattle.plan_schema.specs.Stored.{stored_all}
 use Rattle.plan_narrowing.specs.Pruned.{added_names, stacked_names, pruned_select, stacked, pruned_hstack}
 use Rattle.plan_prune.specs.Prunes.{StandExprs, TakePlace}
 use Rattle.plan_meaning.specs.PlanAt.{one_plan}
-use Rattle.plan_meaning.specs.Typing.{first_schema, out_names}
+use Rattle.plan_meaning.specs.Typing.{first_schema}
 use Rattle.plan_prune.specs.Kept.{asked_exprs, many_at, selected_at, stacked_at, is_some_name, names_at, with_typed, stored_after, asks_after, with_stacked}
 use Rattle.plan_prune.proofs.PlaceLemmas.{place_same, place_behind, place_trans, place_before, place_without, place_swapped}
 

@@ -20,7 +20,8 @@ use Rattle.plan_ir.specs.declared.ir.IR.TheVariants.{Slice, Filter, Scan, DataFr
 use Rattle.plan_ir.specs.Parts.{plan_shape, IsPlan}
 use Rattle.plan_ir.specs.Plans.{op_at, plans_of, plans_at, bare}
 use Rattle.plan_meaning.specs.Typing.{first_schema}
-use Rattle.plan_meaning.specs.Counting.{first_many, first_name, last_name, stand_in, stand_ins, first_stand_in}
+use Rattle.plan_frame.specs.ExprLists.{first_many}
+use Rattle.plan_meaning.specs.Counting.{first_name, last_name, stand_in, stand_ins, first_stand_in}
 use Rattle.plan_meaning.proofs.NodeExprs.{all_stand}
 use Rattle.plan_schema.specs.Stored.{stored_all}
 use Rattle.plan_prune.specs.Kept.{made_by, many_at}

@@ -14,7 +14,7 @@ use Rattle.plan_expr.specs.Exprs.{Named, all_named_at}
 use Rattle.plan_ir.specs.Plans.{bare, op_at, plans_at, plans_of}
 use Rattle.plan_expr.specs.Leaves.{Name}
 use Rattle.plan_core.specs.Columns.{Columns, names_of}
-use Rattle.plan_meaning.specs.Typing.{names_or}
+use Rattle.plan_frame.specs.Frames.{names_or}
 use Rattle.plan_meaning.specs.Counting.{is_closed, is_count, meet_count}
 use Rattle.plan_meaning.specs.Asked.{grouping_names, kept_exprs, needed_names, selected_exprs, set_of}
 use Rattle.plan_narrowing.specs.Pruned.{asked_columns, asked_with, kept, mapped_names, pruned_output, top_below}

@@ -12,8 +12,8 @@ use Rattle.plan_expr.specs.Exprs.{Named, expr_at, all_named_at}
 use Rattle.plan_expr.specs.Leaves.{Name}
 use Rattle.plan_expr.specs.Naming.{name_of}
 use Rattle.plan_expr.specs.Scalars.{is_scalar}
-use Rattle.plan_meaning.specs.Steps.{all_scalar}
-use Rattle.plan_meaning.specs.Typing.{side_by_side}
+use Rattle.plan_frame.specs.ExprLists.{all_scalar}
+use Rattle.plan_frame.specs.Beside.{side_by_side}
 use Rattle.plan_narrowing.specs.Pruned.{typed_names, added_names}
 
 -- the expressions that are asked, in their order

@@ -12,9 +12,11 @@ use Rattle.plan_ir.specs.declared.ir.IR.TheVariants.{Slice, Filter, Scan, DataFr
 use Rattle.plan_expr.specs.Exprs.{expr_at, all_named_at}
 use Rattle.plan_ir.specs.Plans.{bare, plans_at}
 use Rattle.plan_expr.specs.Leaves.{Name, leaves}
-use Rattle.plan_meaning.specs.Typing.{first_schema, names_or}
+use Rattle.plan_meaning.specs.Typing.{first_schema}
+use Rattle.plan_frame.specs.Frames.{names_or}
 use Rattle.plan_meaning.specs.Counting.{stand_ins, first_stand_in}
-use Rattle.plan_meaning.specs.Asked.{all_leaves, grouping_names, needed_names}
+use Rattle.plan_frame.specs.ExprLists.{all_leaves}
+use Rattle.plan_meaning.specs.Asked.{grouping_names, needed_names}
 use Rattle.plan_schema.specs.Stored.{stored_all}
 use Rattle.plan_narrowing.specs.Pruned.{asked_columns, asked_with, held_names, kept, mapped_names, names_alike, pruned_output}
 use Rattle.plan_prune.specs.declared.push_down.step.Step.{Step}

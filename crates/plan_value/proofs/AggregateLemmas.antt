@@ -4,8 +4,6 @@ use Rattle.std.specs.List.{list_any}
 use Rattle.std.specs.Int.{w64, int_wrap, cast_signed, cast_unsigned}
 use Rattle.std.specs.Int.RustNames.{FitsSigned}
 use Rattle.std.proofs.lemmas.Int.{int_wrap_fits, SFits-int_wrap, wrapping_add_onto, int_wrap-add_left}
-use Prim.Native.Nat.{◌^◌, ◌%◌}
-use mir.Val.{bits}
 use Rattle.std.proofs.Math.IntN.{+ℤ_assoc, +ℤ_idl, +ℤ_idr}
 use Rattle.std.proofs.Math.Seq.{take-suc}
 use Rattle.std.proofs.lemmas.List.{map-append}
@@ -13,10 +11,12 @@ use Rattle.std.proofs.lemmas.List.Sums.{fold-append}
 use Rattle.indexmap.specs.IndexSet.{insert_key}
 use Rattle.plan_table.specs.declared.value.AnyValue.{AnyValue}
 use Rattle.plan_table.specs.contracts.value.AnyValuePartialEq.TheImpl as any_value
-use Rattle.plan_meaning.specs.Aggregates.{present, number, total, taken, greater, lesser, with_value, distinct, running_sums, sum_at}
-use Rattle.plan_meaning.specs.Values.{Value, null, whole, text, truth, listed, is_null, same_value}
+use Rattle.plan_frame.specs.Aggregates.{present, number, total, taken, greater, lesser, with_value, distinct, running_sums, sum_at}
+use Rattle.plan_frame.specs.Values.{Value, null, whole, text, truth, listed, is_null, same_value}
 use Rattle.plan_value.specs.Shown.{value_of, values_of}
 use Rattle.plan_value.proofs.SameLemmas.{values_same}
+use Prim.Native.Nat.{◌^◌, ◌%◌}
+use mir.Val.{bits}
 
 -- the values up to the next place
 pub values-next : (vs : List AnyValue) (i : ℕ) (v : AnyValue) → i < length vs → v ≡ get_or vs i v → values_of (take (i + 1) vs) ≡ values_of (take i vs) ++ value_of v ∷ []

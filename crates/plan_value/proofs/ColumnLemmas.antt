@@ -7,9 +7,9 @@ use Rattle.plan_core.specs.Columns.{Columns, HasDistinctNames, names_of, with_ty
 use Rattle.plan_core.specs.declared.data_type.DataType.{DataType}
 use Rattle.plan_core.proofs.ColumnLemmas.{flip_false}
 use Rattle.plan_expr.specs.Leaves.{Name}
-use Rattle.plan_meaning.specs.Frames.{Column}
-use Rattle.plan_meaning.specs.Frames as frames
-use Rattle.plan_meaning.proofs.NameSets.{named}
+use Rattle.plan_frame.specs.Frames.{Column}
+use Rattle.plan_frame.specs.Frames as frames
+use Rattle.plan_frame.proofs.NameSets.{named}
 use Rattle.plan_table.specs.declared.column.Column.{Column as Typed}
 use Rattle.plan_table.specs.Tables.{types_of, with_column}
 use Rattle.plan_value.specs.Shown.{column_shown, columns_shown}

@@ -12,10 +12,10 @@ use Rattle.plan_expr.specs.declared.function_expr.FunctionExpr.{FunctionExpr}
 use Rattle.plan_expr.proofs.ExprLemmas.{expr_down, exprs_down}
 use Rattle.plan_expr.specs.Leaves.{leaves}
 use Rattle.plan_table.specs.declared.value.AnyValue.{AnyValue}
-use Rattle.plan_meaning.proofs.Depends.{val_depends}
-use Rattle.plan_meaning.specs.Frames.{Agree, Frame, rows_at}
-use Rattle.plan_meaning.specs.Meaning.{Cell, called, one, only_value, val}
-use Rattle.plan_meaning.specs.Values.{Value, null}
+use Rattle.plan_frame.proofs.Depends.{val_depends}
+use Rattle.plan_frame.specs.Frames.{Agree, Frame, rows_at}
+use Rattle.plan_frame.specs.Meaning.{Cell, called, one, only_value, val}
+use Rattle.plan_frame.specs.Values.{Value, null}
 use Rattle.plan_value.specs.declared.exprs.Values.{Values}
 use Rattle.plan_value.specs.Cells.{cell_of, cells_at, cells_of}
 use Rattle.plan_value.specs.Shown.{value_of, values_of}

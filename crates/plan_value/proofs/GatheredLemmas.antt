@@ -4,9 +4,9 @@ use Rattle.plan_tree.specs.Rose.{rose, no_roses, more}
 use Rattle.plan_expr.specs.declared.agg.Aggregate.TheVariants.{Implode}
 use Rattle.plan_expr.specs.Exprs.{Expr, aggregate}
 use Rattle.plan_expr.specs.Scalars.{is_scalar}
-use Rattle.plan_meaning.specs.Frames.{Frame}
-use Rattle.plan_meaning.specs.Grouping.{gathered_expr}
-use Rattle.plan_meaning.specs.Meaning.{only_value, val}
+use Rattle.plan_frame.specs.Frames.{Frame}
+use Rattle.plan_frame.specs.Grouping.{gathered_expr}
+use Rattle.plan_frame.specs.Meaning.{only_value, val}
 use Rattle.plan_value.specs.Groups.{gathered_value}
 
 -- the one value of an expression for a group, from what it is over the group's rows

@@ -13,9 +13,9 @@ use Rattle.plan_table.specs.declared.value.AnyValue.TheVariants.{Null}
 use Rattle.plan_table.specs.contracts.value.AnyValuePartialEq.TheImpl.{ghosts}
 use Rattle.plan_table.specs.contracts.value.AnyValueEq.TheImpl.Laws.{laws-law}
 use Rattle.plan_value.proofs.PlaceLemmas.{places-next}
-use Rattle.plan_meaning.specs.Values.{same_value}
-use Rattle.plan_meaning.specs.Frames.{row}
-use Rattle.plan_meaning.specs.Meaning.{are_alike, places_from, value_at}
+use Rattle.plan_frame.specs.Values.{same_value}
+use Rattle.plan_frame.specs.Frames.{row}
+use Rattle.plan_frame.specs.Meaning.{are_alike, places_from, value_at}
 use Rattle.plan_value.specs.declared.exprs.Values.{Values}
 use Rattle.plan_value.specs.declared.exprs.Values.TheVariants.{One, Many}
 use Rattle.plan_value.specs.Shown.{value_of, values_of}

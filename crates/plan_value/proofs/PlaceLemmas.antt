@@ -1,7 +1,7 @@
 -- Places that pass a test, and numbers one after another.
 use Rattle.std.proofs.Common.{◌≡◌, ◌++◌, ◌+◌, ◌-◌, ◌≤◌, ℕ, zero, suc, Bool, true, false, cond, List, [], ◌∷◌, refl, ap, sym, ◌∙◌, arith, add-one}
 use Rattle.std.specs.List.{range_with_len}
-use Rattle.plan_meaning.specs.Meaning.{places_from}
+use Rattle.plan_frame.specs.Meaning.{places_from}
 
 -- the place after so many from a first one on, if it passes
 abbrev pub here : (ℕ → Bool) → ℕ → List ℕ

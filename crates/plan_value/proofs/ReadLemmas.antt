@@ -3,11 +3,11 @@ use Rattle.std.proofs.Common.{◌≡◌, ◌++◌, ◌⊎◌, ⊎_elim, inl, inr
 use Rattle.std.specs.Str.{bytes_eq}
 use Rattle.plan_core.specs.Names.{has}
 use Rattle.plan_expr.specs.Leaves.{Name}
-use Rattle.plan_meaning.specs.Frames.{Column, found, picked, picked_columns, with_column}
-use Rattle.plan_meaning.specs.Values.{Value}
-use Rattle.plan_meaning.proofs.FrameLemmas.{found-picked}
-use Rattle.plan_meaning.proofs.MadeColumns.{found-with_column}
-use Rattle.plan_meaning.proofs.NameSets.{has_cons, has_either, named, same_named}
+use Rattle.plan_frame.specs.Frames.{Column, found, picked, picked_columns, with_column}
+use Rattle.plan_frame.specs.Values.{Value}
+use Rattle.plan_frame.proofs.FrameLemmas.{found-picked}
+use Rattle.plan_frame.proofs.MadeColumns.{found-with_column}
+use Rattle.plan_frame.proofs.NameSets.{has_cons, has_either, named, same_named}
 use Rattle.plan_table.specs.declared.column.Column.{Column as Typed}
 use Rattle.plan_table.specs.Tables.{column_of}
 use Rattle.plan_value.specs.Shown.{columns_shown, values_of}

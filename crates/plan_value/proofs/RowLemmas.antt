@@ -4,9 +4,9 @@ use Rattle.std.specs.List.{slice_get, range_with_len}
 use Rattle.std.proofs.lemmas.List.{map-append}
 use Rattle.std.proofs.lemmas.Option.{slice_get-get_or, slice_get_past}
 use Rattle.plan_table.specs.declared.value.AnyValue.{AnyValue}
-use Rattle.plan_meaning.specs.Values.{Value, null}
-use Rattle.plan_meaning.specs.Frames.{row}
-use Rattle.plan_meaning.specs.Meaning.{zip_by}
+use Rattle.plan_frame.specs.Values.{Value, null}
+use Rattle.plan_frame.specs.Frames.{row}
+use Rattle.plan_frame.specs.Meaning.{zip_by}
 use Rattle.plan_value.specs.Shown.{value_of, values_of}
 use Rattle.plan_value.proofs.PlaceLemmas.{range-more}
 

@@ -7,7 +7,7 @@ use Rattle.plan_table.specs.contracts.value.PlainValuePartialEq.TheImpl.{ghosts}
 use Rattle.plan_table.specs.declared.value.AnyValue.{AnyValue}
 use Rattle.plan_table.specs.declared.value.AnyValue.TheVariants as anys
 use Rattle.plan_table.specs.contracts.value.AnyValuePartialEq.TheImpl as any_value
-use Rattle.plan_meaning.specs.Values.{same_single, same_value}
+use Rattle.plan_frame.specs.Values.{same_single, same_value}
 use Rattle.plan_value.specs.Shown.{single_of, value_of}
 
 -- what `==` says of two single values

@@ -8,8 +8,8 @@ use Rattle.plan_table.specs.declared.column.Column.{Column as Typed}
 use Rattle.plan_table.specs.declared.table.Table.{Table}
 use Rattle.plan_table.specs.Tables.{column_of}
 use Rattle.plan_expr.specs.Leaves.{Name}
-use Rattle.plan_meaning.specs.Values.{Value, null}
-use Rattle.plan_meaning.specs.Frames.{column_or, found}
+use Rattle.plan_frame.specs.Values.{Value, null}
+use Rattle.plan_frame.specs.Frames.{column_or, found}
 use Rattle.plan_value.specs.Shown.{value_of, values_of, columns_shown, frame_of}
 
 found-cond : (b : Bool) (c : Typed) (o : Option Typed) → cond b (Some (values_of c.values)) (option_map (λ (d : Typed). values_of d.values) o) ≡ option_map (λ (d : Typed). values_of d.values) (cond b (Some c) o)

@@ -2,9 +2,9 @@
 use Rattle.std.proofs.Common.{◌≡◌, ◌+◌, ◌<◌, ◌≤◌, ℕ, zero, suc, Bool, cond, List, [], ◌∷◌, map, refl, arith, length, get_or, ap, ap₂, ◌∙◌}
 use Rattle.std.specs.Prelude.{nat_eq}
 use Rattle.std.specs.List.{range_with_len}
-use Rattle.plan_meaning.specs.Frames.{Frame, picked, row, rows_at}
-use Rattle.plan_meaning.specs.Meaning.{Cell, Meaning, are_alike, many, only_value, places_from, rows_alike, windowed}
-use Rattle.plan_meaning.specs.Values.{Value}
+use Rattle.plan_frame.specs.Frames.{Frame, picked, row, rows_at}
+use Rattle.plan_frame.specs.Meaning.{Cell, Meaning, are_alike, many, only_value, places_from, rows_alike, windowed}
+use Rattle.plan_frame.specs.Values.{Value}
 use Rattle.plan_value.specs.Groups.{AreNumbered, rows_numbered}
 
 -- tests that agree pass the same numbers

@@ -3,8 +3,8 @@ use Rattle.std.specs.Prelude.{List, map}
 use Rattle.plan_core.specs.declared.arena.Node.{Node}
 use Rattle.plan_expr.specs.Exprs.{exprs_at}
 use Rattle.plan_expr.specs.declared.aexpr.AExpr.{AExpr}
-use Rattle.plan_meaning.specs.Meaning.{Cell, one, many, cells, vals}
-use Rattle.plan_meaning.specs.Frames.{Frame}
+use Rattle.plan_frame.specs.Meaning.{Cell, one, many, cells, vals}
+use Rattle.plan_frame.specs.Frames.{Frame}
 use Rattle.plan_value.specs.declared.exprs.Values.{Values}
 use Rattle.plan_value.specs.declared.exprs.Values.TheVariants as values
 use Rattle.plan_value.specs.Shown.{value_of, values_of}

@@ -3,9 +3,9 @@ use Rattle.std.specs.Prelude.{◌≡◌, ◌<◌, ℕ, Bool, true, false, List, 
 use Rattle.plan_table.specs.declared.value.AnyValue.{AnyValue}
 use Rattle.plan_table.specs.declared.value.AnyValue.TheVariants.{Null}
 use Rattle.plan_expr.specs.declared.agg.Aggregate.TheVariants.{Implode}
-use Rattle.plan_meaning.specs.Aggregates.{aggregated}
-use Rattle.plan_meaning.specs.Meaning.{Cell, are_alike, cell_values, only_value, places_from}
-use Rattle.plan_meaning.specs.Values.{Value}
+use Rattle.plan_frame.specs.Aggregates.{aggregated}
+use Rattle.plan_frame.specs.Meaning.{Cell, are_alike, cell_values, only_value, places_from}
+use Rattle.plan_frame.specs.Values.{Value}
 use Rattle.plan_value.specs.declared.exprs.Values.{Values}
 use Rattle.plan_value.specs.declared.exprs.Values.TheVariants as values
 

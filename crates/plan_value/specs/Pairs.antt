@@ -2,9 +2,9 @@
 use Rattle.std.specs.Prelude.{not}
 use Rattle.plan_expr.specs.declared.function_expr.FunctionExpr.{FunctionExpr}
 use Rattle.plan_expr.specs.declared.function_expr.FunctionExpr.TheVariants.{Not, IsNull, IsNotNull}
-use Rattle.plan_meaning.specs.Aggregates.{filled_null, negated}
-use Rattle.plan_meaning.specs.Meaning.{operated}
-use Rattle.plan_meaning.specs.Values.{Value, null, truth, is_null}
+use Rattle.plan_frame.specs.Aggregates.{filled_null, negated}
+use Rattle.plan_frame.specs.Meaning.{operated}
+use Rattle.plan_frame.specs.Values.{Value, null, truth, is_null}
 use Rattle.plan_value.specs.declared.spread.Pairing.{Pairing}
 use Rattle.plan_value.specs.declared.spread.Pairing.TheVariants.{Operator, FillNull}
 

@@ -8,8 +8,8 @@ use Rattle.plan_table.specs.declared.value.PlainValue.TheVariants as singles
 use Rattle.plan_table.specs.declared.column.Column.{Column as Typed}
 use Rattle.plan_table.specs.declared.table.Table.{Table}
 use Rattle.plan_table.specs.Tables.{types_of}
-use Rattle.plan_meaning.specs.Values.{Single, no_single, single_whole, single_text, single_truth, Value, null, whole, text, truth, listed}
-use Rattle.plan_meaning.specs.Frames.{Frame, Column}
+use Rattle.plan_frame.specs.Values.{Single, no_single, single_whole, single_text, single_truth, Value, null, whole, text, truth, listed}
+use Rattle.plan_frame.specs.Frames.{Frame, Column}
 
 -- what a single value of a table is
 abbrev pub single_of : PlainValue → Single

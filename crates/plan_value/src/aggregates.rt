@@ -1,8 +1,8 @@
 //! What aggregates make of values.
 ghost use Rattle.std.specs.Prelude.{◌≡◌, IfOk, length, map, pos, if◌then◌else◌};
 ghost use Rattle.std.specs.Int.{w64, int_wrap};
-ghost use Rattle.plan_meaning.specs.Aggregates.{aggregated as aggregated_of, distinct as distinct_of, greater, lesser, number as number_of, present, single as single_made, taken, total};
-ghost use Rattle.plan_meaning.specs.Values.{is_null as null_value, whole};
+ghost use Rattle.plan_frame.specs.Aggregates.{aggregated as aggregated_of, distinct as distinct_of, greater, lesser, number as number_of, present, single as single_made, taken, total};
+ghost use Rattle.plan_frame.specs.Values.{is_null as null_value, whole};
 ghost use Rattle.plan_value.specs.Shown.{single_of, value_of, values_of};
 
 use crate::operators::ordering;

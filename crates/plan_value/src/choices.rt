@@ -1,7 +1,7 @@
 //! The first of two values in each row, or the second.
 ghost use Rattle.std.specs.Prelude.{◌≡◌, ◌∷◌, [], IfOk, if◌then◌else◌};
-ghost use Rattle.plan_meaning.specs.Meaning.{all_one, chosen as chosen_of, value_at as value_of_row};
-ghost use Rattle.plan_meaning.specs.Values.{is_true};
+ghost use Rattle.plan_frame.specs.Meaning.{all_one, chosen as chosen_of, value_at as value_of_row};
+ghost use Rattle.plan_frame.specs.Values.{is_true};
 ghost use Rattle.plan_value.specs.Cells.{cell_of};
 ghost use Rattle.plan_value.specs.Shown.{value_of};
 

@@ -2,10 +2,10 @@
 ghost use Rattle.std.specs.Prelude.{◌≡◌, ◌∷◌, [], All, IfOk, map, replicate};
 ghost use Rattle.plan_expr.specs.Operands.{IsExpr};
 ghost use Rattle.plan_expr.specs.Exprs.{expr_at};
-ghost use Rattle.plan_meaning.specs.Aggregates.{aggregated as aggregated_of};
-ghost use Rattle.plan_meaning.specs.Frames.{column_or, rows_at as rows_of};
-ghost use Rattle.plan_meaning.specs.Meaning.{called, cell_values, chosen as chosen_of, filled as filled_with, literal_value, only_value as only_value_of, operated as operated_of, spread as spread_of, val, value_at as value_of_row, windowed};
-ghost use Rattle.plan_meaning.specs.Values.{is_true as true_value};
+ghost use Rattle.plan_frame.specs.Aggregates.{aggregated as aggregated_of};
+ghost use Rattle.plan_frame.specs.Frames.{column_or, rows_at as rows_of};
+ghost use Rattle.plan_frame.specs.Meaning.{called, cell_values, chosen as chosen_of, filled as filled_with, literal_value, only_value as only_value_of, operated as operated_of, spread as spread_of, val, value_at as value_of_row, windowed};
+ghost use Rattle.plan_frame.specs.Values.{is_true as true_value};
 ghost use Rattle.plan_value.specs.Cells.{cell_of, cells_at, cells_of};
 ghost use Rattle.plan_value.specs.Groups.{own_at};
 ghost use Rattle.plan_value.specs.Shown.{frame_of, value_of, values_of};

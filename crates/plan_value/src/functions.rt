@@ -1,7 +1,7 @@
 //! What functions make of values.
 ghost use Rattle.std.specs.Prelude.{◌≡◌, IfOk, map, pos, reverse};
-ghost use Rattle.plan_meaning.specs.Aggregates.{negated as negated_of, running_sums as running_sums_of, sum_at as sum_of};
-ghost use Rattle.plan_meaning.specs.Meaning.{all_values, called_on as called_of, called_on_two as called_of_two, each_value};
+ghost use Rattle.plan_frame.specs.Aggregates.{negated as negated_of, running_sums as running_sums_of, sum_at as sum_of};
+ghost use Rattle.plan_frame.specs.Meaning.{all_values, called_on as called_of, called_on_two as called_of_two, each_value};
 ghost use Rattle.plan_value.specs.Cells.{cell_of};
 ghost use Rattle.plan_value.specs.Pairs.{in_row as in_row_of};
 ghost use Rattle.plan_value.specs.Shown.{value_of, values_of};

@@ -2,9 +2,9 @@
 ghost use Rattle.std.specs.Prelude.{◌≡◌, IfOk, map};
 ghost use Rattle.plan_expr.specs.Exprs.{expr_at};
 ghost use Rattle.plan_expr.specs.Operands.{IsExpr};
-ghost use Rattle.plan_meaning.specs.Frames.{rows_at as rows_of};
-ghost use Rattle.plan_meaning.specs.Grouping.{gathered_expr};
-ghost use Rattle.plan_meaning.specs.Meaning.{only_value as only_value_of, val};
+ghost use Rattle.plan_frame.specs.Frames.{rows_at as rows_of};
+ghost use Rattle.plan_frame.specs.Grouping.{gathered_expr};
+ghost use Rattle.plan_frame.specs.Meaning.{only_value as only_value_of, val};
 ghost use Rattle.plan_value.specs.Cells.{cell_of};
 ghost use Rattle.plan_value.specs.Groups.{gathered_value};
 ghost use Rattle.plan_value.specs.Shown.{frame_of, value_of, values_of};

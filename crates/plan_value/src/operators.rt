@@ -1,8 +1,8 @@
 //! What operators give for two values.
 ghost use Rattle.std.specs.Prelude.{◌≡◌};
 ghost use Rattle.std.specs.Int.{w64, int_wrapping_add, int_wrapping_sub, int_wrapping_mul};
-ghost use Rattle.plan_meaning.specs.Meaning.{operated as operated_of, compared, both_true as and_of, one_true as or_of, differ as xor_of, reckoned};
-ghost use Rattle.plan_meaning.specs.Values.{same_value, value_cmp};
+ghost use Rattle.plan_frame.specs.Meaning.{operated as operated_of, compared, both_true as and_of, one_true as or_of, differ as xor_of, reckoned};
+ghost use Rattle.plan_frame.specs.Values.{same_value, value_cmp};
 ghost use Rattle.plan_value.specs.Shown.{value_of};
 
 use plan_expr::Operator;

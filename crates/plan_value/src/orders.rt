@@ -1,7 +1,7 @@
 //! How rows stand by keys.
 ghost use Rattle.std.specs.Prelude.{◌≡◌};
-ghost use Rattle.plan_meaning.specs.Meaning.{value_at as value_of_row};
-ghost use Rattle.plan_meaning.specs.Orders.{first_mark as first_of, key_cmp, rest_marks as rest_of, rows_cmp};
+ghost use Rattle.plan_frame.specs.Meaning.{value_at as value_of_row};
+ghost use Rattle.plan_frame.specs.Orders.{first_mark as first_of, key_cmp, rest_marks as rest_of, rows_cmp};
 ghost use Rattle.plan_table.specs.declared.value.AnyValue.TheVariants.{Null as null_value};
 ghost use Rattle.plan_value.specs.Cells.{cell_of, cells_of};
 ghost use Rattle.plan_value.specs.Shown.{value_of};

@@ -1,6 +1,6 @@
 //! Rows of a table, by their numbers.
 ghost use Rattle.std.specs.Prelude.{◌≡◌, IfOk};
-ghost use Rattle.plan_meaning.specs.Frames.{Agree, picked as picked_of, row as row_of, rows_at as rows_of};
+ghost use Rattle.plan_frame.specs.Frames.{Agree, picked as picked_of, row as row_of, rows_at as rows_of};
 ghost use Rattle.plan_value.specs.Shown.{column_shown, frame_of, schema_of, value_of, values_of};
 
 use plan_core::{Items, PlSmallStr, TryClone};

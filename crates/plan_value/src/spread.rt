@@ -1,6 +1,6 @@
 //! Two sides, row by row: one value is spread beside many.
 ghost use Rattle.std.specs.Prelude.{◌≡◌, IfOk, map};
-ghost use Rattle.plan_meaning.specs.Meaning.{spread as spread_of, zip_by};
+ghost use Rattle.plan_frame.specs.Meaning.{spread as spread_of, zip_by};
 ghost use Rattle.plan_value.specs.Cells.{cell_of};
 ghost use Rattle.plan_value.specs.Pairs.{paired as paired_of};
 ghost use Rattle.plan_value.specs.Shown.{value_of, values_of};

@@ -8,7 +8,7 @@ ghost use Rattle.plan_expr.specs.declared.aexpr.AExpr.{AExpr};
 ghost use Rattle.plan_ir.specs.declared.ir.IR.{IR};
 ghost use Rattle.plan_ir.specs.declared.ir.IR.TheVariants.{Distinct};
 ghost use Rattle.plan_ir.specs.Parts.{plan_shape};
-ghost use Rattle.plan_meaning.specs.Typing.{names_or};
+ghost use Rattle.plan_frame.specs.Frames.{names_or};
 ghost use Rattle.plan_narrowing.specs.Pruned.{asked_with};
 ghost use Rattle.plan_prune.specs.declared.push_down.step.Step.TheVariants.{Over};
 ghost use Rattle.plan_prune.specs.Steps.{columns_at};

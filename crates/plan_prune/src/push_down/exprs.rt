@@ -4,7 +4,7 @@ ghost use Rattle.plan_core.specs.Names.{with_names};
 ghost use Rattle.plan_expr.specs.Operands.{IsExpr};
 ghost use Rattle.plan_expr.specs.Exprs.{all_named_at, expr_at};
 ghost use Rattle.plan_expr.specs.Leaves.{leaves};
-ghost use Rattle.plan_meaning.specs.Asked.{all_leaves};
+ghost use Rattle.plan_frame.specs.ExprLists.{all_leaves};
 ghost use Rattle.plan_prune.specs.Kept.{asked_exprs as exprs_asked, names_at, stacked_at, with_typed as columns_with};
 
 use plan_core::{Arena, Items, Names, Node, PlSmallStr, Schema, TryClone};

@@ -7,7 +7,7 @@ ghost use Rattle.plan_expr.specs.declared.aexpr.AExpr.{AExpr};
 ghost use Rattle.plan_ir.specs.declared.ir.IR.{IR};
 ghost use Rattle.plan_ir.specs.declared.ir.IR.TheVariants.{HConcat};
 ghost use Rattle.plan_ir.specs.Parts.{plan_shape};
-ghost use Rattle.plan_meaning.specs.Typing.{side_by_side, with_new};
+ghost use Rattle.plan_frame.specs.Beside.{side_by_side, with_new};
 ghost use Rattle.plan_prune.specs.declared.push_down.step.Step.TheVariants.{Each};
 ghost use Rattle.plan_prune.specs.Kept.{beside_after};
 ghost use Rattle.plan_prune.specs.Steps.{columns_at, held_at};

@@ -8,7 +8,7 @@ ghost use Rattle.plan_expr.specs.Operands.{IsExpr};
 ghost use Rattle.plan_expr.specs.Exprs.{all_named_at};
 ghost use Rattle.plan_ir.specs.Parts.{IsPlan, roots_of};
 ghost use Rattle.plan_ir.specs.Plans.{op_at};
-ghost use Rattle.plan_meaning.specs.Asked.{all_leaves};
+ghost use Rattle.plan_frame.specs.ExprLists.{all_leaves};
 ghost use Rattle.plan_meaning.specs.Counting.{is_count as is_count_op, stand_in_names};
 ghost use Rattle.plan_prune.specs.Prunes.{StandExprs};
 ghost use Rattle.plan_prune.specs.Steps.{selected_step, stand_in_at};
@@ -19,8 +19,8 @@ use crate::push_down::stand_in::{first_many, stand_in};
 use crate::push_down::step::Step;
 use plan_core::{Arena, Items, Names, Node, ProjectionOptions, Schema, TryClone};
 use plan_expr::{AExpr, ExprIR};
+use plan_frame::{all_scalar, counts_rows};
 use plan_ir::IR;
-use plan_meaning::{all_scalar, counts_rows};
 use std::alloc::{AllocError, Global};
 
 /// Whether a node counts the rows of its input: a selection of their number alone does.

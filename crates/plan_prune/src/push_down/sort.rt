@@ -5,7 +5,7 @@ ghost use Rattle.std.specs.Prelude.{◌≡◌, All, IfOk, map};
 ghost use Rattle.plan_expr.specs.Operands.{IsExpr};
 ghost use Rattle.plan_ir.specs.declared.ir.IR.TheVariants.{Sort};
 ghost use Rattle.plan_expr.specs.Exprs.{all_named_at};
-ghost use Rattle.plan_meaning.specs.Asked.{all_leaves};
+ghost use Rattle.plan_frame.specs.ExprLists.{all_leaves};
 ghost use Rattle.plan_narrowing.specs.Pruned.{asked_with};
 ghost use Rattle.plan_prune.specs.declared.push_down.step.Step.TheVariants.{Over};
 ghost use Rattle.plan_prune.specs.Prunes.{StandExprs};

@@ -4,7 +4,7 @@ use Rattle.plan_core.specs.declared.error.PolarsError.TheVariants.{Duplicate, Sc
 use Rattle.plan_core.specs.Columns.{Columns, type_of, with_type}
 use Rattle.plan_expr.specs.Leaves.{Name}
 use Rattle.plan_meaning.specs.Typing.{is_known}
-use Rattle.plan_meaning.proofs.ScalarExprs.{item_here}
+use Rattle.plan_frame.proofs.ScalarExprs.{item_here}
 use Rattle.plan_builder.proofs.Faults.{each-holds}
 use Rattle.plan_builder.proofs.PickLemmas.{Picking, picking-bad, picking-next}
 use Rattle.plan_builder.proofs.simple.picked.Goals.{in-Some+in_ok-new+in_ok-before+else-is_some, in_default}

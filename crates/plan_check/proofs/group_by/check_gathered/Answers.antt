@@ -2,8 +2,8 @@ use Rattle.std.proofs.Common.{◌∙◌, ◌+◌, ap, sym, is_some, Some, rules}
 use Rattle.plan_core.specs.declared.error.At.{At}
 use Rattle.plan_core.specs.declared.error.PolarsError.TheVariants.{SchemaMismatch}
 use Rattle.plan_expr.specs.Exprs.{expr_at}
-use Rattle.plan_meaning.specs.Exprs.{expr_type}
-use Rattle.plan_meaning.specs.Grouping.{gathered_expr}
+use Rattle.plan_frame.specs.Exprs.{expr_type}
+use Rattle.plan_frame.specs.Grouping.{gathered_expr}
 use Rattle.plan_meaning.specs.Typing.{first_fault}
 use Rattle.plan_function.proofs.CheckLemmas.{left-next, left-bad, left-end, at-capped}
 use Rattle.plan_check.proofs.MadeLemmas.{stands_here, item_here}

@@ -1,8 +1,8 @@
 use Rattle.std.proofs.Common.{is_some}
 use Rattle.plan_core.specs.declared.error.PolarsError.TheVariants.{SchemaMismatch}
 use Rattle.plan_expr.specs.Exprs.{expr_at}
-use Rattle.plan_meaning.specs.Exprs.{expr_type}
-use Rattle.plan_meaning.specs.Grouping.{gathered_expr}
+use Rattle.plan_frame.specs.Exprs.{expr_type}
+use Rattle.plan_frame.specs.Grouping.{gathered_expr}
 use Rattle.plan_function.proofs.CheckLemmas.{Left}
 use Rattle.plan_check.proofs.group_by.check_gathered.Given as goal
 

@@ -1,7 +1,7 @@
 use Rattle.std.proofs.Common.{◌≡◌, ◌∙◌, IfOk, ap, subst}
 use Rattle.plan_core.specs.Columns.{Columns}
 use Rattle.plan_expr.specs.Exprs.{all_named_at}
-use Rattle.plan_meaning.specs.Typing.{made_schema}
+use Rattle.plan_frame.specs.Made.{made_schema}
 use Rattle.plan_check.proofs.GroupFaults.{group_made}
 use Rattle.plan_check.proofs.group_by.group_schema.Goals as goal
 

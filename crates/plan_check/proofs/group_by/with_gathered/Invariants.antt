@@ -1,7 +1,7 @@
 use Rattle.std.proofs.Common.{◌≡◌, map, take}
 use Rattle.plan_expr.specs.Exprs.{all_named_at}
-use Rattle.plan_meaning.specs.Grouping.{gathered}
-use Rattle.plan_meaning.specs.Typing.{made_schema}
+use Rattle.plan_frame.specs.Grouping.{gathered}
+use Rattle.plan_frame.specs.Made.{made_schema}
 use Rattle.plan_check.proofs.group_by.with_gathered.Given as goal
 
 abbrev pub invariant-loop-agg : goal.invariant-loop-agg

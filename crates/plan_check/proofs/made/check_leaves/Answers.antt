@@ -3,7 +3,7 @@ use Rattle.plan_core.specs.declared.error.At.{At}
 use Rattle.plan_core.specs.declared.error.PolarsError.TheVariants.{SchemaFieldNotFound}
 use Rattle.plan_expr.specs.Exprs.{expr_at}
 use Rattle.plan_expr.specs.Leaves.{leaves}
-use Rattle.plan_meaning.specs.Exprs.{all_known}
+use Rattle.plan_frame.specs.Exprs.{all_known}
 use Rattle.plan_meaning.specs.Typing.{first_fault}
 use Rattle.plan_function.proofs.CheckLemmas.{left-next, left-bad, left-end}
 use Rattle.plan_check.proofs.MadeLemmas.{leaf-at, stands_here, item_here}

@@ -1,7 +1,7 @@
 use Rattle.plan_core.specs.declared.error.PolarsError.TheVariants.{SchemaFieldNotFound}
 use Rattle.plan_expr.specs.Exprs.{expr_at}
 use Rattle.plan_expr.specs.Leaves.{leaves}
-use Rattle.plan_meaning.specs.Exprs.{all_known}
+use Rattle.plan_frame.specs.Exprs.{all_known}
 use Rattle.plan_function.proofs.CheckLemmas.{Left}
 use Rattle.plan_check.proofs.made.check_leaves.Given as goal
 

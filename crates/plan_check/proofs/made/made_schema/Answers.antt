@@ -5,7 +5,7 @@ use Rattle.plan_core.specs.declared.data_type.DataType.TheVariants.{Int64}
 use Rattle.plan_expr.specs.Exprs.{expr_at}
 use Rattle.plan_expr.specs.Leaves.{Name}
 use Rattle.plan_expr.specs.Naming.{name_of}
-use Rattle.plan_meaning.specs.Exprs.{expr_type}
+use Rattle.plan_frame.specs.Exprs.{expr_type}
 use Rattle.plan_check.proofs.MadeLemmas.{stands_here, item_here, made-next}
 use Rattle.plan_check.proofs.made.made_schema.Goals as goal
 

@@ -1,6 +1,6 @@
 use Rattle.std.proofs.Common.{◌≡◌, take}
 use Rattle.plan_expr.specs.Exprs.{all_named_at}
-use Rattle.plan_meaning.specs.Typing.{made_schema}
+use Rattle.plan_frame.specs.Made.{made_schema}
 use Rattle.plan_check.proofs.made.made_schema.Given as goal
 
 abbrev pub invariant-loop-expr : goal.invariant-loop-expr

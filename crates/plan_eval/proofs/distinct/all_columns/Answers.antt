@@ -1,8 +1,8 @@
 use Rattle.std.proofs.Common.{◌≡◌, ◌∙◌, ◌++◌, ◌∷◌, [], List, ap, sym, append_assoc}
 use Rattle.std.proofs.lemmas.List.{map-append}
 use Rattle.plan_expr.specs.Leaves.{Name}
-use Rattle.plan_meaning.specs.Frames.{column_names, column_or}
-use Rattle.plan_meaning.specs.Meaning.{Cell, many}
+use Rattle.plan_frame.specs.Frames.{column_names, column_or}
+use Rattle.plan_frame.specs.Meaning.{Cell, many}
 use Rattle.plan_table.specs.declared.column.Column.{Column as Typed}
 use Rattle.plan_value.specs.declared.exprs.Values.{Values}
 use Rattle.plan_value.specs.declared.exprs.Values.TheVariants.{Many}

@@ -1,5 +1,5 @@
 use Rattle.std.proofs.Common.{◌≡◌, ◌++◌}
-use Rattle.plan_meaning.specs.Frames.{column_names}
+use Rattle.plan_frame.specs.Frames.{column_names}
 use Rattle.plan_value.specs.Cells.{cells_of}
 use Rattle.plan_value.specs.Shown.{columns_shown, frame_of}
 use Rattle.plan_eval.specs.Distinct.{columns_named}

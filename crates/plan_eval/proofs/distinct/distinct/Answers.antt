@@ -1,7 +1,7 @@
 use Rattle.std.proofs.Common.{◌∙◌, ◌<◌, ℕ, List, ap, subst}
 use Rattle.std.specs.List.Sorted.{IsPermutation}
-use Rattle.plan_meaning.specs.Frames.{rows_at}
-use Rattle.plan_meaning.specs.Meaning.{Cell}
+use Rattle.plan_frame.specs.Frames.{rows_at}
+use Rattle.plan_frame.specs.Meaning.{Cell}
 use Rattle.plan_value.specs.Cells.{cells_of}
 use Rattle.plan_value.specs.Groups.{AreNumbered}
 use Rattle.plan_value.specs.Shown.{frame_of}

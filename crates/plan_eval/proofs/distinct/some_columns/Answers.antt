@@ -1,8 +1,8 @@
 use Rattle.std.proofs.Common.{◌≡◌, ◌∙◌, ◌+◌, ◌++◌, ◌∷◌, [], List, ap, ap₂, sym, subst, take}
 use Rattle.std.proofs.lemmas.List.{map-append, take_more}
 use Rattle.plan_expr.specs.Leaves.{Name}
-use Rattle.plan_meaning.specs.Frames.{column_or}
-use Rattle.plan_meaning.specs.Meaning.{Cell, many}
+use Rattle.plan_frame.specs.Frames.{column_or}
+use Rattle.plan_frame.specs.Meaning.{Cell, many}
 use Rattle.plan_value.specs.declared.exprs.Values.{Values}
 use Rattle.plan_value.specs.declared.exprs.Values.TheVariants.{Many}
 use Rattle.plan_value.specs.Cells.{cell_of, cells_of}

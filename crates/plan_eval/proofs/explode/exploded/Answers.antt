@@ -2,10 +2,9 @@ use Rattle.std.proofs.Common.{◌≡◌, ◌∙◌, ℕ, List, length, ap, ap₂
 use Rattle.std.specs.List.{filter as only_where}
 use Rattle.plan_core.specs.Names.{has}
 use Rattle.plan_expr.specs.Leaves.{Name}
-use Rattle.plan_meaning.specs.Frames.{Column}
-use Rattle.plan_meaning.specs.Functions.{exploded_columns}
-use Rattle.plan_meaning.specs.Mapped.{exploded_rows}
-use Rattle.plan_meaning.proofs.ExplodeLemmas.{apart-once}
+use Rattle.plan_frame.specs.Frames.{Column}
+use Rattle.plan_frame.specs.Reshaped.{exploded_columns, exploded_rows}
+use Rattle.plan_frame.proofs.ReshapedLemmas.{apart-once}
 use Rattle.plan_table.specs.declared.column.Column.{Column as Typed}
 use Rattle.plan_value.specs.Shown.{columns_shown, frame_of, schema_of}
 use Rattle.plan_eval.specs.Explode.{borrowed_columns, columns_over, longest, rows_by}

@@ -3,11 +3,10 @@ use Rattle.plan_core.specs.Columns.{Columns, HasDistinctNames}
 use Rattle.plan_core.specs.Names.{has, AreDistinct}
 use Rattle.plan_core.specs.declared.data_type.DataType.{DataType}
 use Rattle.plan_expr.specs.Leaves.{Name}
-use Rattle.plan_meaning.specs.Frames.{Column}
-use Rattle.plan_meaning.specs.Functions.{exploded_columns, item_type}
-use Rattle.plan_meaning.specs.Mapped.{exploded_values}
-use Rattle.plan_meaning.specs.Values.{Value}
-use Rattle.plan_meaning.proofs.ExplodeLemmas.{names-exploded}
+use Rattle.plan_frame.specs.Frames.{Column}
+use Rattle.plan_frame.specs.Reshaped.{exploded_columns, item_type, exploded_values}
+use Rattle.plan_frame.specs.Values.{Value}
+use Rattle.plan_frame.proofs.ReshapedLemmas.{names-exploded}
 use Rattle.plan_table.specs.declared.column.Column.{Column as Typed}
 use Rattle.plan_table.specs.Tables.{types_of}
 use Rattle.plan_value.specs.Shown.{column_shown, columns_shown, values_of}

@@ -1,5 +1,5 @@
 use Rattle.std.proofs.Common.{◌≡◌, ◌++◌}
-use Rattle.plan_meaning.specs.Functions.{exploded_columns}
+use Rattle.plan_frame.specs.Reshaped.{exploded_columns}
 use Rattle.plan_table.specs.Tables.{types_of}
 use Rattle.plan_value.specs.Shown.{columns_shown}
 use Rattle.plan_eval.specs.Explode.{columns_over}

@@ -1,6 +1,6 @@
 use Rattle.std.proofs.Common.{◌∙◌, List, ap, sym}
-use Rattle.plan_meaning.specs.Frames.{row}
-use Rattle.plan_meaning.specs.Values.{Value}
+use Rattle.plan_frame.specs.Frames.{row}
+use Rattle.plan_frame.specs.Values.{Value}
 use Rattle.plan_eval.proofs.ExplodeLemmas.{single-get, single-beyond}
 use Rattle.plan_eval.proofs.explode.item_at.Goals as goal
 

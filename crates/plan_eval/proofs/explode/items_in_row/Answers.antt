@@ -1,5 +1,5 @@
 use Rattle.std.proofs.Common.{◌∙◌, ap, sym}
-use Rattle.plan_meaning.specs.Mapped.{items}
+use Rattle.plan_frame.specs.Reshaped.{items}
 use Rattle.plan_value.proofs.RowLemmas.{row-get, row-beyond}
 use Rattle.plan_eval.proofs.explode.items_in_row.Goals as goal
 

@@ -1,5 +1,5 @@
 use Rattle.std.proofs.Common.{◌≡◌, false, take}
-use Rattle.plan_meaning.specs.Mapped.{exploded_values}
+use Rattle.plan_frame.specs.Reshaped.{exploded_values}
 use Rattle.plan_value.specs.Shown.{values_of}
 use Rattle.plan_eval.proofs.explode.repeated.Given as goal
 

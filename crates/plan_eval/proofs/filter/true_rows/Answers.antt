@@ -1,6 +1,6 @@
 use Rattle.std.proofs.Common.{◌∙◌, ◌++◌, ◌∷◌, [], List, ℕ, Bool, true, false, ap, sym, append-nil}
-use Rattle.plan_meaning.specs.Meaning.{value_at, places_from}
-use Rattle.plan_meaning.specs.Values.{is_true}
+use Rattle.plan_frame.specs.Meaning.{value_at, places_from}
+use Rattle.plan_frame.specs.Values.{is_true}
 use Rattle.plan_value.specs.Cells.{cell_of}
 use Rattle.plan_value.proofs.PlaceLemmas.{places-next}
 use Rattle.plan_eval.proofs.filter.true_rows.Goals.{then-is_true_at+in_ok-push, else-is_true_at}

@@ -1,5 +1,5 @@
 use Rattle.std.proofs.Common.{◌≡◌}
-use Rattle.plan_meaning.specs.Steps.{true_rows}
+use Rattle.plan_frame.specs.Rows.{true_rows}
 use Rattle.plan_value.specs.Cells.{cell_of}
 use Rattle.plan_eval.proofs.filter.true_rows.Given as goal
 

@@ -1,7 +1,7 @@
 use Rattle.std.proofs.Common.{◌∙◌, Option, ap, sym}
 use Rattle.std.specs.Option.{unwrap_or}
 use Rattle.plan_meaning.specs.Contents.{handed_in, no_frame}
-use Rattle.plan_meaning.specs.Frames.{Frame}
+use Rattle.plan_frame.specs.Frames.{Frame}
 use Rattle.plan_table.specs.declared.source_key.SourceKey.TheVariants.{Frame as frame_key}
 use Rattle.plan_fit.specs.Sources.{contents_of}
 use Rattle.plan_eval.specs.Stacks.{frame_found}

@@ -1,9 +1,9 @@
 use Rattle.std.proofs.Common.{◌≡◌, ◌∙◌, List, true, ap, sym, subst}
 use Rattle.plan_core.specs.Columns.{names_of}
 use Rattle.plan_expr.specs.Leaves.{Name}
-use Rattle.plan_meaning.specs.Frames.{Column}
-use Rattle.plan_meaning.specs.Functions.{names_now, renamed_columns, stay_apart}
-use Rattle.plan_meaning.specs.Mapped.{with_renamed}
+use Rattle.plan_frame.specs.Frames.{Column}
+use Rattle.plan_meaning.specs.Functions.{names_now, stay_apart}
+use Rattle.plan_frame.specs.Reshaped.{renamed_columns, with_renamed}
 use Rattle.plan_table.specs.Tables.{types_of}
 use Rattle.plan_value.specs.Shown.{columns_shown, frame_of, schema_of}
 use Rattle.plan_eval.proofs.FunctionLemmas.{pairs-rename, shown-under, types-under}

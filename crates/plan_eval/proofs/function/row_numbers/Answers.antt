@@ -1,7 +1,7 @@
 use Rattle.std.proofs.Common.{◌∙◌, ◌++◌, ◌∷◌, [], List, ap, ap₂, rules}
 use Rattle.std.specs.Int.{w64}
 use Rattle.std.proofs.lemmas.Int.{to_z-of_z}
-use Rattle.plan_meaning.specs.Values.{Value, whole}
+use Rattle.plan_frame.specs.Values.{Value, whole}
 use Rattle.plan_value.specs.Shown.{values_of}
 use Rattle.plan_value.proofs.ShownLemmas.{values-push}
 use Rattle.plan_eval.proofs.FunctionLemmas.{numbers-next}

@@ -1,5 +1,5 @@
 use Rattle.std.proofs.Common.{◌≡◌}
-use Rattle.plan_meaning.specs.Mapped.{row_numbers}
+use Rattle.plan_frame.specs.Reshaped.{row_numbers}
 use Rattle.plan_value.specs.Shown.{values_of}
 use Rattle.plan_eval.proofs.function.row_numbers.Given as goal
 

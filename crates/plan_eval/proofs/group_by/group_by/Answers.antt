@@ -2,9 +2,9 @@ use Rattle.std.proofs.Common.{◌≡◌, ◌∙◌, ◌<◌, ℕ, List, [], leng
 use Rattle.std.proofs.lemmas.List.{length-map}
 use Rattle.plan_core.specs.Columns.{Columns, with_types}
 use Rattle.plan_expr.specs.Exprs.{all_named_at}
-use Rattle.plan_meaning.specs.Frames.{Column, Frame, with_columns}
-use Rattle.plan_meaning.specs.Meaning.{Cell}
-use Rattle.plan_meaning.specs.Orders.{key_cells}
+use Rattle.plan_frame.specs.Frames.{Column, Frame, with_columns}
+use Rattle.plan_frame.specs.Meaning.{Cell}
+use Rattle.plan_frame.specs.Orders.{key_cells}
 use Rattle.plan_options.specs.declared.distinct.UniqueKeepStrategy.TheVariants.{First}
 use Rattle.plan_value.specs.declared.exprs.Values.{Values}
 use Rattle.plan_value.specs.Cells.{cell_of, cells_of}

@@ -3,9 +3,9 @@ use Rattle.std.proofs.lemmas.List.Elements.{All-tail}
 use Rattle.plan_core.specs.Columns.{Columns, type_of, with_types}
 use Rattle.plan_expr.specs.declared.expr_ir.ExprIR.{ExprIR}
 use Rattle.plan_expr.specs.Naming.{name_of}
-use Rattle.plan_meaning.specs.Frames.{Column, with_columns}
-use Rattle.plan_meaning.specs.Meaning.{value_at}
-use Rattle.plan_meaning.specs.Values.{Value}
+use Rattle.plan_frame.specs.Frames.{Column, with_columns}
+use Rattle.plan_frame.specs.Meaning.{value_at}
+use Rattle.plan_frame.specs.Values.{Value}
 use Rattle.plan_table.specs.Tables.{types_of}
 use Rattle.plan_value.specs.declared.exprs.Values.{Values}
 use Rattle.plan_value.specs.Cells.{cell_of, cells_of}

@@ -2,7 +2,7 @@ use Rattle.std.proofs.Common.{◌≡◌, All, [], is_some, length, map, true}
 use Rattle.plan_core.specs.Columns.{type_of, with_types}
 use Rattle.plan_expr.specs.declared.expr_ir.ExprIR.{ExprIR}
 use Rattle.plan_expr.specs.Naming.{name_of}
-use Rattle.plan_meaning.specs.Frames.{with_columns}
+use Rattle.plan_frame.specs.Frames.{with_columns}
 use Rattle.plan_table.specs.Tables.{types_of}
 use Rattle.plan_value.specs.Cells.{cells_of}
 use Rattle.plan_value.specs.Shown.{columns_shown}

@@ -1,5 +1,5 @@
 use Rattle.std.proofs.Common.{◌≡◌, map, take}
-use Rattle.plan_meaning.specs.Meaning.{value_at}
+use Rattle.plan_frame.specs.Meaning.{value_at}
 use Rattle.plan_value.specs.Cells.{cell_of}
 use Rattle.plan_value.specs.Shown.{values_of}
 use Rattle.plan_eval.proofs.group_by.values_in.Given as goal

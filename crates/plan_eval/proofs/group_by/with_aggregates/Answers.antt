@@ -3,9 +3,9 @@ use Rattle.std.proofs.lemmas.List.{drop_more}
 use Rattle.plan_core.specs.Columns.{with_types}
 use Rattle.plan_expr.specs.declared.expr_ir.ExprIR.{ExprIR}
 use Rattle.plan_expr.specs.Exprs.{all_named_at, named_at}
-use Rattle.plan_meaning.specs.Frames.{Column, with_columns}
-use Rattle.plan_meaning.specs.Values.{Value}
-use Rattle.plan_meaning.proofs.ScalarExprs.{stands_here}
+use Rattle.plan_frame.specs.Frames.{Column, with_columns}
+use Rattle.plan_frame.specs.Values.{Value}
+use Rattle.plan_frame.proofs.ScalarExprs.{stands_here}
 use Rattle.plan_table.specs.Tables.{types_of}
 use Rattle.plan_value.specs.Shown.{columns_shown, frame_of}
 use Rattle.plan_eval.specs.Given.{stored_column}

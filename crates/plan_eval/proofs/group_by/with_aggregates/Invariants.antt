@@ -1,7 +1,7 @@
 use Rattle.std.proofs.Common.{◌≡◌, drop, map}
 use Rattle.plan_core.specs.Columns.{with_types}
 use Rattle.plan_expr.specs.Exprs.{all_named_at}
-use Rattle.plan_meaning.specs.Frames.{with_columns}
+use Rattle.plan_frame.specs.Frames.{with_columns}
 use Rattle.plan_table.specs.Tables.{types_of}
 use Rattle.plan_value.specs.Shown.{columns_shown, frame_of}
 use Rattle.plan_eval.specs.Given.{stored_column}

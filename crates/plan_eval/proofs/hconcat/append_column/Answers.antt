@@ -3,7 +3,7 @@ use Rattle.std.specs.Option.{option_copied}
 use Rattle.std.proofs.lemmas.Result.{on_ok_weaker}
 use Rattle.plan_core.specs.Columns.{Columns}
 use Rattle.plan_expr.specs.Leaves.{Name}
-use Rattle.plan_meaning.specs.Frames.{Column, picked}
+use Rattle.plan_frame.specs.Frames.{Column, picked}
 use Rattle.plan_table.specs.declared.column.Column.{Column as Typed}
 use Rattle.plan_table.specs.Tables.{column_of, types_of}
 use Rattle.plan_value.specs.Shown.{columns_shown, values_of}

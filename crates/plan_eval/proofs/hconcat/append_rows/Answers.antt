@@ -1,7 +1,7 @@
 use Rattle.std.proofs.Common.{◌≡◌, ◌∙◌, List, ap, sym, subst, fold}
 use Rattle.plan_core.specs.Columns.{Columns}
-use Rattle.plan_meaning.specs.Frames.{Column, picked_columns, with_new_column}
-use Rattle.plan_meaning.specs.Typing.{with_new}
+use Rattle.plan_frame.specs.Frames.{Column, picked_columns, with_new_column}
+use Rattle.plan_frame.specs.Beside.{with_new}
 use Rattle.plan_table.specs.declared.column.Column.{Column as Typed}
 use Rattle.plan_table.specs.Tables.{types_of}
 use Rattle.plan_value.specs.Shown.{columns_shown}

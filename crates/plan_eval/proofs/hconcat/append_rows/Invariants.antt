@@ -1,6 +1,6 @@
 use Rattle.std.proofs.Common.{◌≡◌, fold}
-use Rattle.plan_meaning.specs.Frames.{picked_columns, with_new_column}
-use Rattle.plan_meaning.specs.Typing.{with_new}
+use Rattle.plan_frame.specs.Frames.{picked_columns, with_new_column}
+use Rattle.plan_frame.specs.Beside.{with_new}
 use Rattle.plan_table.specs.Tables.{types_of}
 use Rattle.plan_value.specs.Shown.{columns_shown}
 use Rattle.plan_eval.proofs.hconcat.append_rows.Given as goal

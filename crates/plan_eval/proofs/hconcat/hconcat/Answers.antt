@@ -3,8 +3,8 @@ use Rattle.std.specs.List.{range_with_len}
 use Rattle.std.proofs.lemmas.List.{drop_more}
 use Rattle.std.proofs.lemmas.List.Sums.{fold-append}
 use Rattle.plan_core.specs.Columns.{Columns}
-use Rattle.plan_meaning.specs.Frames.{Column, levelled, picked_columns, with_new_column}
-use Rattle.plan_meaning.specs.Typing.{in_a_row, with_new}
+use Rattle.plan_frame.specs.Frames.{Column, levelled, picked_columns, with_new_column}
+use Rattle.plan_frame.specs.Beside.{in_a_row, with_new}
 use Rattle.plan_table.specs.declared.table.Table.{Table}
 use Rattle.plan_table.specs.Tables.{types_of}
 use Rattle.plan_value.specs.Shown.{columns_shown, frame_of, schema_of}

@@ -1,6 +1,6 @@
 use Rattle.std.proofs.Common.{◌≡◌, [], drop, fold, map}
-use Rattle.plan_meaning.specs.Frames.{levelled, with_new_column}
-use Rattle.plan_meaning.specs.Typing.{in_a_row, side_by_side, with_new}
+use Rattle.plan_frame.specs.Frames.{levelled, with_new_column}
+use Rattle.plan_frame.specs.Beside.{in_a_row, side_by_side, with_new}
 use Rattle.plan_table.specs.Tables.{types_of}
 use Rattle.plan_value.specs.Shown.{columns_shown, frame_of, schema_of}
 use Rattle.plan_eval.proofs.hconcat.hconcat.Given as goal

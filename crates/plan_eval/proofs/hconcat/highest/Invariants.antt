@@ -1,5 +1,5 @@
 use Rattle.std.proofs.Common.{◌≡◌, map, take}
-use Rattle.plan_meaning.specs.Frames.{highest}
+use Rattle.plan_frame.specs.Frames.{highest}
 use Rattle.plan_value.specs.Shown.{frame_of}
 use Rattle.plan_eval.proofs.hconcat.highest.Given as goal
 

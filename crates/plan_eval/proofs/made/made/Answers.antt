@@ -1,4 +1,4 @@
-use Rattle.plan_meaning.proofs.ScalarExprs.{stands_here}
+use Rattle.plan_frame.proofs.ScalarExprs.{stands_here}
 use Rattle.plan_value.specs.Shown.{columns_shown, frame_of}
 use Rattle.plan_table.specs.Tables.{types_of}
 use Rattle.plan_eval.proofs.ColumnLemmas.{made-next, stored-next}

@@ -2,7 +2,7 @@ use Rattle.std.proofs.Common.{◌∙◌, ℕ, List, map, [], ap, ap₂, true}
 use Rattle.plan_core.specs.Columns.{with_types}
 use Rattle.plan_core.specs.declared.options.ProjectionOptions.{ProjectionOptions}
 use Rattle.plan_expr.specs.Exprs.{all_named_at}
-use Rattle.plan_meaning.specs.Steps.{made}
+use Rattle.plan_frame.specs.Made.{made}
 use Rattle.plan_table.specs.declared.column.Column.{Column as Typed}
 use Rattle.plan_table.specs.Tables.{types_of}
 use Rattle.plan_meaning.proofs.CheckParts.{made_good}

@@ -1,6 +1,6 @@
 use Rattle.std.proofs.Common.{◌≡◌, ◌≤◌, ◌-◌}
 use Rattle.std.specs.List.{range_with_len}
-use Rattle.plan_meaning.specs.Steps.{cut_to}
+use Rattle.plan_frame.specs.Rows.{cut_to}
 use Rattle.plan_eval.proofs.slice.rows.Given as goal
 
 -- the numbers from the first row up to here

@@ -1,7 +1,7 @@
 use Rattle.std.proofs.Common.{◌≡◌, ◌+◌, List, sym, subst, take}
 use Rattle.plan_expr.specs.Exprs.{all_named_at}
-use Rattle.plan_meaning.specs.Orders.{key_cells}
-use Rattle.plan_meaning.proofs.ScalarExprs.{stands_here}
+use Rattle.plan_frame.specs.Orders.{key_cells}
+use Rattle.plan_frame.proofs.ScalarExprs.{stands_here}
 use Rattle.plan_value.specs.declared.exprs.Values.{Values}
 use Rattle.plan_value.specs.Cells.{cells_of}
 use Rattle.plan_value.specs.Shown.{frame_of}

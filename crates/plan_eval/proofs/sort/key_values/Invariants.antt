@@ -1,6 +1,6 @@
 use Rattle.std.proofs.Common.{◌≡◌, take}
 use Rattle.plan_expr.specs.Exprs.{all_named_at}
-use Rattle.plan_meaning.specs.Orders.{key_cells}
+use Rattle.plan_frame.specs.Orders.{key_cells}
 use Rattle.plan_value.specs.Cells.{cells_of}
 use Rattle.plan_value.specs.Shown.{frame_of}
 use Rattle.plan_eval.proofs.sort.key_values.Given as goal

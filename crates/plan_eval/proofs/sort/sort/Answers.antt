@@ -1,9 +1,9 @@
 use Rattle.std.proofs.Common.{◌∙◌, ℕ, List, ap, sym, subst}
 use Rattle.std.specs.Cmp.{IsTotalOrder}
 use Rattle.plan_expr.specs.Exprs.{all_named_at}
-use Rattle.plan_meaning.specs.Frames.{rows_at}
-use Rattle.plan_meaning.specs.Meaning.{Cell}
-use Rattle.plan_meaning.specs.Orders.{AreSorted, rows_cmp}
+use Rattle.plan_frame.specs.Frames.{rows_at}
+use Rattle.plan_frame.specs.Meaning.{Cell}
+use Rattle.plan_frame.specs.Orders.{AreSorted, rows_cmp}
 use Rattle.plan_value.specs.Cells.{cells_of}
 use Rattle.plan_value.specs.Shown.{frame_of}
 use Rattle.plan_eval.proofs.SortLemmas.{keys-total}

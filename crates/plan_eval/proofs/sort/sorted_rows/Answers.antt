@@ -2,8 +2,8 @@ use Rattle.std.proofs.Common.{ℕ, List, subst, rules}
 use Rattle.std.specs.List.Sorted.{IsPermutation}
 use Rattle.std.specs.Ordering.{nat_cmp, ordering_then}
 use Rattle.std.specs.declared.cmp.Ordering.{Ordering}
-use Rattle.plan_meaning.specs.Orders.{rows_cmp}
-use Rattle.plan_meaning.proofs.OrderLemmas.{sorted_ties, ties_total}
+use Rattle.plan_frame.specs.Orders.{rows_cmp}
+use Rattle.plan_frame.proofs.OrderLemmas.{sorted_ties, ties_total}
 use Rattle.plan_value.specs.Cells.{cells_of}
 use Rattle.plan_eval.proofs.SortLemmas.{sorted-by}
 use Rattle.plan_eval.proofs.sort.sorted_rows.Goals as goal

@@ -1,6 +1,6 @@
 use Rattle.std.proofs.Common.{◌∙◌, ◌++◌, List, ap, sym}
 use Rattle.std.proofs.lemmas.List.{map-append}
-use Rattle.plan_meaning.specs.Values.{Value}
+use Rattle.plan_frame.specs.Values.{Value}
 use Rattle.plan_value.specs.Shown.{value_of, values_of}
 use Rattle.plan_value.proofs.ShownLemmas.{column-there, column-absent}
 use Rattle.plan_eval.proofs.stack.append_column.Goals as goal

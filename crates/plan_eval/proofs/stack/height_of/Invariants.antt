@@ -1,5 +1,5 @@
 use Rattle.std.proofs.Common.{◌≡◌, take}
-use Rattle.plan_meaning.specs.Contents.{total_height}
+use Rattle.plan_frame.specs.Frames.{total_height}
 use Rattle.plan_eval.specs.Stacks.{shown_tables}
 use Rattle.plan_eval.proofs.stack.height_of.Given as goal
 

@@ -1,10 +1,9 @@
 use Rattle.std.proofs.Common.{◌≡◌, ◌∙◌, ◌∷◌, List, ap, ap₂, sym}
 use Rattle.plan_core.specs.Columns.{Columns, names_of}
 use Rattle.plan_core.specs.declared.data_type.DataType.{DataType}
-use Rattle.plan_meaning.specs.Contents.{stacked}
+use Rattle.plan_frame.specs.Frames.{stacked, Column, table_columns}
 use Rattle.plan_expr.specs.Leaves.{Name}
-use Rattle.plan_meaning.specs.Frames.{Column, table_columns}
-use Rattle.plan_meaning.specs.Values.{Value}
+use Rattle.plan_frame.specs.Values.{Value}
 use Rattle.plan_eval.specs.Stacks.{shown_tables}
 use Rattle.plan_value.proofs.ColumnLemmas.{put-types, put-shown}
 use Rattle.plan_eval.proofs.stack.stack.Goals as goal

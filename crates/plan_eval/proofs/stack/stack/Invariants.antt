@@ -1,7 +1,6 @@
 use Rattle.std.proofs.Common.{◌≡◌, ◌++◌}
 use Rattle.plan_core.specs.Columns.{names_of}
-use Rattle.plan_meaning.specs.Contents.{stacked}
-use Rattle.plan_meaning.specs.Frames.{table_columns}
+use Rattle.plan_frame.specs.Frames.{stacked, table_columns}
 use Rattle.plan_table.specs.Tables.{types_of}
 use Rattle.plan_value.specs.Shown.{columns_shown}
 use Rattle.plan_eval.specs.Stacks.{shown_tables}

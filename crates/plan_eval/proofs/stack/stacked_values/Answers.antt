@@ -1,6 +1,6 @@
 use Rattle.std.proofs.Common.{◌∙◌, ◌++◌, List, ap, sym}
-use Rattle.plan_meaning.specs.Frames.{column_or}
-use Rattle.plan_meaning.specs.Values.{Value}
+use Rattle.plan_frame.specs.Frames.{column_or}
+use Rattle.plan_frame.specs.Values.{Value}
 use Rattle.plan_value.specs.Shown.{frame_of}
 use Rattle.plan_eval.proofs.StackLemmas.{stacked-next}
 use Rattle.plan_eval.proofs.stack.stacked_values.Goals as goal

@@ -1,5 +1,5 @@
 use Rattle.std.proofs.Common.{◌≡◌, take}
-use Rattle.plan_meaning.specs.Contents.{stacked}
+use Rattle.plan_frame.specs.Frames.{stacked}
 use Rattle.plan_value.specs.Shown.{values_of}
 use Rattle.plan_eval.specs.Stacks.{shown_tables}
 use Rattle.plan_eval.proofs.stack.stacked_values.Given as goal

@@ -1,7 +1,6 @@
 use Rattle.std.proofs.Common.{◌≡◌, ◌∙◌, List, ap₂, map, rules}
 use Rattle.plan_core.specs.Columns.{Columns, names_of}
-use Rattle.plan_meaning.specs.Contents.{stack}
-use Rattle.plan_meaning.specs.Frames.{Frame}
+use Rattle.plan_frame.specs.Frames.{stack, Frame}
 use Rattle.plan_value.specs.Shown.{frame_of}
 use Rattle.plan_eval.specs.Stacks.{shown_tables}
 use Rattle.plan_eval.proofs.TurnLemmas.{none-united, union-gives}

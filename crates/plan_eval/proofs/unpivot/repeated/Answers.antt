@@ -2,7 +2,7 @@ use Rattle.std.proofs.Common.{◌≡◌, ◌∙◌, List, [], ap, sym}
 use Rattle.std.specs.List.{flat_map}
 use Rattle.std.proofs.lemmas.List.{nil_from_length}
 use Rattle.plan_expr.specs.Leaves.{Name}
-use Rattle.plan_meaning.specs.Values.{Value}
+use Rattle.plan_frame.specs.Values.{Value}
 use Rattle.plan_value.specs.Shown.{values_of}
 use Rattle.plan_eval.proofs.UnpivotLemmas.{nothing-down}
 use Rattle.plan_eval.proofs.unpivot.repeated.Goals as goal

@@ -4,10 +4,9 @@ use Rattle.plan_core.specs.Columns.{HasDistinctNames}
 use Rattle.plan_core.specs.Names.{AreDistinct}
 use Rattle.plan_core.specs.declared.data_type.DataType.{DataType}
 use Rattle.plan_expr.specs.Leaves.{Name}
-use Rattle.plan_meaning.specs.Frames.{Column, table_columns}
-use Rattle.plan_meaning.specs.Functions.{columns_at, type_or}
-use Rattle.plan_meaning.specs.Mapped.{repeated}
-use Rattle.plan_meaning.specs.Values.{Value}
+use Rattle.plan_frame.specs.Frames.{Column, table_columns}
+use Rattle.plan_frame.specs.Reshaped.{columns_at, type_or, repeated}
+use Rattle.plan_frame.specs.Values.{Value}
 use Rattle.plan_function.proofs.UnpivotColumns.{names-at}
 use Rattle.plan_value.specs.Shown.{column_shown, frame_of, schema_of}
 use Rattle.plan_value.proofs.ColumnLemmas.{put-types, put-shown}

@@ -1,7 +1,6 @@
 use Rattle.std.proofs.Common.{◌≡◌, ◌++◌, drop}
-use Rattle.plan_meaning.specs.Frames.{table_columns}
-use Rattle.plan_meaning.specs.Functions.{columns_at}
-use Rattle.plan_meaning.specs.Mapped.{repeated}
+use Rattle.plan_frame.specs.Frames.{table_columns}
+use Rattle.plan_frame.specs.Reshaped.{columns_at, repeated}
 use Rattle.plan_table.specs.Tables.{types_of}
 use Rattle.plan_value.specs.Shown.{columns_shown, frame_of, schema_of}
 use Rattle.plan_eval.proofs.unpivot.repeated_columns.Given as goal

@@ -4,10 +4,10 @@ use Rattle.plan_core.specs.Columns.{Columns, names_of}
 use Rattle.plan_core.specs.declared.data_type.DataType.{DataType}
 use Rattle.plan_core.specs.declared.data_type.DataType.TheVariants.{String}
 use Rattle.plan_expr.specs.Leaves.{Name}
-use Rattle.plan_meaning.specs.Frames.{Column, Frame, table_columns}
-use Rattle.plan_meaning.specs.Functions.{all_differ, columns_at, first_type, value_name, value_names, variable_name}
-use Rattle.plan_meaning.specs.Mapped.{names_down, repeated, values_down}
-use Rattle.plan_meaning.specs.Values.{Value}
+use Rattle.plan_frame.specs.Frames.{Column, Frame, table_columns}
+use Rattle.plan_meaning.specs.Functions.{all_differ, first_type, value_name, value_names, variable_name}
+use Rattle.plan_frame.specs.Reshaped.{columns_at, names_down, repeated, values_down}
+use Rattle.plan_frame.specs.Values.{Value}
 use Rattle.plan_table.specs.declared.column.Column.{Column as Typed}
 use Rattle.plan_table.specs.Tables.{types_of, with_column}
 use Rattle.plan_value.specs.Shown.{column_shown, columns_shown, frame_of, schema_of}

@@ -1,5 +1,5 @@
 use Rattle.std.proofs.Common.{◌≡◌, take}
-use Rattle.plan_meaning.specs.Mapped.{values_down}
+use Rattle.plan_frame.specs.Reshaped.{values_down}
 use Rattle.plan_value.specs.Shown.{frame_of, values_of}
 use Rattle.plan_eval.proofs.unpivot.values_down.Given as goal
 

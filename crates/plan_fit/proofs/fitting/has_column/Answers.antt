@@ -1,7 +1,7 @@
 use Rattle.std.proofs.Common.{◌≡◌, ◌∙◌, Option, option_map, ap, sym, rules}
 use Rattle.plan_core.specs.declared.data_type.DataType.{DataType}
 use Rattle.plan_table.specs.declared.column.Column.{Column}
-use Rattle.plan_meaning.specs.Exprs.{is_type}
+use Rattle.plan_frame.specs.Exprs.{is_type}
 use Rattle.plan_expr.specs.Types.{same_type}
 use Rattle.plan_fit.proofs.FitLemmas.{type-shown}
 use Rattle.plan_fit.proofs.fitting.has_column.Goals as goal

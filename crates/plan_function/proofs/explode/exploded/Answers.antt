@@ -1,8 +1,8 @@
 use Rattle.std.proofs.Common.{◌++◌, List, sym, ap, ◌∙◌, append-nil}
 use Rattle.plan_core.specs.Columns.{Columns}
 use Rattle.plan_expr.specs.Leaves.{Name}
-use Rattle.plan_meaning.specs.Functions.{exploded_columns}
-use Rattle.plan_meaning.proofs.ExplodeLemmas.{apart-once, exploded-next}
+use Rattle.plan_frame.specs.Reshaped.{exploded_columns}
+use Rattle.plan_frame.proofs.ReshapedLemmas.{apart-once, exploded-next}
 use Rattle.plan_function.proofs.explode.exploded.Goals as goal
 
 pub loop-name-preserved : goal.loop-name-preserved

@@ -1,5 +1,5 @@
 use Rattle.std.proofs.Common.{◌≡◌, ◌++◌}
-use Rattle.plan_meaning.specs.Functions.{exploded_columns}
+use Rattle.plan_frame.specs.Reshaped.{exploded_columns}
 use Rattle.plan_function.proofs.explode.exploded.Given as goal
 
 -- what is made, and what will be made of the columns that are left, are all columns

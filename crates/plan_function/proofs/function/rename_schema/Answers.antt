@@ -5,7 +5,8 @@ use Rattle.plan_core.specs.Columns.{Columns, names_of}
 use Rattle.plan_core.specs.declared.error.At.{At}
 use Rattle.plan_core.specs.declared.error.PolarsError.TheVariants.{Duplicate}
 use Rattle.plan_expr.specs.Leaves.{Name}
-use Rattle.plan_meaning.specs.Functions.{names_now, renamed, renamed_columns, stay_apart}
+use Rattle.plan_meaning.specs.Functions.{names_now, renamed, stay_apart}
+use Rattle.plan_frame.specs.Reshaped.{renamed_columns}
 use Rattle.plan_function.proofs.RenameLemmas.{rename-faults}
 use Rattle.plan_function.proofs.function.rename_schema.Goals as goal
 

@@ -4,7 +4,7 @@ use Rattle.plan_core.specs.Columns.{Columns, names_of, type_of}
 use Rattle.plan_core.specs.Names.{has}
 use Rattle.plan_expr.specs.Leaves.{Name}
 use Rattle.plan_meaning.specs.Typing.{row_index_checks}
-use Rattle.plan_meaning.proofs.NameSets.{some-type_of}
+use Rattle.plan_frame.proofs.NameSets.{some-type_of}
 use Rattle.plan_function.proofs.RenameLemmas.{got_some}
 use Rattle.plan_function.proofs.function.row_index_schema.Goals as goal
 

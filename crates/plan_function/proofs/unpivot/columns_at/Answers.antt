@@ -4,8 +4,8 @@ use Rattle.std.specs.Prelude.{IfSome}
 use Rattle.plan_core.specs.Columns.{Columns, names_of}
 use Rattle.plan_core.specs.Names.{has}
 use Rattle.plan_expr.specs.Leaves.{Name}
-use Rattle.plan_meaning.specs.Functions.{type_or}
-use Rattle.plan_meaning.proofs.ScalarExprs.{item_here}
+use Rattle.plan_frame.specs.Reshaped.{type_or}
+use Rattle.plan_frame.proofs.ScalarExprs.{item_here}
 use Rattle.plan_function.proofs.UnpivotColumns.{made-next, made_new, made_again}
 use Rattle.plan_function.proofs.unpivot.columns_at.Goals as goal
 

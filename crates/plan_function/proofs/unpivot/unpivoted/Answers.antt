@@ -4,7 +4,8 @@ use Rattle.plan_core.specs.declared.data_type.DataType.TheVariants.{String}
 use Rattle.plan_core.specs.Columns.{Columns, names_of}
 use Rattle.plan_core.specs.Names.{has}
 use Rattle.plan_expr.specs.Leaves.{Name}
-use Rattle.plan_meaning.specs.Functions.{all_differ, columns_at, unpivoted_names, variable_name, value_name}
+use Rattle.plan_meaning.specs.Functions.{all_differ, unpivoted_names, variable_name, value_name}
+use Rattle.plan_frame.specs.Reshaped.{columns_at}
 use Rattle.plan_function.proofs.UnpivotColumns.{differ_front, own_again, own-last}
 use Rattle.plan_function.proofs.unpivot.unpivoted.Goals as goal
 

@@ -2,7 +2,7 @@ use Rattle.std.proofs.Common.{◌≡◌, not, true, false, Option, is_some, sym,
 use Rattle.plan_core.specs.declared.data_type.DataType.{DataType}
 use Rattle.plan_core.specs.Columns.{names_of}
 use Rattle.plan_core.specs.Names.{has}
-use Rattle.plan_meaning.proofs.NameSets.{some-type_of}
+use Rattle.plan_frame.proofs.NameSets.{some-type_of}
 use Rattle.plan_function.proofs.RenameLemmas.{none_there, with_new}
 use Rattle.plan_function.proofs.unpivot.with_new.Goals as goal
 

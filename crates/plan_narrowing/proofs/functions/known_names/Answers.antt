@@ -2,7 +2,7 @@ use Rattle.std.proofs.Common.{◌≡◌, ◌∙◌, ap, sym, arith, rules, true,
 use Rattle.plan_core.specs.Columns.{names_of, type_of}
 use Rattle.plan_core.specs.Names.{has, with_name}
 use Rattle.plan_expr.specs.Leaves.{Name}
-use Rattle.plan_meaning.proofs.NameSets.{some-type_of}
+use Rattle.plan_frame.proofs.NameSets.{some-type_of}
 use Rattle.plan_narrowing.proofs.ListSteps.{not_past}
 use Rattle.plan_narrowing.proofs.NameSteps.{where-next, where-skip}
 use Rattle.plan_narrowing.proofs.functions.known_names.Goals.{in-Some+then-is_some+in_ok-add, in-Some+else-is_some, in_default}

@@ -1,8 +1,8 @@
 use Rattle.std.proofs.Common.{◌∙◌, ap, fold, List, if◌then◌else◌}
 use Rattle.std.proofs.lemmas.List.{take_all}
 use Rattle.plan_table.specs.declared.value.AnyValue.{AnyValue}
-use Rattle.plan_meaning.specs.Aggregates.{greater, lesser}
-use Rattle.plan_meaning.specs.Values.{null}
+use Rattle.plan_frame.specs.Aggregates.{greater, lesser}
+use Rattle.plan_frame.specs.Values.{null}
 use Rattle.plan_value.specs.Shown.{value_of, values_of}
 use Rattle.plan_value.proofs.AggregateLemmas.{best-taken, keeps-by, step}
 use Rattle.plan_value.proofs.aggregates.best.Goals as goal

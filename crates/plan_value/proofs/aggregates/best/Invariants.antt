@@ -1,6 +1,6 @@
 use Rattle.std.proofs.Common.{◌≡◌, take, fold, if◌then◌else◌}
-use Rattle.plan_meaning.specs.Aggregates.{greater, lesser}
-use Rattle.plan_meaning.specs.Values.{null}
+use Rattle.plan_frame.specs.Aggregates.{greater, lesser}
+use Rattle.plan_frame.specs.Values.{null}
 use Rattle.plan_value.specs.Shown.{value_of, values_of}
 use Rattle.plan_value.proofs.AggregateLemmas.{step}
 use Rattle.plan_value.proofs.aggregates.best.Given as goal

@@ -1,5 +1,5 @@
 use Rattle.std.proofs.Common.{◌≡◌, take}
-use Rattle.plan_meaning.specs.Aggregates.{distinct}
+use Rattle.plan_frame.specs.Aggregates.{distinct}
 use Rattle.plan_value.specs.Shown.{values_of}
 use Rattle.plan_value.proofs.aggregates.count_distinct.Given as goal
 

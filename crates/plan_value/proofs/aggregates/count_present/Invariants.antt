@@ -1,5 +1,5 @@
 use Rattle.std.proofs.Common.{◌≡◌, ◌≤◌, length, take}
-use Rattle.plan_meaning.specs.Aggregates.{present}
+use Rattle.plan_frame.specs.Aggregates.{present}
 use Rattle.plan_value.specs.Shown.{values_of}
 use Rattle.plan_value.proofs.aggregates.count_present.Given as goal
 

@@ -1,7 +1,7 @@
 use Rattle.std.proofs.Common.{◌∙◌, ap, rules}
 use Rattle.std.specs.Int.{w64}
 use Rattle.std.proofs.lemmas.Int.{to_z-of_z}
-use Rattle.plan_meaning.specs.Values.{whole}
+use Rattle.plan_frame.specs.Values.{whole}
 use Rattle.plan_value.proofs.AggregateLemmas.{count-wrapped}
 use Rattle.plan_value.proofs.aggregates.counted.Goals as goal
 

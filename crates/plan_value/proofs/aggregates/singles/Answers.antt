@@ -2,7 +2,7 @@ use Rattle.std.proofs.Common.{◌∙◌, ap, sym, map}
 use Rattle.std.proofs.lemmas.List.{take_all}
 use Rattle.std.proofs.lemmas.Simd.{map-map}
 use Rattle.plan_table.specs.declared.value.AnyValue.{AnyValue}
-use Rattle.plan_meaning.specs.Aggregates.{single}
+use Rattle.plan_frame.specs.Aggregates.{single}
 use Rattle.plan_value.specs.Shown.{value_of}
 use Rattle.plan_value.proofs.aggregates.singles.Goals as goal
 

@@ -1,5 +1,5 @@
 use Rattle.std.proofs.Common.{◌≡◌, map, take}
-use Rattle.plan_meaning.specs.Aggregates.{single}
+use Rattle.plan_frame.specs.Aggregates.{single}
 use Rattle.plan_table.specs.declared.value.AnyValue.{AnyValue}
 use Rattle.plan_value.specs.Shown.{single_of, value_of}
 use Rattle.plan_value.proofs.aggregates.singles.Given as goal

@@ -1,6 +1,6 @@
 use Rattle.std.proofs.Common.{◌≡◌, take}
 use Rattle.std.specs.Int.{w64, int_wrap}
-use Rattle.plan_meaning.specs.Aggregates.{total}
+use Rattle.plan_frame.specs.Aggregates.{total}
 use Rattle.plan_value.specs.Shown.{values_of}
 use Rattle.plan_value.proofs.aggregates.sum.Given as goal
 

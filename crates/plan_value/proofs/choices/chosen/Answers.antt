@@ -1,6 +1,6 @@
 use Rattle.std.proofs.Common.{◌∙◌, ◌++◌, ◌∷◌, [], List, ℕ, ap, ap₂, sym, if◌then◌else◌}
-use Rattle.plan_meaning.specs.Meaning.{value_at}
-use Rattle.plan_meaning.specs.Values.{Value, is_true}
+use Rattle.plan_frame.specs.Meaning.{value_at}
+use Rattle.plan_frame.specs.Values.{Value, is_true}
 use Rattle.plan_value.specs.Cells.{cell_of}
 use Rattle.plan_value.specs.Shown.{values_of}
 use Rattle.plan_value.proofs.RowLemmas.{values-rows}

@@ -1,7 +1,7 @@
 use Rattle.std.proofs.Common.{◌≡◌, ℕ, map, if◌then◌else◌}
 use Rattle.std.specs.List.{range_with_len}
-use Rattle.plan_meaning.specs.Meaning.{value_at}
-use Rattle.plan_meaning.specs.Values.{is_true}
+use Rattle.plan_frame.specs.Meaning.{value_at}
+use Rattle.plan_frame.specs.Values.{is_true}
 use Rattle.plan_value.specs.Cells.{cell_of}
 use Rattle.plan_value.specs.Shown.{values_of}
 use Rattle.plan_value.proofs.choices.chosen.Given as goal

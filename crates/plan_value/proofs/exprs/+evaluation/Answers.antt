@@ -8,9 +8,9 @@ use Rattle.plan_expr.specs.declared.aexpr.AExpr.TheVariants.{Column, Literal, Al
 use Rattle.plan_expr.specs.declared.agg.Aggregate.{Aggregate}
 use Rattle.plan_expr.proofs.ExprLemmas.{expr_down, expr_open, exprs_down}
 use Rattle.plan_table.specs.declared.value.AnyValue.{AnyValue}
-use Rattle.plan_meaning.specs.Aggregates.{aggregated}
-use Rattle.plan_meaning.specs.Frames.{Agree, column_or, picked, rows_at}
-use Rattle.plan_meaning.specs.Meaning.{Cell, called, cell_values, chosen, many, one, only_value, operated, spread, val, windowed}
+use Rattle.plan_frame.specs.Aggregates.{aggregated}
+use Rattle.plan_frame.specs.Frames.{Agree, column_or, picked, rows_at}
+use Rattle.plan_frame.specs.Meaning.{Cell, called, cell_values, chosen, many, one, only_value, operated, spread, val, windowed}
 use Rattle.plan_value.specs.declared.exprs.Values.{Values}
 use Rattle.plan_value.specs.Cells.{cell_of, cells_at, cells_of}
 use Rattle.plan_value.specs.Groups.{AreNumbered}

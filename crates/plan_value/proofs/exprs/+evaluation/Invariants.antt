@@ -2,8 +2,8 @@ use Rattle.std.proofs.Common.{◌≡◌, ◌+◌, ◌*◌, [], ◌∷◌, map, t
 use Rattle.plan_tree.proofs.TreeLemmas.{height_at}
 use Rattle.plan_expr.specs.Operands.{expr_shape}
 use Rattle.plan_expr.specs.Exprs.{expr_at}
-use Rattle.plan_meaning.specs.Frames.{rows_at}
-use Rattle.plan_meaning.specs.Meaning.{only_value, val}
+use Rattle.plan_frame.specs.Frames.{rows_at}
+use Rattle.plan_frame.specs.Meaning.{only_value, val}
 use Rattle.plan_value.specs.Cells.{cells_at, cells_of}
 use Rattle.plan_value.specs.Shown.{frame_of, values_of}
 use Rattle.plan_value.proofs.EvaluationLemmas.{above}

@@ -1,6 +1,6 @@
 use Rattle.std.proofs.Common.{◌∙◌, ap, sym}
-use Rattle.plan_meaning.specs.Meaning.{value_at}
-use Rattle.plan_meaning.specs.Values.{is_true}
+use Rattle.plan_frame.specs.Meaning.{value_at}
+use Rattle.plan_frame.specs.Values.{is_true}
 use Rattle.plan_value.specs.declared.exprs.Values.{Values}
 use Rattle.plan_value.specs.Cells.{cell_of}
 use Rattle.plan_value.proofs.RowLemmas.{row-get, row-beyond}

@@ -1,7 +1,7 @@
 use Rattle.std.proofs.Common.{◌≡◌, ◌∙◌, refl}
 use Rattle.plan_expr.specs.declared.function_expr.FunctionExpr.{FunctionExpr}
 use Rattle.plan_expr.specs.declared.function_expr.FunctionExpr.TheVariants.{Not, IsNull, IsNotNull}
-use Rattle.plan_meaning.specs.Meaning.{Cell, called_on, each_value}
+use Rattle.plan_frame.specs.Meaning.{Cell, called_on, each_value}
 use Rattle.plan_value.specs.Cells.{cell_of}
 use Rattle.plan_value.specs.Pairs.{in_row}
 use Rattle.plan_value.proofs.functions.called_on.Goals as goal

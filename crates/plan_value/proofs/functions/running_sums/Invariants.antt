@@ -1,6 +1,6 @@
 use Rattle.std.proofs.Common.{◌≡◌, pos, take}
 use Rattle.std.specs.Int.{w64, int_wrap}
-use Rattle.plan_meaning.specs.Aggregates.{running_sums, total}
+use Rattle.plan_frame.specs.Aggregates.{running_sums, total}
 use Rattle.plan_value.specs.Shown.{values_of}
 use Rattle.plan_value.proofs.functions.running_sums.Given as goal
 

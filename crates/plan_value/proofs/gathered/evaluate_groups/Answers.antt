@@ -1,10 +1,10 @@
 use Rattle.std.proofs.Common.{◌≡◌, ◌∙◌, ◌+◌, List, ℕ, ap₂, sym, subst, map, take}
 use Rattle.plan_expr.specs.Exprs.{expr_at}
 use Rattle.plan_expr.specs.Leaves.{Name, leaves}
-use Rattle.plan_meaning.specs.Frames.{Agree, rows_at}
-use Rattle.plan_meaning.specs.Grouping.{gathered_expr}
-use Rattle.plan_meaning.specs.Meaning.{only_value, val}
-use Rattle.plan_meaning.proofs.GroupLemmas.{gathered-leaves}
+use Rattle.plan_frame.specs.Frames.{Agree, rows_at}
+use Rattle.plan_frame.specs.Grouping.{gathered_expr}
+use Rattle.plan_frame.specs.Meaning.{only_value, val}
+use Rattle.plan_frame.proofs.GroupLemmas.{gathered-leaves}
 use Rattle.plan_table.specs.declared.value.AnyValue.{AnyValue}
 use Rattle.plan_value.specs.Groups.{gathered_value}
 use Rattle.plan_value.specs.Shown.{frame_of, values_of}

@@ -1,8 +1,8 @@
 use Rattle.std.proofs.Common.{◌≡◌, List, ℕ, map, take}
 use Rattle.plan_expr.specs.Exprs.{expr_at}
-use Rattle.plan_meaning.specs.Frames.{rows_at}
-use Rattle.plan_meaning.specs.Grouping.{gathered_expr}
-use Rattle.plan_meaning.specs.Meaning.{only_value, val}
+use Rattle.plan_frame.specs.Frames.{rows_at}
+use Rattle.plan_frame.specs.Grouping.{gathered_expr}
+use Rattle.plan_frame.specs.Meaning.{only_value, val}
 use Rattle.plan_value.specs.Shown.{frame_of, values_of}
 use Rattle.plan_value.proofs.gathered.evaluate_groups.Given as goal
 

@@ -1,6 +1,6 @@
 use Rattle.std.proofs.Common.{◌≡◌, ◌<◌, ℕ, [], get_or, length}
 use Rattle.std.specs.Prelude.{nat_eq}
-use Rattle.plan_meaning.specs.Meaning.{places_from}
+use Rattle.plan_frame.specs.Meaning.{places_from}
 use Rattle.plan_value.proofs.groups.rows_of_groups.Given as goal
 
 -- the rows of each group up to here

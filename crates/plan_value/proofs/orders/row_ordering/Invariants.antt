@@ -1,5 +1,5 @@
 use Rattle.std.proofs.Common.{◌≡◌, drop}
-use Rattle.plan_meaning.specs.Orders.{rows_cmp}
+use Rattle.plan_frame.specs.Orders.{rows_cmp}
 use Rattle.plan_value.specs.Cells.{cells_of}
 use Rattle.plan_value.proofs.orders.row_ordering.Given as goal
 

@@ -1,5 +1,5 @@
 use Rattle.std.proofs.Common.{◌∙◌, ap, sym}
-use Rattle.plan_meaning.specs.Meaning.{value_at}
+use Rattle.plan_frame.specs.Meaning.{value_at}
 use Rattle.plan_value.specs.declared.exprs.Values.{Values}
 use Rattle.plan_value.specs.Cells.{cell_of}
 use Rattle.plan_value.specs.Shown.{value_of}

@@ -1,5 +1,5 @@
 use Rattle.std.proofs.Common.{◌≡◌, take}
-use Rattle.plan_meaning.specs.Frames.{picked}
+use Rattle.plan_frame.specs.Frames.{picked}
 use Rattle.plan_value.specs.Shown.{values_of}
 use Rattle.plan_value.proofs.rows.picked.Given as goal
 

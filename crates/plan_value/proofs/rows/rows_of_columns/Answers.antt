@@ -1,9 +1,9 @@
 use Rattle.std.proofs.Common.{◌≡◌, ◌∙◌, ◌+◌, ◌++◌, ◌∷◌, [], List, None, Option, Some, ap, subst, sym, take}
 use Rattle.std.proofs.lemmas.List.{take_more}
 use Rattle.plan_expr.specs.Leaves.{Name}
-use Rattle.plan_meaning.specs.Frames.{Column, found, picked_columns}
-use Rattle.plan_meaning.specs.Values.{Value}
-use Rattle.plan_meaning.proofs.NameSets.{named}
+use Rattle.plan_frame.specs.Frames.{Column, found, picked_columns}
+use Rattle.plan_frame.specs.Values.{Value}
+use Rattle.plan_frame.proofs.NameSets.{named}
 use Rattle.plan_table.specs.Tables.{column_of}
 use Rattle.plan_value.specs.Shown.{column_shown, columns_shown}
 use Rattle.plan_value.proofs.ColumnLemmas.{shown-with}

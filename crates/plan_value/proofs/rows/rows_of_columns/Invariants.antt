@@ -1,6 +1,6 @@
 use Rattle.std.proofs.Common.{take}
 use Rattle.plan_expr.specs.Leaves.{Name}
-use Rattle.plan_meaning.specs.Frames.{found, picked_columns}
+use Rattle.plan_frame.specs.Frames.{found, picked_columns}
 use Rattle.plan_value.specs.Shown.{columns_shown}
 use Rattle.plan_value.proofs.ReadLemmas.{Reads}
 use Rattle.plan_value.proofs.rows.rows_of_columns.Given as goal

@@ -3,7 +3,7 @@ use Rattle.std.proofs.lemmas.List.{take_all}
 use Rattle.std.proofs.lemmas.Simd.{map-map}
 use Rattle.plan_table.specs.declared.value.AnyValue.{AnyValue}
 use Rattle.plan_value.specs.Pairs.{paired}
-use Rattle.plan_meaning.specs.Values.{Value}
+use Rattle.plan_frame.specs.Values.{Value}
 use Rattle.plan_value.specs.Shown.{value_of}
 use Rattle.plan_value.proofs.spread.beside_left.Goals as goal
 

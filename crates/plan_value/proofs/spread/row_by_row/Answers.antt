@@ -1,7 +1,7 @@
 use Rattle.std.proofs.Common.{◌≡◌, ◌∙◌, ◌++◌, List, [], ap, sym, append-nil, ⊎_elim}
-use Rattle.plan_meaning.specs.Meaning.{zip_by}
+use Rattle.plan_frame.specs.Meaning.{zip_by}
 use Rattle.plan_value.specs.Pairs.{paired}
-use Rattle.plan_meaning.specs.Values.{Value}
+use Rattle.plan_frame.specs.Values.{Value}
 use Rattle.plan_value.specs.Shown.{values_of}
 use Rattle.plan_value.proofs.RowLemmas.{zip-left, zip-right}
 use Rattle.plan_value.proofs.spread.row_by_row.Goals as goal

@@ -1,5 +1,5 @@
 use Rattle.std.proofs.Common.{◌≡◌, ◌++◌}
-use Rattle.plan_meaning.specs.Meaning.{zip_by}
+use Rattle.plan_frame.specs.Meaning.{zip_by}
 use Rattle.plan_value.specs.Pairs.{paired}
 use Rattle.plan_value.specs.Shown.{values_of}
 use Rattle.plan_value.proofs.spread.row_by_row.Given as goal

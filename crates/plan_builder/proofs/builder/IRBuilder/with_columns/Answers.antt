@@ -4,7 +4,7 @@ use Rattle.plan_expr.specs.declared.expr_ir.ExprIR.{ExprIR}
 use Rattle.plan_expr.specs.Exprs.{all_named_at}
 use Rattle.plan_expr.specs.Operands.{IsExpr}
 use Rattle.plan_ir.specs.declared.ir.IR.TheVariants.{HStack}
-use Rattle.plan_meaning.specs.Typing.{made_schema}
+use Rattle.plan_frame.specs.Made.{made_schema}
 use Rattle.plan_builder.specs.Builds.{Adds, MayFollow, columns_at, addition}
 use Rattle.plan_builder.proofs.Follow.{next_stands}
 use Rattle.plan_builder.proofs.builder.IRBuilder.with_columns.Goals as goal

@@ -3,7 +3,7 @@ use Rattle.std.specs.List.{slice_get}
 use Rattle.std.specs.Prelude.{string_bytes}
 use Rattle.plan_expr.specs.Leaves.{Name}
 use Rattle.plan_meaning.specs.Functions.{name_in, new_name}
-use Rattle.plan_meaning.proofs.ScalarExprs.{item_here}
+use Rattle.plan_frame.proofs.ScalarExprs.{item_here}
 use Rattle.plan_function.proofs.RenameLemmas.{Entries, seen, new_name-end, paired-next}
 use Rattle.plan_function.proofs.renaming.Renaming.new.Goals.{then-existing-new, else-existing-new}
 use Rattle.plan_function.proofs.renaming.Renaming.new.Goals as goal

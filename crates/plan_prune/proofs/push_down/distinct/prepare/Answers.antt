@@ -2,7 +2,7 @@ use Rattle.std.proofs.Common.{◌∙◌, ap, List}
 use Rattle.plan_core.specs.Columns.{Columns, names_of}
 use Rattle.plan_ir.specs.declared.ir.IR.TheVariants.{Distinct}
 use Rattle.plan_expr.specs.Leaves.{Name}
-use Rattle.plan_meaning.specs.Typing.{names_or}
+use Rattle.plan_frame.specs.Frames.{names_or}
 use Rattle.plan_narrowing.specs.Pruned.{asked_with}
 use Rattle.plan_prune.specs.declared.push_down.step.Step.TheVariants.{Over}
 use Rattle.plan_prune.proofs.push_down.distinct.prepare.Goals as goal

@@ -2,7 +2,7 @@ use Rattle.std.proofs.Common.{◌∙◌, ap, List}
 use Rattle.plan_core.specs.Names.{with_names}
 use Rattle.plan_expr.specs.Exprs.{expr_at}
 use Rattle.plan_expr.specs.Leaves.{Name, leaves}
-use Rattle.plan_meaning.proofs.ScalarExprs.{stands_here, item_here}
+use Rattle.plan_frame.proofs.ScalarExprs.{stands_here, item_here}
 use Rattle.plan_prune.proofs.ExprWalks.{leaves-next}
 use Rattle.plan_prune.proofs.push_down.exprs.add_all_names.Goals as goal
 

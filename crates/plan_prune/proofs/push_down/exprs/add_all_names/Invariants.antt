@@ -1,7 +1,7 @@
 use Rattle.std.proofs.Common.{◌≡◌, take}
 use Rattle.plan_core.specs.Names.{with_names}
 use Rattle.plan_expr.specs.Exprs.{all_named_at}
-use Rattle.plan_meaning.specs.Asked.{all_leaves}
+use Rattle.plan_frame.specs.ExprLists.{all_leaves}
 use Rattle.plan_prune.proofs.push_down.exprs.add_all_names.Given as goal
 
 abbrev pub invariant-loop-expr : goal.invariant-loop-expr

@@ -2,7 +2,7 @@ use Rattle.std.proofs.Common.{◌≡◌, ◌∙◌, ap, sym, rules, Some, None}
 use Rattle.plan_core.specs.Columns.{Columns, type_of, with_type}
 use Rattle.plan_expr.specs.Leaves.{Name}
 use Rattle.plan_expr.specs.Naming.{name_of}
-use Rattle.plan_meaning.proofs.ScalarExprs.{item_here}
+use Rattle.plan_frame.proofs.ScalarExprs.{item_here}
 use Rattle.plan_prune.proofs.ExprWalks.{made-next, made-skip}
 use Rattle.plan_prune.proofs.push_down.exprs.with_typed.Goals.{in-Some+in_ok-new+in_ok-with_column, in_default}
 use Rattle.plan_prune.proofs.push_down.exprs.with_typed.Goals as goal

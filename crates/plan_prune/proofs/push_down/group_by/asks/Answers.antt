@@ -4,7 +4,7 @@ use Rattle.plan_core.specs.Columns.{names_of}
 use Rattle.plan_core.specs.Names.{has, with_names}
 use Rattle.plan_expr.specs.Exprs.{Named, all_named_at}
 use Rattle.plan_expr.specs.Leaves.{Name}
-use Rattle.plan_meaning.specs.Asked.{all_leaves}
+use Rattle.plan_frame.specs.ExprLists.{all_leaves}
 use Rattle.plan_prune.proofs.GroupPruned.{grouped-names}
 use Rattle.plan_prune.proofs.push_down.group_by.asks.Goals as goal
 

@@ -2,8 +2,8 @@ use Rattle.std.proofs.Common.{◌≡◌, ◌∙◌, ap, sym, arith, rules, true,
 use Rattle.plan_core.specs.Columns.{Columns, names_of, type_of, with_type}
 use Rattle.plan_core.specs.Names.{has}
 use Rattle.plan_expr.specs.Leaves.{Name}
-use Rattle.plan_meaning.specs.Typing.{with_new}
-use Rattle.plan_meaning.proofs.NameSets.{some-type_of}
+use Rattle.plan_frame.specs.Beside.{with_new}
+use Rattle.plan_frame.proofs.NameSets.{some-type_of}
 use Rattle.plan_narrowing.proofs.ListSteps.{not_past}
 use Rattle.plan_prune.proofs.ConcatPruned.{new_last, new_there, new-next}
 use Rattle.plan_prune.proofs.push_down.hconcat.add_new.Goals.{in-Some+then-is_none+in_ok-new+in_ok-with_column, in-Some+else-is_none, in_default}

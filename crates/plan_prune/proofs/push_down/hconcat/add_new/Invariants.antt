@@ -1,5 +1,5 @@
 use Rattle.std.proofs.Common.{◌≡◌, fold, take}
-use Rattle.plan_meaning.specs.Typing.{with_new}
+use Rattle.plan_frame.specs.Beside.{with_new}
 use Rattle.plan_prune.proofs.push_down.hconcat.add_new.Given as goal
 
 -- the columns up to here whose names none has are added

@@ -4,7 +4,7 @@ use Rattle.plan_core.specs.declared.arena.Node.{Node}
 use Rattle.plan_core.specs.Columns.{Columns}
 use Rattle.plan_tree.proofs.TreeLemmas.{nth, StandsOnce-nth}
 use Rattle.plan_ir.specs.Parts.{plan_shape}
-use Rattle.plan_meaning.specs.Typing.{with_new}
+use Rattle.plan_frame.specs.Beside.{with_new}
 use Rattle.plan_prune.proofs.ConcatPruned.{beside-next}
 use Rattle.plan_prune.proofs.push_down.hconcat.beside.Goals as goal
 

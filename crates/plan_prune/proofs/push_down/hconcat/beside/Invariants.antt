@@ -1,6 +1,6 @@
 use Rattle.std.proofs.Common.{◌≡◌, List, map, take}
 use Rattle.plan_expr.specs.declared.aexpr.AExpr.{AExpr}
-use Rattle.plan_meaning.specs.Typing.{side_by_side}
+use Rattle.plan_frame.specs.Beside.{side_by_side}
 use Rattle.plan_prune.specs.Steps.{columns_at}
 use Rattle.plan_prune.proofs.push_down.hconcat.beside.Given as goal
 

@@ -4,7 +4,7 @@ use Rattle.plan_ir.specs.declared.ir.IR.TheVariants.{Sort}
 use Rattle.plan_expr.specs.Operands.{IsExpr}
 use Rattle.plan_expr.specs.Exprs.{all_named_at}
 use Rattle.plan_expr.specs.Leaves.{Name}
-use Rattle.plan_meaning.specs.Asked.{all_leaves}
+use Rattle.plan_frame.specs.ExprLists.{all_leaves}
 use Rattle.plan_narrowing.specs.Pruned.{asked_with}
 use Rattle.plan_prune.specs.declared.push_down.step.Step.TheVariants.{Over}
 use Rattle.plan_prune.proofs.KeptLemmas.{stacked_stand}

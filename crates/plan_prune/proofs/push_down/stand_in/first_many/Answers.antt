@@ -1,5 +1,5 @@
 use Rattle.std.proofs.Common.{◌∙◌, sym}
-use Rattle.plan_meaning.proofs.ScalarExprs.{stands_here, item_here}
+use Rattle.plan_frame.proofs.ScalarExprs.{stands_here, item_here}
 use Rattle.plan_prune.proofs.ExprWalks.{many-next, many-found}
 use Rattle.plan_prune.proofs.push_down.stand_in.first_many.Goals as goal
 

@@ -1,5 +1,0 @@
-use Rattle.plan_meaning.proofs.Depends.{val_depends}
-use Rattle.plan_meaning.proofs.laws.meaning_depends_on_leaves.Goals as goal
-
-pub returns : goal.returns
-returns c = λ e f g h. val_depends e f g h

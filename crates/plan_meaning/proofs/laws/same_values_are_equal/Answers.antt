@@ -1,5 +1,0 @@
-use Rattle.plan_meaning.proofs.SameValues.{value_decides}
-use Rattle.plan_meaning.proofs.laws.same_values_are_equal.Goals as goal
-
-pub returns : goal.returns
-returns c = λ x y. value_decides x y

@@ -1,5 +1,0 @@
-use Rattle.plan_meaning.proofs.Sound.{val_single}
-use Rattle.plan_meaning.proofs.laws.scalar_expressions_have_one_value.Goals as goal
-
-pub returns : goal.returns
-returns c = λ e f h. (val_single e h).at f
