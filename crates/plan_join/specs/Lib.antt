@@ -1,3 +1,4 @@
 -- The definitions that contracts cite.
 pub mod Naming
 pub mod Origins
+pub mod Told

@@ -2,7 +2,7 @@
 use Rattle.std.proofs.Common.{◌≡◌, ◌∙◌, ◌++◌, ◌+◌, ◌<◌, ◌≤◌, ℕ, zero, suc, Bool, true, false, not, cond, List, [], ◌∷◌, map, length, Option, Some, None, slice_index_or, true≢false, refl, sym, ap, ap₂, subst, arith}
 use Rattle.std.specs.Cmp.{nat_cmp_is}
 use Rattle.std.specs.List.{AllByRecursion, cons_option, filter as only_where, filter_map, flat_map, range_with_len}
-use Rattle.std.specs.List.Sorted.{IsPermutation, IsSorted}
+use Rattle.std.specs.List.Sorted.{IsSorted}
 use Rattle.std.specs.Ordering.{is_lt, nat_cmp, ordering_then}
 use Rattle.std.specs.declared.cmp.Ordering.{Ordering}
 use Rattle.std.specs.declared.cmp.Ordering.TheVariants.{Less, Equal, Greater}
@@ -12,9 +12,9 @@ use Rattle.plan_options.specs.declared.join.MaintainOrderJoin.{MaintainOrderJoin
 use Rattle.plan_options.specs.declared.join.MaintainOrderJoin.TheVariants as orders
 use Rattle.plan_pairs.specs.declared.matches.Matches.{Matches}
 use Rattle.plan_pairs.specs.declared.pairs.RowPair.{RowPair}
-use Rattle.plan_pairs.specs.Pairs.{Test, gives_pairs, is_right_matched, join_pairs, passing}
+use Rattle.plan_pairs.specs.Pairs.{Test, gives_pairs, is_right_matched, passing}
 use Rattle.plan_pairs.specs.Orders.{left_right, own_order, place_cmp, right_left, Meets, ArePicked}
-use Rattle.plan_pairs.specs.Rows.{flipped, goes_right, AreJoined, AreMatches}
+use Rattle.plan_pairs.specs.Rows.{flipped, goes_right, AreJoined}
 use Rattle.plan_pairs.specs.Given.{all_given, as_pair, gives_alone, is_any, pairs_with, row_given}
 use Rattle.plan_pairs.proofs.PlaceLemmas.{passing-none}
 use Rattle.plan_pairs.proofs.GivenLemmas.{given-matched, given_by, left-given, right-given}
@@ -254,38 +254,37 @@ all_alone how test h k e = all_append (λ (q : RowPair). q.right ≡ None) (flat
     (rows_alone how test k 0 h e)
     (subst (λ (js : List ℕ). AllByRecursion (λ (q : RowPair). q.right ≡ None) (map (λ j. as_pair false None (Some j)) js)) (sym (passing-none (λ j. gives_alone true how (is_right_matched test h j)) (range_with_len 0 k) (λ j. no_rights how e (is_right_matched test h j)))) tt)
 
--- what is given is picked
+-- what is given row by row is picked
 
-left_sorted : (how : JoinType) (test : Test) (h k : ℕ) → IsSorted left_right (given_by false how test h k)
-left_sorted how test h k = up_sorted left_right (given_by false how test h k) (given-up false how test h k)
+left_first : (how : JoinType) (order : MaintainOrderJoin) (test : Test) (h k : ℕ) → Meets order (given_by false how test h k) → ArePicked how order test h k (given_by false how test h k)
+left_first how order test h k meets = record { pairs = left-given how test h k; in_order = meets }
 
-by_left : (how : JoinType) (order : MaintainOrderJoin) (test : Test) (h k : ℕ) (m : Matches) → AreMatches test h k m → Meets order (given_by false how test h k) → ArePicked how order test h k (all_given false how m)
-by_left how order test h k m are meets =
-    let same = given-matched false how test h k m are in
-    record {
-      pairs = subst (IsPermutation (join_pairs how test h k)) (sym same) (left-given how test h k);
-      in_order = subst (Meets order) (sym same) meets;
-    }
+by_left : (how : JoinType) (test : Test) (h k : ℕ) → ArePicked how orders.LeftRight test h k (given_by false how test h k)
+by_left how test h k = left_first how orders.LeftRight test h k (up_sorted left_right (given_by false how test h k) (given-up false how test h k))
 
-by_right : (how : JoinType) (test : Test) (h k : ℕ) (m : Matches) → AreMatches (flipped test) k h m → ArePicked how orders.RightLeft test h k (all_given true how m)
-by_right how test h k m are =
-    let same = given-matched true how (flipped test) k h m are in
-    record {
-      pairs = subst (IsPermutation (join_pairs how test h k)) (sym same) (right-given how test h k);
-      in_order = subst (Meets orders.RightLeft) (sym same) (up_sorted right_left (given_by true how (flipped test) k h) (given-up true how (flipped test) k h));
-    }
+abbrev own_pairs : (by_right : Bool) → JoinType → Test → (h k : ℕ) → List RowPair
+own_pairs true how test h k = given_by true how (flipped test) k h
+own_pairs false how test h k = given_by false how test h k
 
-right_first : (how : JoinType) (test : Test) (h k : ℕ) (m : Matches) (g : Bool) → gives_pairs how ≡ g → AreJoined g test h k m → ArePicked how orders.RightLeft test h k (all_given g how m)
-right_first how test h k m true e are = by_right how test h k m are
-right_first how test h k m false e are = by_left how orders.RightLeft test h k m are
+by_right : (how : JoinType) (test : Test) (h k : ℕ) (g : Bool) → gives_pairs how ≡ g → ArePicked how orders.RightLeft test h k (own_pairs g how test h k)
+by_right how test h k true e = record { pairs = right-given how test h k; in_order = up_sorted right_left (given_by true how (flipped test) k h) (given-up true how (flipped test) k h) }
+by_right how test h k false e = left_first how orders.RightLeft test h k
     (up_sorted right_left (given_by false how test h k) (lefts_up (given_by false how test h k) (all_alone how test h k e) (given-up false how test h k)))
 
+own_picked : (how : JoinType) (order : MaintainOrderJoin) (test : Test) (h k : ℕ) → ArePicked how (own_order order) test h k (own_pairs (goes_right how order) how test h k)
+own_picked how orders.None test h k = by_left how test h k
+own_picked how orders.Left test h k = by_left how test h k
+own_picked how orders.LeftRight test h k = by_left how test h k
+own_picked how orders.Right test h k = by_right how test h k (gives_pairs how) refl
+own_picked how orders.RightLeft test h k = by_right how test h k (gives_pairs how) refl
+
+given_own : (b : Bool) (how : JoinType) (test : Test) (h k : ℕ) (m : Matches) → AreJoined b test h k m → own_pairs b how test h k ≡ all_given b how m
+given_own true how test h k m are = sym (given-matched true how (flipped test) k h m are)
+given_own false how test h k m are = sym (given-matched false how test h k m are)
+
+-- and so is what is given of matched rows
 pub given-picked : (how : JoinType) (order : MaintainOrderJoin) (test : Test) (h k : ℕ) (m : Matches) → AreJoined (goes_right how order) test h k m → ArePicked how (own_order order) test h k (all_given (goes_right how order) how m)
-given-picked how orders.None test h k m are = by_left how orders.LeftRight test h k m are (left_sorted how test h k)
-given-picked how orders.Left test h k m are = by_left how orders.LeftRight test h k m are (left_sorted how test h k)
-given-picked how orders.LeftRight test h k m are = by_left how orders.LeftRight test h k m are (left_sorted how test h k)
-given-picked how orders.Right test h k m are = right_first how test h k m (gives_pairs how) refl are
-given-picked how orders.RightLeft test h k m are = right_first how test h k m (gives_pairs how) refl are
+given-picked how order test h k m are = subst (ArePicked how (own_order order) test h k) (given_own (goes_right how order) how test h k m are) (own_picked how order test h k)
 
 -- the order of both sides is that of one
 
@@ -331,3 +330,9 @@ own-asked orders.Left ps h = side_sorted (λ (p : RowPair). p.left) (λ (p : Row
 own-asked orders.Right ps h = side_sorted (λ (p : RowPair). p.right) (λ (p : RowPair). p.left) ps h
 own-asked orders.LeftRight ps h = h
 own-asked orders.RightLeft ps h = h
+
+-- there are pairs that a join may give
+pub picked-exists : (how : JoinType) (order : MaintainOrderJoin) (test : Test) (h k : ℕ) → (ps : List RowPair) × ArePicked how order test h k ps
+picked-exists how order test h k =
+    let own = own_picked how order test h k in
+    (own_pairs (goes_right how order) how test h k, record { pairs = own.pairs; in_order = own-asked order (own_pairs (goes_right how order) how test h k) own.in_order })
