@@ -72,7 +72,7 @@ each_of P (x ∷ xs) by = (by x, each_of P xs by)
 pub typed_filled : (g : Frame) (s : Columns) (a : Name) (t : DataType) → HasSchema g s → type_of s a ≡ Some t → IsFilled t g.height (column_or g a)
 typed_filled g s a t k e = let h = holds_or g (a, t) (schema_holds g s a t k e) in record { long = h.0; typed = h.1 }
 
--- frames
+-- columns under other names, and numbers of rows
 
 pub renamed_have : (now : Name → Name) (h : ℕ) (cs : List Column) (s : Columns) → HaveTypes h cs s → HaveTypes h (map (λ (c : Column). record { name = now c.name; values = c.values }) cs) (renamed_columns now s)
 renamed_have now h [] [] k = tt
@@ -114,7 +114,7 @@ items_of types.String (listed vs) h = absurd h
 items_of types.Boolean (listed vs) h = absurd h
 items_of (types.List t) (listed vs) h = all_alone t vs h
 
--- columns
+-- columns taken apart
 
 values_of : (b : Bool) (t : DataType) (rows : List (ℕ × ℕ)) (vs : List Value) → AllOf t vs → AllOf (cond b (item_type t) t) (exploded_values b rows vs)
 values_of true t [] vs h = tt

@@ -20,6 +20,11 @@ abbrev pub all_scalar : List Named → Bool
 all_scalar [] = true
 all_scalar (e ∷ es) = is_scalar e.expr && all_scalar es
 
+-- the first expression that isn't scalar, if there is one
+abbrev pub first_many : List Named → List Named
+first_many [] = []
+first_many (e ∷ es) = if is_scalar e.expr then first_many es else e ∷ []
+
 -- whether an expression is the number of rows
 abbrev pub is_len : Expr → Bool
 is_len (rose n row_count no_roses) = true
@@ -29,8 +34,3 @@ is_len e = false
 abbrev pub counts_rows : List Named → Bool
 counts_rows (e ∷ []) = is_len e.expr
 counts_rows es = false
-
--- the first expression that isn't scalar, if there is one
-abbrev pub first_many : List Named → List Named
-first_many [] = []
-first_many (e ∷ es) = if is_scalar e.expr then first_many es else e ∷ []

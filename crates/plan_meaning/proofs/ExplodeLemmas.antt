@@ -1,4 +1,4 @@
--- Explodes: that what they give has its columns, what they ask, and their columns as these are made.
+-- Explodes: what they ask is in their input.
 use Rattle.std.proofs.Common.{◌≡◌, true, List, sym, ◌∙◌, ⊎_elim}
 use Rattle.plan_core.specs.declared.error.PolarsError.TheVariants.{SchemaFieldNotFound, SchemaMismatch}
 use Rattle.plan_core.specs.Columns.{Columns, names_of, type_of}

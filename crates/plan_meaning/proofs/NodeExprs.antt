@@ -1,5 +1,5 @@
 -- The expressions of a node of a plan.
-use Rattle.std.proofs.Common.{◌≡◌, List, All, length, map, get_or, Some, option_map, ap, ◌∙◌}
+use Rattle.std.proofs.Common.{◌≡◌, List, All, map, get_or, Some, option_map, ap, ◌∙◌}
 use Rattle.std.specs.List.{slice_get}
 use Rattle.std.proofs.lemmas.List.Elements.{All-from_get_or}
 use Rattle.std.proofs.lemmas.Option.{slice_get-get_or, slice_get-map}

@@ -19,7 +19,7 @@ use Rattle.plan_meaning.specs.Mapped.{mapped}
 use Rattle.plan_meaning.specs.Typing.{each, is_known, is_column, columns_or, file_columns, has_columns, put_out_checks, is_plain_type, first_schema, schema_by, schema, schemas, checks, AllHold, AllValid}
 use Rattle.plan_frame.specs.Made.{made_schema, made, selected, grouped}
 use Rattle.plan_frame.specs.Beside.{side_by_side}
-use Rattle.plan_frame.specs.Frames.{Frame, HasSchema, Holds, HoldsAll, with_columns, cut, in_turn, beside, stack, rows_at}
+use Rattle.plan_frame.specs.Frames.{Frame, HasSchema, Holds, HoldsAll, cut, in_turn, beside, stack, rows_at}
 use Rattle.plan_frame.specs.Meaning.{are_alike, val}
 use Rattle.plan_frame.specs.Orders.{key_cells, rows_cmp, told_columns}
 use Rattle.plan_meaning.specs.Contents.{Contents, Source, frame_or, no_frame, handed_in, HasFrame, HasHandedIn, sources_of, frames_of, FitsAt, FitsAll, Fits}

@@ -1,4 +1,4 @@
--- Unions: inputs with the same columns, and their rows in turn.
+-- Unions: their inputs have the same columns, and what they give has these.
 use Rattle.std.proofs.Common.{◌≡◌, ◌<◌, Bool, true, false, not, arith, slice_index_or, List, [], ◌∷◌, ◌++◌, length, refl, sym, ◌∙◌}
 use Rattle.std.specs.List.{AllByRecursion}
 use Rattle.std.proofs.lemmas.Bool.{and_parts}

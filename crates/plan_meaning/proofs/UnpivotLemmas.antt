@@ -1,4 +1,4 @@
--- Unpivots: what their checks say, that what they give has its columns, what they ask, and their columns as these are made.
+-- Unpivots: what their checks say, that what they give has its columns, and what they ask.
 use Rattle.std.proofs.Common.{◌≡◌, suc, ◌*◌, Bool, true, false, cond, List, [], ◌∷◌, ◌++◌, length, replicate, Option, Some, None, is_some, unwrap_or, refl, sym, ◌∙◌, subst, ⊎_elim}
 use Rattle.std.specs.List.{AllByRecursion, list_all}
 use Rattle.std.proofs.lemmas.Bool.{and_parts, not-true}
