@@ -26,17 +26,6 @@ use Rattle.plan_value.specs.Cells.{cell_of, cells_of}
 use Rattle.plan_value.specs.Shown.{frame_of, schema_of}
 use Rattle.plan_fit.proofs.FormedLemmas.{columns-have}
 
--- the values of one key more
-pub keys-next : (ex : List AExpr) (keys : List ExprIR) (f : Frame) (i : ℕ) (key : ExprIR) (done : List Values) (v : Values) → i < length keys → key ≡ get_or keys i key → cell_of v ≡ val (expr_at ex key.node) f
-    → cells_of done ≡ key_cells (all_named_at ex (take i keys)) f → cells_of (done ++ v ∷ []) ≡ key_cells (all_named_at ex (take (i + 1) keys)) f
-keys-next ex keys f i key done v lt is own before =
-    let cell : Named → Cell = λ (e : Named). val e.expr f in
-    map-append cell_of done (v ∷ [])
-    ∙ ap₂ (λ (cs : List Cell) (c : Cell). cs ++ c ∷ []) before own
-    ∙ sym (map-append cell (all_named_at ex (take i keys)) (named_at ex key ∷ []))
-    ∙ ap (map cell) (sym (map-append (named_at ex) (take i keys) (key ∷ [])))
-    ∙ ap (λ (l : List ExprIR). key_cells (all_named_at ex l) f) (sym (take_more keys i key lt ∙ ap (λ (e : ExprIR). take i keys ++ e ∷ []) (sym is)))
-
 -- rows stand in an order by the keys of a valid sort over a table whose columns have their types
 pub keys-total : (t : Table) (keys : List Named) (descending nulls_last : List Bool) → HasRows t → AllHold (key_checks keys (schema_of t)) → IsTotalOrder (rows_cmp (key_cells keys (frame_of t)) descending nulls_last)
 keys-total t keys descending nulls_last rows valid =

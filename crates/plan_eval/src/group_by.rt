@@ -21,12 +21,11 @@ ghost use Rattle.plan_value.specs.Shown.{columns_shown, frame_of, schema_of, val
 
 use crate::distinct::kept_rows;
 use crate::made::named_column;
-use crate::sort::key_values;
 use plan_core::{Arena, Items, Schema};
 use plan_expr::{AExpr, ExprIR};
 use plan_options::UniqueKeepStrategy;
 use plan_table::{AnyValue, Columns, Table};
-use plan_value::{Values, evaluate_groups, grouped, rows_of_groups, value_at};
+use plan_value::{Values, evaluate_groups, grouped, key_values, rows_of_groups, value_at};
 use std::alloc::{AllocError, Global};
 
 /// The values in these rows, in this order.

@@ -16,30 +16,13 @@ ghost use Rattle.plan_eval.specs.Given.{Gives};
 ghost use Rattle.plan_value.specs.Cells.{cells_of};
 ghost use Rattle.plan_value.specs.Shown.{frame_of, schema_of};
 
-use plan_core::{Arena, Items};
+use plan_core::Arena;
 use plan_expr::{AExpr, ExprIR};
 use plan_options::SortMultipleOptions;
 use plan_table::Table;
-use plan_value::{Values, evaluate_expr, row_ordering, rows_at};
+use plan_value::{Values, key_values, row_ordering, rows_at};
 use std::alloc::{AllocError, Global};
 use std::cmp::Ordering;
-
-/// The values of each key over the rows of a table.
-pub fn key_values(
-    alloc: Global,
-    keys: &[ExprIR],
-    ex: &Arena<AExpr>,
-    table: &Table,
-) -> Result<Items<Values>, AllocError>
-    requires { All (λ e. IsExpr ex.now e.node) keys.now }
-    ensures { IfOk result (λ values. cells_of values ≡ key_cells (all_named_at ex.now keys.now) (frame_of table.now)) }
-{
-    let mut values = Items::new(alloc);
-    for key in keys {
-        values.push(evaluate_expr(alloc, key.node, ex, table)?)?;
-    }
-    Ok(values)
-}
 
 /// How two rows stand: by the first key that tells them apart, else by their places.
 fn ordering(keys: &[Values], options: &SortMultipleOptions, left: usize, right: usize) -> Ordering

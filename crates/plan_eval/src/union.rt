@@ -13,21 +13,10 @@ ghost use Rattle.plan_eval.specs.Given.{Gives};
 ghost use Rattle.plan_eval.specs.Stacks.{shown_tables};
 
 use crate::stack::stack;
-use plan_core::{Items, Schema, TryClone};
-use plan_table::{Columns, Table};
+use plan_core::Items;
+use plan_table::Table;
+use plan_value::typed;
 use std::alloc::{AllocError, Global};
-
-/// The names of columns, with their types.
-pub fn typed(alloc: Global, columns: &Columns) -> Result<Schema, AllocError>
-    ensures types { IfOk result (λ schema. schema ≡ types_of columns.now) }
-    ensures distinct { IfOk result (λ _. HasDistinctNames (types_of columns.now)) }
-{
-    let mut schema = Schema::new(alloc);
-    for column in columns.iter() {
-        let _ = schema.with_column(column.name.try_clone(alloc)?, column.dtype)?;
-    }
-    Ok(schema)
-}
 
 /// The tables, borrowed one by one.
 fn borrowed(alloc: Global, tables: &[Table]) -> Result<Items<&Table>, AllocError>

@@ -10,12 +10,11 @@ ghost use Rattle.plan_table.specs.Tables.{types_of};
 ghost use Rattle.plan_value.specs.Shown.{columns_shown, frame_of, schema_of, values_of};
 
 use crate::stack::{append, append_column, append_times};
-use crate::union::typed;
 use plan_core::{DataType, Items, PlSmallStr, TryClone};
 use plan_function::{value_name, value_names, variable_name};
 use plan_ir::UnpivotArgsIR;
 use plan_table::{AnyValue, Column, Columns, Table};
-use plan_value::column;
+use plan_value::{column, typed};
 use std::alloc::{AllocError, Global};
 
 /// The type of a column, that of whole numbers where there is none.

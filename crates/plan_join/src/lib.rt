@@ -10,4 +10,4 @@ mod tests;
 
 pub use options::{JoinOptions, JoinTypeOptionsIR};
 pub use origin::{Side, join_origin};
-pub use schema::join_schema;
+pub use schema::{join_schema, left_rest, right_name, right_rest};

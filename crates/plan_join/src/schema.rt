@@ -53,8 +53,8 @@ fn without_names(alloc: Global, names: &Names, columns: &Schema) -> Result<Schem
     Ok(rest)
 }
 
-/// The left columns that a join puts out, in order.
-fn left_rest(
+/// The left columns that a join puts out, in order. Refuses for want of memory alone.
+pub fn left_rest(
     alloc: Global,
     args: &JoinArgs,
     keys: &[ExprIR],
@@ -70,8 +70,8 @@ fn left_rest(
     left.try_clone(alloc)
 }
 
-/// The right columns that a join puts out, in order, under the names that they have there.
-fn right_rest(
+/// The right columns that a join puts out, in order, under the names that they have there. Refuses for want of memory alone.
+pub fn right_rest(
     alloc: Global,
     args: &JoinArgs,
     keys: &[ExprIR],
@@ -90,8 +90,9 @@ fn right_rest(
     right.try_clone(alloc)
 }
 
-/// The name under which a right column is put out: its own, with the suffix where one of the left columns has the same.
-fn right_name(
+/// The name under which a right column is put out: its own, with the suffix where one of the left columns that are put out
+/// has the same. Refuses for want of memory alone.
+pub fn right_name(
     alloc: Global,
     suffix: &str,
     left: &Schema,

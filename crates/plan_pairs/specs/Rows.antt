@@ -13,7 +13,7 @@ listed_at lists (Some n) = get_or lists n []
 
 -- the rows that match a row
 abbrev pub matches_of : Matches → ℕ → List ℕ
-matches_of m i = listed_at m.lists (get_or m.numbers i None)
+matches_of m i = listed_at m.lists.items (get_or m.numbers i None)
 
 -- a test of two rows with the rows of the sides the other way round
 abbrev pub flipped : Test → Test

@@ -11,7 +11,7 @@ use std::alloc::{AllocError, Global};
 #[derive(Drop)]
 pub struct Matches {
     /// Lists of rows that match, each from the first to the last.
-    pub lists: Items<Items<usize>>,
+    pub lists: Vec<Items<usize>>,
     /// For each row, from the first on, the place in `lists` of the list of those that match it; None where none does.
     pub numbers: Items<Option<usize>>,
     /// How many rows the side has from which those in `lists` are.
@@ -27,7 +27,7 @@ impl Matches {
         let Some(number) = self.numbers.as_slice()[row] else {
             return &[];
         };
-        match self.lists.as_slice().get(number) {
+        match self.lists.get(number) {
             Some(list) => list.as_slice(),
             None => &[],
         }

@@ -21,7 +21,7 @@ fn matches(
     third: &[usize],
     others: usize,
 ) -> Result<Matches, AllocError> {
-    let mut lists = Items::new(alloc);
+    let mut lists = Vec::new(alloc);
     lists.push(rows(alloc, first)?)?;
     lists.push(rows(alloc, third)?)?;
     let mut numbers = Items::new(alloc);

@@ -10,3 +10,4 @@ mod EvaluationLemmas
 pub mod WindowLemmas
 mod ReadLemmas
 pub mod GatheredLemmas
+mod KeyLemmas

@@ -5,8 +5,8 @@ use Rattle.plan_frame.proofs.ScalarExprs.{stands_here}
 use Rattle.plan_value.specs.declared.exprs.Values.{Values}
 use Rattle.plan_value.specs.Cells.{cells_of}
 use Rattle.plan_value.specs.Shown.{frame_of}
-use Rattle.plan_eval.proofs.SortLemmas.{keys-next}
-use Rattle.plan_eval.proofs.sort.key_values.Goals as goal
+use Rattle.plan_value.proofs.KeyLemmas.{keys-next}
+use Rattle.plan_value.proofs.keys.key_values.Goals as goal
 
 pub evaluate_expr-requires : goal.evaluate_expr-requires
 evaluate_expr-requires c = stands_here c.args.ex.now c.args.keys.now c.loop-key.key-index c.key-item.result c.requires c.loop-key-test.true c.key-item.is

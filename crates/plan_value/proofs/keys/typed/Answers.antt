@@ -1,7 +1,7 @@
 use Rattle.std.proofs.Common.{ap}
 use Rattle.plan_core.proofs.CopyLemmas.{with_type-copied}
 use Rattle.plan_table.specs.Tables.{types_of}
-use Rattle.plan_eval.proofs.union.typed.Goals as goal
+use Rattle.plan_value.proofs.keys.typed.Goals as goal
 
 pub loop-column-preserved : goal.loop-column-preserved
 loop-column-preserved c =

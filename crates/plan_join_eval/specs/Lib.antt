@@ -1,0 +1,4 @@
+-- The definitions that contracts cite.
+pub mod Equal
+pub mod Compared
+pub mod Along
