@@ -1,4 +1,3 @@
 -- The definitions that contracts cite.
 pub mod Equal
-pub mod Compared
-pub mod Along
+pub mod Fills

@@ -2,12 +2,12 @@
 ghost use Rattle.std.specs.Prelude.{◌≡◌, ◌+◌, ◌++◌, length, map, IfOk, OnOk};
 ghost use Rattle.std.specs.List.{range_with_len};
 ghost use Rattle.plan_frame.specs.Meaning.{value_at as value_of_row};
-ghost use Rattle.plan_frame.specs.Values.{is_null};
+ghost use Rattle.plan_frame.specs.Values.{is_null as null_value};
 ghost use Rattle.plan_join_eval.specs.Equal.{may_match as may_be_matched, numbers_where, stacked_cells};
 ghost use Rattle.plan_joined.specs.Matching.{keys_match};
 ghost use Rattle.plan_pairs.specs.Rows.{AreMatches};
 ghost use Rattle.plan_value.specs.Cells.{cell_of, cells_of};
-ghost use Rattle.plan_value.specs.Shown.{values_of};
+ghost use Rattle.plan_value.specs.Shown.{value_of, values_of};
 
 use plan_core::Items;
 use plan_pairs::Matches;
@@ -51,14 +51,21 @@ fn stacked_keys(
     Ok(keys)
 }
 
+/// Whether a value is null.
+fn is_null(value: &AnyValue) -> bool
+    ensures { result ≡ null_value (value_of value.now) }
+{
+    matches!(value, AnyValue::Null)
+}
+
 /// Whether the value in a row is null, as it is where there is no such row.
 fn is_null_at(values: &Values, row: usize) -> bool
-    ensures { result ≡ is_null (value_of_row (cell_of values.now) row) }
+    ensures { result ≡ null_value (value_of_row (cell_of values.now) row) }
 {
     match values {
-        Values::One(value) => matches!(value, AnyValue::Null),
+        Values::One(value) => is_null(value),
         Values::Many(values) => match values.as_slice().get(row) {
-            Some(value) => matches!(value, AnyValue::Null),
+            Some(value) => is_null(value),
             None => true,
         },
     }

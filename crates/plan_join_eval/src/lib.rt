@@ -1,11 +1,8 @@
 //! The table that a join gives of two tables.
 #![tactic(auto)]
 
-mod compared;
 mod equal;
 mod fills;
-mod joined;
-mod join;
-mod values;
 
-pub use join::evaluate_join;
+pub use equal::equal_matches;
+pub use fills::fillers;

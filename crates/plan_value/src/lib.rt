@@ -19,5 +19,6 @@ pub use exprs::{Values, column, evaluate_expr, filled, is_true_at, value_at};
 pub use gathered::evaluate_groups;
 pub use groups::{Groups, grouped, rows_of_groups};
 pub use keys::{key_values, typed};
+pub use operators::operated;
 pub use orders::row_ordering;
 pub use rows::{picked_column, rows_at, value_in};
