@@ -94,7 +94,7 @@ has-with xs b a = at (has xs b) refl
 
 -- the columns among one key more
 
-key-append : (ex : List AExpr) (keys : List ExprIR) (i : ℕ) (key : ExprIR) → i < length keys → slice_get keys i ≡ Some key → key_columns ex (take (i + 1) keys) ≡ key_columns ex (take i keys) ++ key_columns ex (key ∷ [])
+pub key-append : (ex : List AExpr) (keys : List ExprIR) (i : ℕ) (key : ExprIR) → i < length keys → slice_get keys i ≡ Some key → key_columns ex (take (i + 1) keys) ≡ key_columns ex (take i keys) ++ key_columns ex (key ∷ [])
 key-append ex keys i key within is =
     ap (key_columns ex) (ap (λ (k : ℕ). take k keys) (add-one i) ∙ take-suc keys i key within ∙ ap (λ (k : ExprIR). take i keys ++ k ∷ []) (get_or_from_slice_get keys i key key is))
     ∙ filter_map-append (key_column ex) (take i keys) (key ∷ [])

@@ -1,2 +1,5 @@
 -- The lemmas of this crate.
 mod EqualLemmas
+mod FillLemmas
+mod AlongLemmas
+mod TableLemmas

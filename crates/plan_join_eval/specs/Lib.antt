@@ -1,3 +1,4 @@
 -- The definitions that contracts cite.
 pub mod Equal
 pub mod Fills
+pub mod Along

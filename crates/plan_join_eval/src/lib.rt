@@ -3,6 +3,7 @@
 
 mod equal;
 mod fills;
+mod joined;
 
 pub use equal::equal_matches;
 pub use fills::fillers;

@@ -14,7 +14,7 @@ use Rattle.plan_join.specs.Naming.{join_columns, left_rest, right_name, right_re
 use Rattle.plan_join.specs.Origins.{puts_out_left, puts_out_right}
 use Rattle.plan_join.specs.Told.{Told, column_keys}
 use Rattle.plan_frame.specs.Values.{Value, IsOf, AllOf, null}
-use Rattle.plan_frame.specs.Frames.{Frame, Column, column_or, HaveTypes, HasSchema}
+use Rattle.plan_frame.specs.Frames.{Frame, Column, column_names, column_or, HaveTypes, HasSchema}
 use Rattle.plan_frame.proofs.FrameLemmas.{holds_or, length-map, null_of, row_of, schema_holds}
 use Rattle.plan_pairs.specs.declared.pairs.RowPair.{RowPair}
 use Rattle.plan_pairs.proofs.OrderLemmas.{picked-exists}
@@ -26,7 +26,7 @@ use Rattle.plan_joined.proofs.NameLemmas.{columns-named, left-names, left-where,
 -- columns that are put out under new names have the types that they had
 
 module _ (h : ℕ) (call : Name → Name) (values : Name → List Value) where
-  abbrev under : Name → Column
+  abbrev pub under : Name → Column
   under a = record { name = call a; values = values a }
 
   abbrev renamed : Name × DataType → Name × DataType
@@ -81,34 +81,35 @@ each P Q (c ∷ s) h by = (by c h.0, each P Q s h.1 by)
 -- what a join makes of two frames has its columns
 
 module _ (args : JoinArgs) (lk rk : List Name) (ps : List RowPair) (f g : Frame) (s t : Columns) where
-  abbrev fill : Name → Option Name
+  abbrev pub fill : Name → Option Name
   fill = filler args lk rk
 
-  abbrev left_values : Name → List Value
+  abbrev pub left_values : Name → List Value
   left_values a = map (side_value fill f g (sides.Left, a)) ps
 
-  abbrev right_values : Name → List Value
+  abbrev pub right_values : Name → List Value
   right_values a = map (side_value fill f g (sides.Right, a)) ps
 
-  abbrev right_call : Name → Name
+  abbrev pub right_call : Name → Name
   right_call = right_name (suffix_of args) (names_of (left_rest args lk s))
 
-  abbrev left_columns : List Column
+  abbrev pub left_columns : List Column
   left_columns = map (under (length ps) (λ a. a) left_values) (left_out args lk (names_of s))
 
-  abbrev right_columns : List Column
+  abbrev pub right_columns : List Column
   right_columns = map (under (length ps) right_call right_values) (right_out args rk (names_of t))
 
-  module _ (left : HasSchema f s) (right : HasSchema g t) where
-    parts : (joined args lk rk ps f g).columns ≡ left_columns ++ right_columns
-    parts =
-        ap₂ (λ (xs ys : List Name). map (side_column fill (call args (left_out args lk xs)) ps f g) (name_sources args lk rk xs ys)) (columns-named f.height f.columns s left) (columns-named g.height g.columns t right)
-        ∙ ap (λ (names : List Name). map (side_column fill (call args names) ps f g) (name_sources args lk rk (names_of s) (names_of t))) (left-names args lk s)
-        ∙ map-append (side_column fill (call args (names_of (left_rest args lk s))) ps f g) (map (λ (a : Name). (sides.Left, a)) (left_out args lk (names_of s))) (map (λ (a : Name). (sides.Right, a)) (right_out args rk (names_of t)))
-        ∙ ap₂ (λ (xs ys : List Column). xs ++ ys)
-        (map-map (side_column fill (call args (names_of (left_rest args lk s))) ps f g) (λ (a : Name). (sides.Left, a)) (left_out args lk (names_of s)))
-        (map-map (side_column fill (call args (names_of (left_rest args lk s))) ps f g) (λ (a : Name). (sides.Right, a)) (right_out args rk (names_of t)))
+  -- the columns of both sides, by the names of these
+  pub parts : column_names f.columns ≡ names_of s → column_names g.columns ≡ names_of t → (joined args lk rk ps f g).columns ≡ left_columns ++ right_columns
+  parts left right =
+      ap₂ (λ (xs ys : List Name). map (side_column fill (call args (left_out args lk xs)) ps f g) (name_sources args lk rk xs ys)) left right
+      ∙ ap (λ (names : List Name). map (side_column fill (call args names) ps f g) (name_sources args lk rk (names_of s) (names_of t))) (left-names args lk s)
+      ∙ map-append (side_column fill (call args (names_of (left_rest args lk s))) ps f g) (map (λ (a : Name). (sides.Left, a)) (left_out args lk (names_of s))) (map (λ (a : Name). (sides.Right, a)) (right_out args rk (names_of t)))
+      ∙ ap₂ (λ (xs ys : List Column). xs ++ ys)
+      (map-map (side_column fill (call args (names_of (left_rest args lk s))) ps f g) (λ (a : Name). (sides.Left, a)) (left_out args lk (names_of s)))
+      (map-map (side_column fill (call args (names_of (left_rest args lk s))) ps f g) (λ (a : Name). (sides.Right, a)) (right_out args rk (names_of t)))
 
+  module _ (left : HasSchema f s) (right : HasSchema g t) where
     module _ (fits : (a b : Name) → fill a ≡ Some b → type_of s a ≡ type_of t b) where
       lefts : HasDistinctNames s → HaveTypes (length ps) left_columns (left_rest args lk s)
       lefts once = subst (HaveTypes (length ps) left_columns) (map-id (only_where (λ (c : Name × DataType). puts_out_left args lk c.0) s) ∙ sym (left-where args lk s))
@@ -121,7 +122,7 @@ module _ (args : JoinArgs) (lk rk : List Name) (ps : List RowPair) (f g : Frame)
           (each (λ c. type_of t c.0 ≡ Some c.1) (Fit (length ps) right_call right_values) t (own-types t once) (λ c is. (length-map (side_value fill f g (sides.Right, c.0)) ps, right_of fill f g s t left right fits ps c is))))
 
       pub joined-has : HasDistinctNames s → HasDistinctNames t → HasSchema (joined args lk rk ps f g) (join_columns args lk rk s t)
-      joined-has once-left once-right = subst (λ (cs : List Column). HaveTypes (length ps) cs (join_columns args lk rk s t)) (sym parts)
+      joined-has once-left once-right = subst (λ (cs : List Column). HaveTypes (length ps) cs (join_columns args lk rk s t)) (sym (parts (columns-named f.height f.columns s left) (columns-named g.height g.columns t right)))
           (both_have (length ps) left_columns right_columns (left_rest args lk s) (map (renamed (length ps) right_call right_values) (right_rest args rk t)) (lefts once-left) (rights once-right))
 
 -- each join may give a frame

@@ -13,7 +13,7 @@ use Rattle.plan_join.specs.Naming.{but_for, drops_left, has_right, left_rest, ri
 use Rattle.plan_join.specs.Origins.{puts_out_left, puts_out_right}
 use Rattle.plan_frame.specs.Frames.{Column, column_names, HaveTypes}
 use Rattle.plan_frame.proofs.NameSets.{same_named}
-use Rattle.plan_joined.specs.Sides.{left_out}
+use Rattle.plan_joined.specs.Sides.{left_out, right_out}
 
 -- which columns remain is told name by name
 
@@ -50,6 +50,9 @@ names-where p (c ∷ s) = at (names-where p s) (p c.0)
 
 pub left-names : (args : JoinArgs) (keys : List Name) (s : Columns) → left_out args keys (names_of s) ≡ names_of (left_rest args keys s)
 left-names args keys s = names-where (puts_out_left args keys) s ∙ ap names_of (sym (left-where args keys s))
+
+pub right-names : (args : JoinArgs) (keys : List Name) (s : Columns) → right_out args keys (names_of s) ≡ names_of (right_rest args keys s)
+right-names args keys s = names-where (puts_out_right args keys) s ∙ ap names_of (sym (right-where args keys s))
 
 -- columns have the names of their types
 pub columns-named : (h : ℕ) (cs : List Column) (s : Columns) → HaveTypes h cs s → column_names cs ≡ names_of s
