@@ -42,10 +42,11 @@ expr_column e = None
 abbrev pub column_keys : List Named → List Name
 column_keys keys = filter_map (λ (key : Named). expr_column key.expr) keys
 
+-- one inequality, or none
+abbrev pub operator_if : Option InequalityOperator → List InequalityOperator
+operator_if None = []
+operator_if (Some op) = op ∷ []
+
 -- the inequalities that keys meet, for each pair of keys one
 abbrev pub operators : IEJoinOptions → List InequalityOperator
-operators o = o.operator1 ∷ second o.operator2
-  where
-    second : Option InequalityOperator → List InequalityOperator
-    second None = []
-    second (Some op) = op ∷ []
+operators o = o.operator1 ∷ operator_if o.operator2

@@ -3,3 +3,4 @@ mod EqualLemmas
 mod FillLemmas
 mod AlongLemmas
 mod TableLemmas
+mod CompareLemmas

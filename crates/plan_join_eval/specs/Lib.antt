@@ -2,3 +2,4 @@
 pub mod Equal
 pub mod Fills
 pub mod Along
+pub mod Compared

@@ -1,6 +1,7 @@
 //! The table that a join gives of two tables.
 #![tactic(auto)]
 
+mod compared;
 mod equal;
 mod fills;
 mod joined;

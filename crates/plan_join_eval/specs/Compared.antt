@@ -1,0 +1,33 @@
+-- Which rows meet what only some kinds of joins are told.
+use Rattle.std.specs.Prelude.{ℕ, Bool, true, false, List, [], ◌∷◌}
+use Rattle.plan_core.specs.Columns.{Columns, HasDistinctNames}
+use Rattle.plan_options.specs.declared.join.JoinArgs.{JoinArgs}
+use Rattle.plan_expr.specs.declared.aexpr.AExpr.{AExpr}
+use Rattle.plan_expr.specs.Exprs.{expr_at}
+use Rattle.plan_expr.specs.Operands.{IsExpr}
+use Rattle.plan_frame.specs.Frames.{Frame}
+use Rattle.plan_frame.specs.Meaning.{Cell, val, value_at}
+use Rattle.plan_frame.specs.Values.{is_true}
+use Rattle.plan_join.specs.declared.options.JoinTypeOptionsIR.{JoinTypeOptionsIR}
+use Rattle.plan_join.specs.declared.options.JoinTypeOptionsIR.TheVariants.{IEJoin, Cross}
+use Rattle.plan_join.specs.Naming.{join_columns}
+use Rattle.plan_join.specs.Told.{operators}
+use Rattle.plan_joined.specs.Joined.{joined}
+use Rattle.plan_joined.specs.Matching.{keys_meet}
+use Rattle.plan_pairs.specs.Pairs.{Test, both}
+use Rattle.plan_pairs.specs.Rows.{flipped}
+
+-- whether two rows meet what is told, by the keys of both sides
+abbrev pub kind_test : List AExpr → JoinArgs → JoinTypeOptionsIR → (left right : List Cell) → (f g : Frame) → Test
+kind_test ex args (IEJoin o) cs ds f g = keys_meet (operators o) cs ds
+kind_test ex args (Cross predicate) cs ds f g = λ i j. is_true (value_at (val (expr_at ex predicate.node) (joined args [] [] (both i j ∷ []) f g)) 0)
+
+-- a test with the rows of the side that is gone through first
+abbrev pub sided : (by_right : Bool) → Test → Test
+sided true test = flipped test
+sided false test = test
+
+-- a condition is an expression over the columns of the join, in which no name comes twice
+abbrev pub IsConditioned : List AExpr → JoinArgs → JoinTypeOptionsIR → Columns → Columns → Type 0
+IsConditioned ex args (IEJoin o) s t = Unit {0}
+IsConditioned ex args (Cross predicate) s t = IsExpr ex predicate.node × HasDistinctNames (join_columns args [] [] s t)
