@@ -1,0 +1,8 @@
+-- The lemmas of this crate.
+pub mod EntryLemmas
+pub mod FaultLemmas
+pub mod PartLemmas
+pub mod ValueLemmas
+pub mod NameLemmas
+pub mod ColumnLemmas
+pub mod StatLemmas

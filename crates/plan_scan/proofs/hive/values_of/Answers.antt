@@ -1,0 +1,4 @@
+use Rattle.plan_scan.proofs.hive.values_of.Goals as goal
+
+pub loop-name-preserved : goal.loop-name-preserved
+loop-name-preserved c = ?
