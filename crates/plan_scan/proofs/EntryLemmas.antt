@@ -1,5 +1,6 @@
 -- What a map with text keys says of the list of names and values.
-use Rattle.std.proofs.Common.{◌≡◌, ℕ, Bool, true, false, cond, not, ◌||◌, List, [], ◌∷◌, ◌++◌, map, refl, ap, ap₂, sym, ◌∙◌, Option, None, Some, is_some}
+use Rattle.std.proofs.Common.{◌≡◌, ℕ, Bool, true, false, cond, not, ◌||◌, List, [], ◌∷◌, ◌++◌, map, refl, ap, ap₂, sym, ◌∙◌, Option, None, Some, is_some, Bor}
+use Rattle.std.specs.Option.{option_copied}
 use Rattle.std.specs.Map.{lookup}
 use Rattle.std.specs.Str.{bytes_eq}
 use Rattle.std.specs.Prelude.{String, string_bytes}
@@ -54,3 +55,8 @@ key-has es a = ap (λ (o : Option (Option Text)). is_some o) (lookup-seen es a) 
 
 pub lookup-absent : (parts : List HivePart) (a : Text) → has (part_names parts) a ≡ false → lookup (bytes_eq a) parts ≡ None
 lookup-absent parts a h = nothing (lookup (bytes_eq a) parts) (lookup-has parts a ∙ h)
+
+-- a look-up finds nothing exactly where the name is none of the columns'
+pub got : (parts : List HivePart) (a : Text) (o : Option (Bor (Option Text))) (t : Bool) → option_copied o ≡ lookup (bytes_eq a) parts → is_some o ≡ not t → has (part_names parts) a ≡ not t
+got parts a None t is e = sym (lookup-has parts a) ∙ ap (λ (x : Option (Option Text)). is_some x) (sym is) ∙ e
+got parts a (Some x) t is e = sym (lookup-has parts a) ∙ ap (λ (x : Option (Option Text)). is_some x) (sym is) ∙ e

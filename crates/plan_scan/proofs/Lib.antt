@@ -4,5 +4,6 @@ pub mod FaultLemmas
 pub mod PartLemmas
 pub mod ValueLemmas
 pub mod NameLemmas
+pub mod PartitionLemmas
 pub mod ColumnLemmas
 pub mod StatLemmas

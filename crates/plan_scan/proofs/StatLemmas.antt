@@ -10,6 +10,7 @@ use Rattle.std.specs.Str.{bytes_eq}
 use Rattle.plan_core.specs.Columns.{Columns, HasDistinctNames, names_of, with_type}
 use Rattle.plan_core.specs.Names.{has, with_names}
 use Rattle.plan_core.proofs.CopyLemmas.{with_type-copied}
+use Rattle.plan_scan.proofs.ColumnLemmas.{drop-at}
 use Rattle.plan_scan.proofs.NameLemmas.{has-once}
 use Rattle.plan_core.specs.declared.data_type.DataType.{DataType}
 use Rattle.plan_table.specs.declared.value.AnyValue.{AnyValue}
@@ -127,11 +128,6 @@ distinct-among names (c ∷ cs) h = at (has names c.0) (distinct-among names cs 
     at : (t : Bool) → HasDistinctNames (named_among names cs) → AllByRecursion (λ (y : Text). bytes_eq c.0 y ≡ false) (names_of (named_among names cs)) → HasDistinctNames (if t then c ∷ named_among names cs else named_among names cs)
     at true rest apart = (apart, rest)
     at false rest apart = rest
-
-pub drop-at : {X : Type 0} (xs : List X) (i : ℕ) (x : X) → slice_get xs i ≡ Some x → drop i xs ≡ x ∷ drop (suc i) xs
-drop-at [] i x h = cc
-drop-at (y ∷ ys) zero x h = let same : y ≡ x = cc in ap (λ z. z ∷ ys) same
-drop-at (y ∷ ys) (suc i) x h = drop-at ys i x h
 
 pub is-within : {X : Type 0} (xs : List X) (i : ℕ) → i < length xs → slice_get xs i ≡ None → ⊥
 is-within [] i h e = omega arith

@@ -4,7 +4,7 @@ use Rattle.std.specs.List.{list_all}
 use Rattle.std.specs.Map.{lookup}
 use Rattle.std.specs.Option.{option_or}
 use Rattle.std.specs.Str.{bytes_eq}
-use Rattle.plan_core.specs.Columns.{Columns, names_of, type_of}
+use Rattle.plan_core.specs.Columns.{Columns, names_of, type_of, with_types}
 use Rattle.plan_core.specs.Errors.{item_at}
 use Rattle.plan_core.specs.Names.{has, with_names}
 use Rattle.plan_core.specs.declared.data_type.DataType.{DataType}
@@ -62,9 +62,9 @@ path_fault start schema firsts i path =
 abbrev pub ordered : Columns → List Text → List Text
 ordered reader firsts = filter (has firsts) (names_of reader) ++ filter (λ name. not (has (names_of reader) name)) firsts
 
--- the columns with their types
+-- the columns with their types; no name comes twice among them
 abbrev pub hive_columns : Option Columns → Columns → List (List HivePart) → List Text → Columns
-hive_columns schema reader all firsts = map (λ (name : Text). (name, hive_type schema reader all name)) (ordered reader firsts)
+hive_columns schema reader all firsts = with_types [] (map (λ (name : Text). (name, hive_type schema reader all name)) (ordered reader firsts))
 
 -- the value of a column in a path; none where it spells none of its type
 abbrev pub value_in : List HivePart → Text × DataType → Option AnyValue

@@ -108,7 +108,10 @@ fn read_names(
         let Some(parts) = hive_parts(alloc, path.as_str(), start)? else {
             return Err(PolarsError::ComputeError(place(i)));
         };
-        all.push(values_of(alloc, i, parts.as_slice(), schema, firsts)?)?;
+        match values_of(alloc, i, parts.as_slice(), schema, firsts) {
+            Ok(values) => all.push(values)?,
+            Err(fault) => return Err(fault),
+        }
     }
     Ok(all)
 }
@@ -203,7 +206,13 @@ pub fn hive_partitions_from_paths(
         };
     }
     let firsts = names_of(alloc, parts.as_slice())?;
-    let all = read_names(alloc, paths, hive_start_idx, schema, &firsts)?;
+    let all = match read_names(alloc, paths, hive_start_idx, schema, &firsts) {
+        Ok(all) => all,
+        Err(fault) => return Err(fault),
+    };
     let columns = hive_columns(alloc, schema, reader_schema, all.as_slice(), &firsts)?;
-    Ok(Some(read_partitions(alloc, &columns, all.as_slice())?))
+    match read_partitions(alloc, &columns, all.as_slice()) {
+        Ok(parts) => Ok(Some(parts)),
+        Err(fault) => Err(fault),
+    }
 }

@@ -26,8 +26,8 @@ fn type_from(name: &str, all: &[PathValues]) -> DataType
     for values in all {
         if let Some(text) = text_in(name, values) {
             any = true;
-            truths = truths && truth_of(text.as_str()).is_some();
-            numbers = numbers && number_of(text.as_str()).is_some();
+            truths &= truth_of(text.as_str()).is_some();
+            numbers &= number_of(text.as_str()).is_some();
         }
     }
     if !any {

@@ -1,8 +1,6 @@
-use Rattle.std.proofs.Common.{◌≡◌, ◌++◌, drop, map, not}
-use Rattle.std.specs.List.{filter}
+use Rattle.std.proofs.Common.{◌≡◌, ◌++◌, drop}
 use Rattle.std.specs.Option.{option_copied}
-use Rattle.plan_core.specs.Columns.{names_of}
-use Rattle.plan_core.specs.Names.{has}
+use Rattle.plan_core.specs.Columns.{with_types}
 use Rattle.plan_scan.specs.Hive.{hive_columns}
 use Rattle.plan_scan.proofs.ColumnLemmas.{typed, kept, others}
 use Rattle.plan_scan.proofs.hive_columns.hive_columns.Given as goal
@@ -10,9 +8,9 @@ use Rattle.plan_scan.proofs.hive_columns.hive_columns.Given as goal
 -- what is there, and then what is left of the reader's columns and the others, are the columns
 abbrev pub invariant-loop-name : goal.invariant-loop-name
 invariant-loop-name l =
-    l.columns ++ typed (option_copied l.schema) l.reader l.all (kept l.firsts l.name-iterator ++ others l.reader l.firsts) ≡ hive_columns (option_copied l.schema) l.reader l.all l.firsts
+    with_types l.columns (typed (option_copied l.schema) l.reader l.all (kept l.firsts l.name-iterator ++ others l.reader l.firsts)) ≡ hive_columns (option_copied l.schema) l.reader l.all l.firsts
 
 -- what is there, and then what is left of the others, are the columns
 abbrev pub invariant-loop-i : goal.invariant-loop-i
 invariant-loop-i l =
-    l.columns ++ typed (option_copied l.schema) l.reader l.all (others l.reader (drop l.i l.firsts)) ≡ hive_columns (option_copied l.schema) l.reader l.all l.firsts
+    with_types l.columns (typed (option_copied l.schema) l.reader l.all (others l.reader (drop l.i l.firsts))) ≡ hive_columns (option_copied l.schema) l.reader l.all l.firsts
