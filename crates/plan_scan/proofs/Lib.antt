@@ -5,5 +5,6 @@ pub mod PartLemmas
 pub mod ValueLemmas
 pub mod NameLemmas
 pub mod PartitionLemmas
+pub mod HiveLemmas
 pub mod ColumnLemmas
 pub mod StatLemmas

@@ -82,19 +82,19 @@ values_fault columns i parts = if is_read columns parts then None else Some (Com
 abbrev pub partition_of : Columns → List HivePart → Stats
 partition_of columns parts = map (λ (c : Text × DataType). stat c (unwrap_or (value_in parts c) Null)) columns
 
+-- a fault, if there is one, and else the answer
+abbrev pub unless : Option PolarsError → Result (Option (List Stats)) PolarsError → Result (Option (List Stats)) PolarsError
+unless (Some fault) answer = Err fault
+unless None answer = answer
+
 -- the partitions of paths with such columns, or the first fault of a value
 abbrev pub partitions : Columns → List (List HivePart) → Result (Option (List Stats)) PolarsError
-partitions columns all = elim (first_fault (values_fault columns) 0 all) [
-  | Some fault ↦ Err fault
-  | None ↦ Ok (Some (map (partition_of columns) all))
-]
+partitions columns all = unless (first_fault (values_fault columns) 0 all) (Ok (Some (map (partition_of columns) all)))
 
 -- the partitions of paths of which the first has these names, or the first fault of a name and then of a value
 abbrev pub read_paths : ℕ → Option Columns → Columns → List Text → List Text → Result (Option (List Stats)) PolarsError
-read_paths start schema reader firsts paths = elim (first_fault (path_fault start schema firsts) 0 paths) [
-  | Some fault ↦ Err fault
-  | None ↦ let all = map (hive_parts start) paths in partitions (hive_columns schema reader all firsts) all
-]
+read_paths start schema reader firsts paths = let all = map (hive_parts start) paths in
+    unless (first_fault (path_fault start schema firsts) 0 paths) (partitions (hive_columns schema reader all firsts) all)
 
 -- what a first path without hive columns tells: nothing, but where a schema says that there are some
 abbrev pub without_columns : Option Columns → Result (Option (List Stats)) PolarsError
