@@ -1,5 +1,5 @@
 -- Hive columns: their types and order.
-use Rattle.std.proofs.Common.{◌≡◌, ◌+◌, ◌<◌, ◌≤◌, ◌++◌, ℕ, zero, suc, Bool, true, false, cond, not, ◌&&◌, ◌||◌, if◌then◌else◌, List, [], ◌∷◌, length, take, take_all, drop, map, Option, None, Some, is_some, Bor, refl, sym, ap, ap₂, ◌∙◌, add-one, append_assoc, arith}
+use Rattle.std.proofs.Common.{◌≡◌, ◌+◌, ◌++◌, ℕ, zero, suc, Bool, true, false, cond, not, ◌&&◌, ◌||◌, if◌then◌else◌, List, [], ◌∷◌, take, drop, map, Option, None, Some, is_some, Bor, refl, sym, ap, ap₂, ◌∙◌, add-one}
 use Rattle.std.specs.Option.{option_copied}
 use Rattle.std.specs.Str.{bytes_eq}
 use Rattle.std.specs.List.{filter, filter_map, cons_option, list_all, list_any, slice_get}

@@ -1,5 +1,5 @@
 -- What paths tell, from their two rounds.
-use Rattle.std.proofs.Common.{◌≡◌, ◌≢◌, ◌∙◌, ℕ, Bool, true, false, List, [], ◌∷◌, length, map, Option, None, Some, Result, Ok, Err, if◌then◌else◌, refl, sym, ap}
+use Rattle.std.proofs.Common.{◌≡◌, ◌≢◌, ◌∙◌, ℕ, Bool, true, List, [], ◌∷◌, length, map, Option, None, Some, Ok, Err, if◌then◌else◌, refl, sym, ap}
 use Rattle.std.specs.List.{slice_get}
 use Rattle.plan_core.specs.Columns.{Columns}
 use Rattle.plan_core.specs.Names.{with_names}
@@ -7,7 +7,6 @@ use Rattle.plan_core.specs.declared.error.PolarsError.{PolarsError}
 use Rattle.plan_core.specs.declared.error.PolarsError.TheVariants.{SchemaFieldNotFound, Duplicate, SchemaMismatch, InvalidOperation, ComputeError, OutOfMemory}
 use Rattle.plan_scan.specs.Parts.{Text, HivePart, hive_parts, may_cut, part_names}
 use Rattle.plan_scan.specs.Hive.{first_fault, hive_columns, hive_of, partition_of, partitions, path_fault, place, read_paths, unless, values_fault, with_first, Says}
-use Rattle.plan_scan.specs.Stats.{Stats}
 
 -- an answer that is an error but for memory names that fault
 pub named : (A : Type 0) (e : PolarsError) (fault : Option PolarsError) → Says {A = A} (Err e) fault → e ≢ OutOfMemory → fault ≡ Some e

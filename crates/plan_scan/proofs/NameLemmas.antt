@@ -1,6 +1,6 @@
 -- Lists of names, each once.
-use Rattle.std.proofs.Common.{◌≡◌, ◌+◌, ◌≤◌, ◌++◌, ℕ, zero, suc, Bool, true, false, cond, not, ◌||◌, List, [], ◌∷◌, take, drop, length, take_all, Option, None, Some, map, refl, sym, ap, ◌∙◌, add-one, arith}
-use Rattle.std.specs.List.{filter, fold, slice_get, list_all}
+use Rattle.std.proofs.Common.{◌≡◌, ◌+◌, ◌≤◌, ◌++◌, ℕ, zero, suc, Bool, true, false, cond, ◌||◌, List, [], ◌∷◌, take, length, take_all, Some, refl, sym, ap, ◌∙◌, add-one}
+use Rattle.std.specs.List.{slice_get}
 use Rattle.std.specs.Str.{bytes_eq}
 use Rattle.std.proofs.lemmas.Slice.Eq.{bytes_eq-Decides}
 use Rattle.plan_core.specs.Names.{has, with_name, with_names}

@@ -1,10 +1,10 @@
 -- How paths are cut into parts, and which parts are hive columns.
-use Rattle.std.proofs.Common.{◌≡◌, ◌+◌, ◌<◌, ◌≤◌, ℕ, suc, Bool, true, false, cond, not, ◌&&◌, ◌||◌, ◌==◌, nat_lt, nat_le, List, [], ◌∷◌, ◌++◌, length, take, drop, get_or, Option, None, Some, filter_map, refl, sym, ap, ◌∙◌, arith, add-one, append_assoc, subst}
-use Rattle.std.specs.List.{list_any, cons_option, position_or_len, before_first, after_first}
+use Rattle.std.proofs.Common.{◌≡◌, ◌+◌, ◌<◌, ℕ, suc, Bool, true, false, cond, not, ◌&&◌, ◌||◌, ◌==◌, nat_lt, nat_le, List, [], ◌∷◌, ◌++◌, length, take, drop, get_or, Option, None, Some, filter_map, refl, sym, ap, ◌∙◌, arith, add-one, append_assoc, subst}
+use Rattle.std.specs.List.{cons_option, position_or_len, before_first, after_first}
 use Rattle.std.specs.Str.{IsCharBoundary, IsUtf8, is_utf8}
 use Rattle.std.proofs.lemmas.List.{get_or_past}
 use Rattle.std.proofs.lemmas.Str.{IsUtf8-from_is_utf8, is_utf8-from_IsUtf8, IsUtf8-drop, IsCharBoundary-after_ascii}
-use borrow.Author.Tests.{eqb-true, leb-true, leb-false, ltb-true, ltb-false, le-leb, lt-ltb, lt-leb}
+use borrow.Author.Tests.{eqb-true, leb-true, ltb-true, ltb-false, le-leb}
 use Rattle.percent_encoding.specs.Percent.{percent_decode}
 use Rattle.plan_scan.specs.Parts.{Text, HivePart, folders, has_byte, hive_part, may_cut, under, value_of}
 

@@ -1,10 +1,8 @@
 -- The partitions of paths, column by column.
-use Rattle.std.proofs.Common.{◌≡◌, ◌∙◌, ◌++◌, ◌∷◌, [], ◌&&◌, List, ℕ, ℤ, Bool, true, false, Option, None, Some, is_some, option_map, unwrap_or, map, refl, sym, ap, append_assoc, subst}
-use Rattle.std.specs.List.{AllByRecursion, list_all}
+use Rattle.std.proofs.Common.{◌≡◌, ◌∙◌, ◌++◌, ◌∷◌, [], ◌&&◌, List, ℤ, Bool, true, Option, None, Some, is_some, option_map, unwrap_or, refl, sym, ap, append_assoc, subst}
 use Rattle.std.specs.Map.{lookup}
 use Rattle.std.specs.Option.{option_and_then}
 use Rattle.std.specs.Str.{bytes_eq}
-use Rattle.std.proofs.lemmas.List.{append-nil}
 use Rattle.plan_core.specs.Columns.{Columns}
 use Rattle.plan_core.specs.declared.data_type.DataType.{DataType}
 use Rattle.plan_core.specs.declared.data_type.DataType.TheVariants as types
@@ -13,7 +11,7 @@ use Rattle.plan_table.specs.declared.value.AnyValue.{AnyValue}
 use Rattle.plan_table.specs.declared.value.AnyValue.TheVariants as values
 use Rattle.plan_scan.specs.Parts.{Text, HivePart}
 use Rattle.plan_scan.specs.Hive.{is_read, partition_of, value_in}
-use Rattle.plan_scan.specs.Stats.{Stats, stat, columns_of, AreOf, HasType}
+use Rattle.plan_scan.specs.Stats.{Stats, stat, AreOf}
 use Rattle.plan_scan.specs.Values.{number_of, spelled, truth_of, value_as}
 
 -- the value of a column whose text is there

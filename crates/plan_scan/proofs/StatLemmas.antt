@@ -1,6 +1,6 @@
 -- Columns with values.
-use Rattle.std.proofs.Common.{◌≡◌, ◌+◌, ◌<◌, ◌≤◌, ◌++◌, ℕ, zero, suc, Bool, true, false, List, [], ◌∷◌, length, take, take_all, drop, Option, None, Some, map, refl, sym, ap, ◌∙◌, arith, append_assoc, add-one, if◌then◌else◌}
-use Rattle.std.specs.List.{AllByRecursion, IsDistinct, filter, flat_map, slice_get}
+use Rattle.std.proofs.Common.{◌≡◌, ◌+◌, ◌<◌, ◌≤◌, ◌++◌, ℕ, zero, suc, Bool, true, false, List, [], ◌∷◌, length, take, take_all, drop, None, Some, refl, sym, ap, ◌∙◌, arith, append_assoc, add-one, if◌then◌else◌}
+use Rattle.std.specs.List.{AllByRecursion, IsDistinct, filter, slice_get}
 use Rattle.std.specs.Prelude.{All}
 use Rattle.std.proofs.lemmas.List.Elements.{All-cons}
 use Rattle.std.proofs.lemmas.List.{append-nil, drop_all}

@@ -1,4 +1,4 @@
-use Rattle.std.proofs.Common.{◌≡◌, ◌∙◌, ◌<◌, false, true, not, length, sym, ap, arith}
+use Rattle.std.proofs.Common.{◌≡◌, ◌∙◌, false, true, not, sym, ap, arith}
 use Rattle.plan_core.specs.Names.{has}
 use Rattle.plan_scan.specs.Parts.{part_names}
 use Rattle.plan_scan.proofs.EntryLemmas.{got}

@@ -1,11 +1,9 @@
-use Rattle.std.proofs.Common.{◌≡◌, ◌≢◌, ◌∙◌, ℕ, List, [], length, map, Option, None, Some, Ok, Err, true, refl, sym, ap, ap₂}
-use Rattle.std.specs.List.{slice_get}
+use Rattle.std.proofs.Common.{◌≡◌, ◌∙◌, List, [], map, Some, Ok, true, sym, ap, ap₂}
 use Rattle.std.specs.Option.{option_copied}
 use Rattle.plan_core.specs.Columns.{Columns}
 use Rattle.plan_core.specs.Names.{with_names}
-use Rattle.plan_core.specs.declared.error.PolarsError.TheVariants.{OutOfMemory}
 use Rattle.plan_scan.specs.Parts.{Text, HivePart, hive_parts, may_cut, part_names}
-use Rattle.plan_scan.specs.Hive.{hive_columns, hive_of, partition_of, partitions, read_paths}
+use Rattle.plan_scan.specs.Hive.{hive_columns, hive_of, partitions, read_paths}
 use Rattle.plan_scan.specs.Stats.{Stats}
 use Rattle.plan_scan.proofs.FaultLemmas.{test-some}
 use Rattle.plan_scan.proofs.HiveLemmas.{first-read, named, names-read, names-refused, values-read, values-refused}

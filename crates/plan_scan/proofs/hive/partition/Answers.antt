@@ -1,11 +1,9 @@
-use Rattle.std.proofs.Common.{◌≡◌, ◌∙◌, ◌++◌, ◌∷◌, [], List, Option, None, Some, true, refl, sym, ap, subst}
+use Rattle.std.proofs.Common.{◌≡◌, ◌∙◌, ◌++◌, [], Some, true, sym, ap}
 use Rattle.std.proofs.lemmas.List.{append-nil}
 use Rattle.plan_core.specs.Columns.{Columns}
 use Rattle.plan_core.specs.declared.data_type.DataType.{DataType}
-use Rattle.plan_scan.specs.Parts.{Text, HivePart}
-use Rattle.plan_scan.specs.Stats.{Stats, AreOf}
+use Rattle.plan_scan.specs.Parts.{Text}
 use Rattle.plan_scan.specs.Hive.{is_read, partition_of, value_in}
-use Rattle.plan_scan.specs.Values.{value_as}
 use Rattle.plan_scan.proofs.PartitionLemmas.{partition-next, read-next, partition-formed, value-there}
 use Rattle.plan_scan.proofs.hive.partition.Goals as goal
 

@@ -1,12 +1,12 @@
-use Rattle.std.proofs.Common.{◌≡◌, ◌∙◌, ◌+◌, ◌++◌, ◌∷◌, [], List, ℕ, Option, None, Some, Err, map, take, true, false, refl, sym, ap, ap₂, subst, add-one}
+use Rattle.std.proofs.Common.{◌≡◌, ◌∙◌, ◌++◌, ◌∷◌, [], List, ℕ, Option, None, Some, Err, map, take, true, false, refl, sym, ap, ap₂, subst, add-one}
 use Rattle.std.specs.List.{slice_get}
 use Rattle.std.specs.Option.{option_copied}
 use Rattle.std.proofs.lemmas.List.{map-append}
 use Rattle.std.proofs.lemmas.Option.{slice_get_read}
 use Rattle.plan_core.specs.declared.error.PolarsError.{PolarsError}
 use Rattle.plan_core.specs.declared.error.PolarsError.TheVariants.{ComputeError}
-use Rattle.plan_scan.specs.Parts.{Text, HivePart, hive_parts, may_cut}
-use Rattle.plan_scan.specs.Hive.{first_fault, parts_fault, path_fault, place, Says}
+use Rattle.plan_scan.specs.Parts.{HivePart, hive_parts, may_cut}
+use Rattle.plan_scan.specs.Hive.{parts_fault, path_fault, Says}
 use Rattle.plan_scan.proofs.ColumnLemmas.{take-more}
 use Rattle.plan_scan.proofs.FaultLemmas.{cut-nowhere, cut-there, found-from, next-from, says-found, test-none, test-some}
 use Rattle.plan_scan.proofs.hive.read_names.Goals as goal

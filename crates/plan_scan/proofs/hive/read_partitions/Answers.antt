@@ -1,10 +1,10 @@
-use Rattle.std.proofs.Common.{◌≡◌, ◌∙◌, ◌+◌, ◌++◌, ◌∷◌, [], List, ℕ, Option, None, Some, map, take, true, false, refl, sym, ap, ap₂, add-one}
+use Rattle.std.proofs.Common.{◌≡◌, ◌∙◌, ◌++◌, ◌∷◌, [], List, ℕ, Some, map, take, refl, sym, ap, ap₂, add-one}
 use Rattle.std.specs.List.{slice_get}
 use Rattle.std.proofs.lemmas.List.{map-append}
 use Rattle.std.proofs.lemmas.Option.{slice_get_read}
 use Rattle.plan_core.specs.declared.error.PolarsError.TheVariants.{ComputeError}
 use Rattle.plan_scan.specs.Stats.{Stats}
-use Rattle.plan_scan.specs.Hive.{first_fault, is_read, partition_of, place, values_fault}
+use Rattle.plan_scan.specs.Hive.{is_read, partition_of, values_fault}
 use Rattle.plan_scan.proofs.ColumnLemmas.{take-more}
 use Rattle.plan_scan.proofs.FaultLemmas.{found-from, next-from, read, test-none, test-some, unread}
 use Rattle.plan_scan.proofs.hive.read_partitions.Goals as goal

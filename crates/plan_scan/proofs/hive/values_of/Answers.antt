@@ -1,4 +1,4 @@
-use Rattle.std.proofs.Common.{◌≡◌, ◌∙◌, ◌+◌, ◌++◌, ◌∷◌, [], List, ℕ, Option, None, Some, take, true, false, not, sym, ap, ap₂, refl, add-one}
+use Rattle.std.proofs.Common.{◌≡◌, ◌∙◌, ◌++◌, ◌∷◌, [], List, ℕ, Option, Some, take, true, false, not, sym, ap, ap₂, refl, add-one}
 use Rattle.std.specs.List.{slice_get}
 use Rattle.std.specs.Option.{option_copied}
 use Rattle.std.proofs.lemmas.Option.{slice_get_read}
@@ -6,7 +6,7 @@ use borrow.Author.Tests.{not-true, not-false}
 use Rattle.plan_core.specs.declared.error.PolarsError.TheVariants.{SchemaFieldNotFound, Duplicate}
 use Rattle.plan_core.specs.Names.{has}
 use Rattle.plan_scan.specs.Parts.{Text, HivePart, part_names}
-use Rattle.plan_scan.specs.Hive.{first_fault, is_known, name_fault, place}
+use Rattle.plan_scan.specs.Hive.{is_known, name_fault, place}
 use Rattle.plan_scan.proofs.ColumnLemmas.{take-more}
 use Rattle.plan_scan.proofs.FaultLemmas.{faultless, found-from, name-first, next-from, twice, unknown}
 use Rattle.plan_scan.proofs.NameLemmas.{name-at, names-take}

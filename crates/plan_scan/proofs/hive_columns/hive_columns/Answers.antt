@@ -1,4 +1,4 @@
-use Rattle.std.proofs.Common.{◌≡◌, ◌∙◌, ◌<◌, length, true, false, not, sym, ap, arith}
+use Rattle.std.proofs.Common.{◌≡◌, ◌∙◌, true, false, not, sym, ap, arith}
 use Rattle.std.specs.Option.{option_copied}
 use Rattle.plan_core.specs.Columns.{names_of}
 use Rattle.plan_core.specs.Names.{has}

@@ -1,4 +1,4 @@
-use Rattle.std.proofs.Common.{◌≡◌, ◌∙◌, Bool, Some, is_some, refl, sym, ap}
+use Rattle.std.proofs.Common.{◌≡◌, ◌∙◌, Some, is_some, refl, sym, ap}
 use Rattle.std.specs.List.{slice_get}
 use Rattle.std.proofs.lemmas.Option.{slice_get_read}
 use Rattle.plan_scan.specs.Values.{text_in, number_of, truth_of}

@@ -1,10 +1,10 @@
-use Rattle.std.proofs.Common.{◌≡◌, ◌∙◌, ◌<◌, ◌==◌, length, lit<, subst, sym, ap, None, Some, Option, false}
+use Rattle.std.proofs.Common.{◌≡◌, ◌∙◌, ◌<◌, ◌==◌, length, lit<, subst, sym, ap, None, Some, false}
 use Rattle.std.specs.List.{before_first, after_first}
 use Rattle.std.specs.Str.{IsUtf8}
 use Rattle.std.proofs.lemmas.Str.Pattern.{split_once_first}
 use Rattle.percent_encoding.specs.declared.DecodeError.{DecodeError}
 use Rattle.percent_encoding.specs.Percent.{percent_decode}
-use Rattle.plan_scan.specs.Parts.{Text, HivePart, has_byte, value_of}
+use Rattle.plan_scan.specs.Parts.{Text, has_byte, value_of}
 use Rattle.plan_scan.proofs.PartLemmas.{before, is-column, no-equals, not-text}
 use Rattle.plan_scan.proofs.hive_parts.hive_part.Goals as goal
 

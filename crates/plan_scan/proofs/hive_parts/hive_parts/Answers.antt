@@ -1,9 +1,9 @@
-use Rattle.std.proofs.Common.{◌≡◌, ◌∙◌, ◌<◌, ◌==◌, ◌++◌, ◌∷◌, List, length, lit<, sym, ap, None, Some, Option, if◌then◌else◌, Bool, cond, true, is_some}
+use Rattle.std.proofs.Common.{◌≡◌, ◌∙◌, ◌<◌, ◌==◌, ◌++◌, List, length, lit<, sym, ap, None, Some, Bool, cond, true, is_some}
 use Rattle.std.proofs.lemmas.List.{append-nil}
 use Rattle.std.specs.List.{before_first, after_first, filter_map}
 use Rattle.std.proofs.lemmas.Str.Pattern.{split_once_first}
 use Rattle.plan_scan.specs.Parts.{Text, HivePart, folders, hive_part, hive_parts, may_cut}
-use Rattle.plan_scan.proofs.PartLemmas.{before, folders-end, folder-kept, folder-passed, may_cut-there, may_cut-nowhere, text-behind}
+use Rattle.plan_scan.proofs.PartLemmas.{before, folders-end, folder-kept, folder-passed, may_cut-there, text-behind}
 use Rattle.plan_scan.proofs.hive_parts.hive_parts.Goals as goal
 
 pub loop-folder-preserved-in_ok-push : goal.loop-folder-preserved-in_ok-push

@@ -1,11 +1,10 @@
-use Rattle.std.proofs.Common.{◌≡◌, ◌∙◌, ◌++◌, ◌<◌, ◌≤◌, ◌+◌, ℕ, Bool, true, false, List, [], length, drop, refl, sym, ap, subst, Some, arith}
+use Rattle.std.proofs.Common.{◌≡◌, ◌∙◌, ◌++◌, ◌<◌, ◌+◌, ℕ, true, false, List, [], length, drop, refl, sym, ap, subst, Some, arith}
 use Rattle.std.specs.List.{slice_get}
 use Rattle.std.specs.Prelude.{All}
 use Rattle.std.proofs.lemmas.Option.{slice_get_read}
-use Rattle.plan_core.specs.Columns.{Columns, with_type}
+use Rattle.plan_core.specs.Columns.{Columns}
 use Rattle.plan_core.specs.Names.{has, with_names}
-use Rattle.plan_scan.specs.Parts.{Text}
-use Rattle.plan_scan.specs.Stats.{Stats, columns_of, named_among, places_among, stats_at}
+use Rattle.plan_scan.specs.Stats.{columns_of, named_among, places_among, stats_at}
 use Rattle.plan_scan.proofs.NameLemmas.{names-all, names-step}
 use Rattle.plan_scan.proofs.StatLemmas.{among-all, columns-at, is-within, kept-column, kept-place, length-columns, passed-column, passed-place, places-all, places-within}
 use Rattle.plan_scan.proofs.partitions.HivePartitions.get_projection_schema_and_indices.Goals.{in-Some+then-contains+in_ok-new+in_ok-with_column+in_ok-push, in-Some+else-contains, in_default}

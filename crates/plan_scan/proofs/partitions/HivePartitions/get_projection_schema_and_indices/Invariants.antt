@@ -1,6 +1,6 @@
 use Rattle.std.proofs.Common.{◌≡◌, ◌++◌, [], take, drop}
 use Rattle.plan_core.specs.Names.{with_names}
-use Rattle.plan_scan.specs.Stats.{columns_of, named_among, places_among}
+use Rattle.plan_scan.specs.Stats.{named_among, places_among}
 use Rattle.plan_scan.proofs.partitions.HivePartitions.get_projection_schema_and_indices.Given as goal
 
 -- the names so far are there, each once

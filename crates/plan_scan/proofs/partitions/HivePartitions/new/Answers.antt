@@ -2,7 +2,7 @@ use Rattle.std.proofs.Common.{◌≡◌, ◌∙◌, List, refl, sym, subst, Some
 use Rattle.std.specs.List.{slice_get}
 use Rattle.std.proofs.lemmas.Option.{slice_get_read}
 use Rattle.plan_table.specs.declared.value.AnyValue.{AnyValue}
-use Rattle.plan_scan.specs.Stats.{Stats, with_values, AreOf, Fits}
+use Rattle.plan_scan.specs.Stats.{Stats, AreOf, Fits}
 use Rattle.plan_scan.proofs.StatLemmas.{fitting, has-column, new-all, new-next}
 use Rattle.plan_scan.proofs.partitions.HivePartitions.new.Goals.{in-Some+in_ok-new+in_ok-try_clone+in_ok-push, in_default}
 use Rattle.plan_scan.proofs.partitions.HivePartitions.new.Goals as goal

@@ -1,4 +1,4 @@
-use Rattle.std.proofs.Common.{◌≡◌, ◌∙◌, ◌++◌, ◌∷◌, [], List, Bool, true, false, not, sym, ap, refl}
+use Rattle.std.proofs.Common.{◌≡◌, ◌∙◌, List, true, false, not, sym, ap, refl}
 use Rattle.std.specs.Prelude.{string_bytes}
 use Rattle.plan_core.specs.Names.{has}
 use Rattle.plan_scan.specs.Parts.{Text, HivePart, part_names}
