@@ -102,10 +102,10 @@ longer (p ∷ pre) s = ap suc (longer pre s)
 pub columns-at : (names : List Text) (pre ss : Stats) → columns_of (stats_at (pre ++ ss) (places_among names (length pre) (columns_of ss))) ≡ named_among names (columns_of ss)
 columns-at names pre [] = refl
 columns-at names pre (s ∷ ss) = at (has names s.field.name) (
-  ap (λ (whole : Stats). columns_of (stats_at whole (places_among names (suc (length pre)) (columns_of ss)))) (sym (append_assoc pre (s ∷ []) ss))
-  ∙ ap (λ (i : ℕ). columns_of (stats_at ((pre ++ s ∷ []) ++ ss) (places_among names i (columns_of ss)))) (sym (longer pre s))
-  ∙ columns-at names (pre ++ s ∷ []) ss
-)
+    ap (λ (whole : Stats). columns_of (stats_at whole (places_among names (suc (length pre)) (columns_of ss)))) (sym (append_assoc pre (s ∷ []) ss))
+    ∙ ap (λ (i : ℕ). columns_of (stats_at ((pre ++ s ∷ []) ++ ss) (places_among names i (columns_of ss)))) (sym (longer pre s))
+    ∙ columns-at names (pre ++ s ∷ []) ss
+    )
   where
     at : (t : Bool) → columns_of (stats_at (pre ++ s ∷ ss) (places_among names (suc (length pre)) (columns_of ss))) ≡ named_among names (columns_of ss) → columns_of (stats_at (pre ++ s ∷ ss) (if t then length pre ∷ places_among names (suc (length pre)) (columns_of ss) else places_among names (suc (length pre)) (columns_of ss))) ≡ (if t then column_of s ∷ named_among names (columns_of ss) else named_among names (columns_of ss))
     at true rest = rw (after pre s ss) (ap (λ (cs : Columns). column_of s ∷ cs) rest)
@@ -139,7 +139,7 @@ module _ (names : List Text) (cs : Columns) (i : ℕ) (name : Text) (dtype : Dat
   pub kept-column : (done : Columns) (a : Text) → HasDistinctNames cs → has names name ≡ true → a ≡ name → done ++ named_among names (drop i cs) ≡ named_among names cs → with_type done a dtype ++ named_among names (drop (i + 1) cs) ≡ named_among names cs
   kept-column done a distinct h e all =
       rw (e, add-one) (with_type-copied done (named_among names cs) name dtype (named_among names (drop (suc i) cs)) (named_among names (drop i cs)) (distinct-among names cs distinct) all
-        (ap (named_among names) (drop-at cs i (name, dtype) is) ∙ ap (λ (t : Bool). if t then (name, dtype) ∷ named_among names (drop (suc i) cs) else named_among names (drop (suc i) cs)) h))
+      (ap (named_among names) (drop-at cs i (name, dtype) is) ∙ ap (λ (t : Bool). if t then (name, dtype) ∷ named_among names (drop (suc i) cs) else named_among names (drop (suc i) cs)) h))
 
   pub kept-place : (done : List ℕ) → has names name ≡ true → done ++ places_among names i (drop i cs) ≡ places_among names 0 cs → (done ++ i ∷ []) ++ places_among names (i + 1) (drop (i + 1) cs) ≡ places_among names 0 cs
   kept-place done h all =

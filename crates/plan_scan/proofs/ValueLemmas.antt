@@ -43,14 +43,14 @@ number-parsed text r h plain = at (starts_with_minus text) refl
         let ds = drop 1 text in
         let is = parse_signed_minus own w64 text r h (eqb-true (get_or text 0 0) 45 q) in
         rw q (by-test r _ (neg_ℤ (pos (digits_value 10 ds))) (is_numeral ds && nat_le (digits_value 10 ds) (2 ^ 63)) is
-          (λ f. rw (numeral-from ds f.0 f.1) (le-leb (digits_value 10 ds) (2 ^ 63) f.2))
-          (λ f.
-            let a = numeral-to ds (both-left (is_numeral ds) (nat_le (digits_value 10 ds) (2 ^ 63)) f) in
-            (a.0, a.1, leb-true (digits_value 10 ds) (2 ^ 63) (both-right (is_numeral ds) (nat_le (digits_value 10 ds) (2 ^ 63)) f))))
+        (λ f. rw (numeral-from ds f.0 f.1) (le-leb (digits_value 10 ds) (2 ^ 63) f.2))
+        (λ f.
+        let a = numeral-to ds (both-left (is_numeral ds) (nat_le (digits_value 10 ds) (2 ^ 63)) f) in
+        (a.0, a.1, leb-true (digits_value 10 ds) (2 ^ 63) (both-right (is_numeral ds) (nat_le (digits_value 10 ds) (2 ^ 63)) f))))
     at false q =
         let is = parse_signed_plain own w64 text r h plain (eqb-false (get_or text 0 0) 45 q) in
         rw q (by-test r _ (pos (digits_value 10 text)) (is_numeral text && nat_lt (digits_value 10 text) (2 ^ 63)) is
-          (λ f. rw (numeral-from text f.0 f.1) (lt-ltb (digits_value 10 text) (2 ^ 63) f.2))
-          (λ f.
-            let a = numeral-to text (both-left (is_numeral text) (nat_lt (digits_value 10 text) (2 ^ 63)) f) in
-            (a.0, a.1, ltb-true (digits_value 10 text) (2 ^ 63) (both-right (is_numeral text) (nat_lt (digits_value 10 text) (2 ^ 63)) f))))
+        (λ f. rw (numeral-from text f.0 f.1) (lt-ltb (digits_value 10 text) (2 ^ 63) f.2))
+        (λ f.
+        let a = numeral-to text (both-left (is_numeral text) (nat_lt (digits_value 10 text) (2 ^ 63)) f) in
+        (a.0, a.1, ltb-true (digits_value 10 text) (2 ^ 63) (both-right (is_numeral text) (nat_lt (digits_value 10 text) (2 ^ 63)) f))))

@@ -138,10 +138,7 @@ fn partition(
         };
         column_stats.push(ColumnStats { field, value })?;
     }
-    Ok(Some(HivePartitions::of(
-        columns.try_clone(alloc)?,
-        column_stats,
-    )))
+    Ok(Some(HivePartitions::of(columns.try_clone(alloc)?, column_stats)))
 }
 
 /// The partitions of paths with such columns; the first fault of a value.

@@ -42,12 +42,7 @@ fn type_from(name: &str, all: &[PathValues]) -> DataType
 }
 
 /// The type of a column: as a schema is given, else as the reader has it, else by its values in all paths.
-fn hive_type(
-    schema: Option<&Schema>,
-    reader: &Schema,
-    all: &[PathValues],
-    name: &str,
-) -> DataType
+fn hive_type(schema: Option<&Schema>, reader: &Schema, all: &[PathValues], name: &str) -> DataType
     ensures { result ≡ type_told (option_copied schema.entry) reader.now all.now name.now }
 {
     if let Some(given) = schema {

@@ -117,10 +117,7 @@ impl HivePartitions {
     }
 
     /// Each column as one of a single row, in order. It refuses only where memory is short.
-    pub fn materialize_partition_columns(
-        &self,
-        alloc: Global,
-    ) -> Result<Items<Column>, AllocError>
+    pub fn materialize_partition_columns(&self, alloc: Global) -> Result<Items<Column>, AllocError>
         ensures { IfOk result (λ columns. columns ≡ map one_row self.now) }
     {
         let mut columns = Items::new(alloc);

@@ -96,8 +96,7 @@ fn told(
     let schema = columns(alloc, given)?;
     let reader = columns(alloc, reader)?;
     let schema = if given == "-" { None } else { Some(&schema) };
-    let read =
-        hive_partitions_from_paths(alloc, paths.as_slice(), start, schema, &reader, true);
+    let read = hive_partitions_from_paths(alloc, paths.as_slice(), start, schema, &reader, true);
     answer(alloc, &read)
 }
 
@@ -156,7 +155,10 @@ fn values_tell_types(rt: HostRuntime) -> Result<(), Fail> {
         ("/x=True/f", "x S True,;"),
         ("/x=__HIVE_DEFAULT_PARTITION__/f", "x S null,;"),
         ("/x=%5F_HIVE_DEFAULT_PARTITION__/f", "x S null,;"),
-        ("/x=true/f|/x=/f|/x=false/f", "x B true,;x B null,;x B false,;"),
+        (
+            "/x=true/f|/x=/f|/x=false/f",
+            "x B true,;x B null,;x B false,;",
+        ),
         ("/x=true/f|/x=1/f", "x S true,;x S 1,;"),
         ("/x=1/f|/x=/f", "x I 1,;x I null,;"),
         ("/x=1/f|/x=a/f", "x S 1,;x S a,;"),
@@ -238,8 +240,7 @@ fn partitions_are_projected(rt: HostRuntime) -> Result<(), Fail> {
     };
     assert!(rt; part == part.try_clone(alloc)?);
     let names = texts(alloc, "m")?;
-    let (schema, places) =
-        part.get_projection_schema_and_indices(alloc, names.as_slice())?;
+    let (schema, places) = part.get_projection_schema_and_indices(alloc, names.as_slice())?;
     assert!(rt; schema == columns(alloc, "m=S")?);
     assert!(rt; places.as_slice() == [1].as_slice());
     part.apply_projection(alloc, schema, places.as_slice())?;

@@ -13,8 +13,8 @@ loop-i-preserved c =
     let firsts = c.args.firsts.now in
     elim c.match-get_at_index.branch [
       | in-Some+else-is_none w ↦
-        let there : has names w.in-Some.name.now ≡ true = got c.args.values.now w.in-Some.name.now w.get.result w.is_none.result w.get.ensures w.is_none.ensures ∙ ap not w.if-is_none.false in
-        all-more (has names) firsts c.loop-i.i w.in-Some.name.now w.in-Some.ensures.found c.loop-i.invariant there
+          let there : has names w.in-Some.name.now ≡ true = got c.args.values.now w.in-Some.name.now w.get.result w.is_none.result w.get.ensures w.is_none.ensures ∙ ap not w.if-is_none.false in
+          all-more (has names) firsts c.loop-i.i w.in-Some.name.now w.in-Some.ensures.found c.loop-i.invariant there
       | in_default w ↦ absurd (is-within firsts c.loop-i.i (omega (arith, c.len-i-end.ensures.value)) w.in_default.ensures.none)
     ]
 

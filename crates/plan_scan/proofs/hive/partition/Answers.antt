@@ -11,8 +11,7 @@ pub loop-name-preserved : goal.loop-name-preserved
 loop-name-preserved c =
     let parts = c.args.values.now in
     let column : Text × DataType = (c.in-Some.name.now, c.in-Some.dtype.now) in
-    let value : value_in parts column ≡ Some c.in-Some-2.value = value-there parts c.in-Some.name.now c.in-Some.dtype.now c.in-Some-get.text.now c.in-Some-2.value (sym c.in-Some-get.ensures) (sym (sym c.in-Some-2.is ∙ c.in_ok-value.ensures)) in
-    (
+    let value : value_in parts column ≡ Some c.in-Some-2.value = value-there parts c.in-Some.name.now c.in-Some.dtype.now c.in-Some-get.text.now c.in-Some-2.value (sym c.in-Some-get.ensures) (sym (sym c.in-Some-2.is ∙ c.in_ok-value.ensures)) in (
       partition-next parts c.loop-name.name-iterator c.next.new.self c.loop-name.column_stats (partition_of c.args.columns.now parts) c.in-Some.name.now c.in_ok-new.field-0 c.in-Some.dtype.now c.in-Some-2.value c.push.new.self c.in-Some.ensures.steps value c.in_ok-new.ensures c.in_ok-push.ensures.pushed c.loop-name.invariant.0,
       read-next parts c.loop-name.name-iterator c.next.new.self (is_read c.args.columns.now parts) column c.in-Some-2.value c.in-Some.ensures.steps value c.loop-name.invariant.1,
     )

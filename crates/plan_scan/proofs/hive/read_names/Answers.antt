@@ -22,11 +22,10 @@ loop-i-preserved c =
     let cut = test-some (may_cut c.args.start text) (hive_parts c.args.start text) c.in-Some.parts (sym c.in-Some.is ∙ c.in_ok-parts.ensures) in
     let spelled : c.as_slice.result.now ≡ hive_parts c.args.start path = c.as_slice.ensures ∙ cut.1 ∙ ap (hive_parts c.args.start) c.as_str.ensures in
     let there : may_cut c.args.start path ≡ true = ap (may_cut c.args.start) (sym c.as_str.ensures) ∙ cut.0 in
-    let clean : path_fault c.args.start schema c.args.firsts.now i path ≡ None = cut-there c.args.start schema c.args.firsts.now i path there ∙ ap (parts_fault schema c.args.firsts.now i) (sym spelled) ∙ c.in-Ok.ensures.fault in
-    (
+    let clean : path_fault c.args.start schema c.args.firsts.now i path ≡ None = cut-there c.args.start schema c.args.firsts.now i path there ∙ ap (parts_fault schema c.args.firsts.now i) (sym spelled) ∙ c.in-Ok.ensures.fault in (
       c.in_ok-push-in-Ok.ensures.pushed
-      ∙ ap₂ (λ (x : List (List HivePart)) (y : List HivePart). x ++ y ∷ []) c.loop-i.invariant.0 (c.in-Ok.ensures.values ∙ spelled)
-      ∙ sym (ap (λ (n : ℕ). map (hive_parts c.args.start) (take n paths)) (add-one i) ∙ ap (map (hive_parts c.args.start)) (take-more paths i path here) ∙ map-append (hive_parts c.args.start) (take i paths) (path ∷ [])),
+          ∙ ap₂ (λ (x : List (List HivePart)) (y : List HivePart). x ++ y ∷ []) c.loop-i.invariant.0 (c.in-Ok.ensures.values ∙ spelled)
+          ∙ sym (ap (λ (n : ℕ). map (hive_parts c.args.start) (take n paths)) (add-one i) ∙ ap (map (hive_parts c.args.start)) (take-more paths i path here) ∙ map-append (hive_parts c.args.start) (take i paths) (path ∷ [])),
       next-from (path_fault c.args.start schema c.args.firsts.now) i paths path here c.loop-i.invariant.1 clean,
     )
 

@@ -16,11 +16,10 @@ loop-i-preserved c =
     let parts = c.index-all-i.result in
     let columns = c.args.columns.now in
     let here : slice_get all i ≡ Some parts = slice_get_read all _ i parts refl c.loop-i-test.true c.index-all-i.is in
-    let whole = test-some (is_read columns parts) (partition_of columns parts) c.in-Some.part (sym c.in-Some.is ∙ c.in_ok-part.ensures) in
-    (
+    let whole = test-some (is_read columns parts) (partition_of columns parts) c.in-Some.part (sym c.in-Some.is ∙ c.in_ok-part.ensures) in (
       c.in_ok-push.ensures.pushed
-      ∙ ap₂ (λ (x : List Stats) (y : Stats). x ++ y ∷ []) c.loop-i.invariant.0 whole.1
-      ∙ sym (ap (λ (n : ℕ). map (partition_of columns) (take n all)) (add-one i) ∙ ap (map (partition_of columns)) (take-more all i parts here) ∙ map-append (partition_of columns) (take i all) (parts ∷ [])),
+          ∙ ap₂ (λ (x : List Stats) (y : Stats). x ++ y ∷ []) c.loop-i.invariant.0 whole.1
+          ∙ sym (ap (λ (n : ℕ). map (partition_of columns) (take n all)) (add-one i) ∙ ap (map (partition_of columns)) (take-more all i parts here) ∙ map-append (partition_of columns) (take i all) (parts ∷ [])),
       next-from (values_fault columns) i all parts here c.loop-i.invariant.1 (read columns i parts whole.0),
     )
 

@@ -25,11 +25,10 @@ loop-name-preserved c =
     let old : part_names c.loop-name.values ≡ take i names = ap part_names c.loop-name.invariant.0 ∙ names-take parts i in
     let added : true ≡ not (has (part_names c.loop-name.values) c.as_str-in-loop-name.result.now) = sym c.if-not-branch.false ∙ c.in_ok-add.ensures.added in
     let new : has (take i names) item.0 ≡ false = ap (λ (ns : List Text). has ns item.0) (sym old) ∙ ap (has (part_names c.loop-name.values)) (sym c.as_str-in-loop-name.ensures) ∙ not-true (has (part_names c.loop-name.values) c.as_str-in-loop-name.result.now) (sym added) in
-    let after : c.add.new.self ≡ c.loop-name.values ++ (c.as_str-in-loop-name.result.now, c.in_ok-try_clone.field-0) ∷ [] = rw c.if-not-branch.false at c.in_ok-add.ensures.after in
-    (
+    let after : c.add.new.self ≡ c.loop-name.values ++ (c.as_str-in-loop-name.result.now, c.in_ok-try_clone.field-0) ∷ [] = rw c.if-not-branch.false at c.in_ok-add.ensures.after in (
       after ∙ ap (λ (x : List HivePart). x ++ (c.as_str-in-loop-name.result.now, c.in_ok-try_clone.field-0) ∷ []) c.loop-name.invariant.0
-      ∙ ap₂ (λ (a : Text) (v : Option Text). take i parts ++ (a, v) ∷ []) c.as_str-in-loop-name.ensures c.in_ok-try_clone.ensures
-      ∙ sym (ap (λ (n : ℕ). take n parts) (add-one i) ∙ take-more parts i item here),
+          ∙ ap₂ (λ (a : Text) (v : Option Text). take i parts ++ (a, v) ∷ []) c.as_str-in-loop-name.ensures c.in_ok-try_clone.ensures
+          ∙ sym (ap (λ (n : ℕ). take n parts) (add-one i) ∙ take-more parts i item here),
       next-from (λ k name. name_fault (place c.args.at) schema firsts (take k names) name) i names item.0 (name-at parts i item here) c.loop-name.invariant.1 (faultless (place c.args.at) schema firsts (take i names) item.0 known new),
     )
 
@@ -45,7 +44,7 @@ returns-then-not-is_known-clause-fault c =
     let strange : is_known schema firsts item.0 ≡ false = ap (is_known schema firsts) (sym c.as_str.ensures) ∙ sym c.is_known.ensures ∙ c.if-not-is_known.true in
     name-first schema firsts c.args.at parts (SchemaFieldNotFound c.place.result)
     (found-from (λ k name. name_fault (place c.args.at) schema firsts (take k names) name) i names item.0 (SchemaFieldNotFound c.place.result) (name-at parts i item here) c.loop-name.invariant.1
-      (unknown (place c.args.at) schema firsts (take i names) item.0 strange ∙ ap (λ at. Some (SchemaFieldNotFound at)) (sym c.place.ensures)))
+    (unknown (place c.args.at) schema firsts (take i names) item.0 strange ∙ ap (λ at. Some (SchemaFieldNotFound at)) (sym c.place.ensures)))
 
 pub returns-then-not-branch-clause-fault : goal.returns-then-not-branch-clause-fault
 returns-then-not-branch-clause-fault c =
@@ -62,4 +61,4 @@ returns-then-not-branch-clause-fault c =
     let before : has (take i names) item.0 ≡ true = ap (λ (ns : List Text). has ns item.0) (sym old) ∙ ap (has (part_names c.loop-name.values)) (sym c.as_str-in-loop-name.ensures) ∙ not-false (has (part_names c.loop-name.values) c.as_str-in-loop-name.result.now) (sym added) in
     name-first schema firsts c.args.at parts (Duplicate c.place-then-not-branch.result)
     (found-from (λ k name. name_fault (place c.args.at) schema firsts (take k names) name) i names item.0 (Duplicate c.place-then-not-branch.result) (name-at parts i item here) c.loop-name.invariant.1
-      (twice (place c.args.at) schema firsts (take i names) item.0 known before ∙ ap (λ at. Some (Duplicate at)) (sym c.place-then-not-branch.ensures)))
+    (twice (place c.args.at) schema firsts (take i names) item.0 known before ∙ ap (λ at. Some (Duplicate at)) (sym c.place-then-not-branch.ensures)))

@@ -29,12 +29,12 @@ loop-i-preserved c =
     let whole = hive_columns schema reader all firsts in
     elim c.match-get_at_index.branch [
       | in-Some-get_at_index+then-is_none+in_ok-new-2+in_ok-with_column-2 w ↦
-        let name = w.in-Some-get_at_index.name.now in
-        let absent : has (names_of reader) name ≡ false = typed-there reader name w.get.result w.is_none.result w.get.ensures w.is_none.ensures ∙ ap not w.if-is_none.true in
-        other-kept schema reader all firsts c.loop-i.i c.loop-i.columns whole c.match-get_at_index.columns name w.in_ok-new-2.field-0 w.hive_type-dtype-then-is_none.result w.in-Some-get_at_index.ensures.found absent w.in_ok-new-2.ensures w.hive_type-dtype-then-is_none.ensures (w.columns-is ∙ w.in_ok-with_column-2.ensures.after) c.loop-i.invariant
+          let name = w.in-Some-get_at_index.name.now in
+          let absent : has (names_of reader) name ≡ false = typed-there reader name w.get.result w.is_none.result w.get.ensures w.is_none.ensures ∙ ap not w.if-is_none.true in
+          other-kept schema reader all firsts c.loop-i.i c.loop-i.columns whole c.match-get_at_index.columns name w.in_ok-new-2.field-0 w.hive_type-dtype-then-is_none.result w.in-Some-get_at_index.ensures.found absent w.in_ok-new-2.ensures w.hive_type-dtype-then-is_none.ensures (w.columns-is ∙ w.in_ok-with_column-2.ensures.after) c.loop-i.invariant
       | in-Some-get_at_index+else-is_none w ↦
-        let name = w.in-Some-get_at_index.name.now in
-        let there : has (names_of reader) name ≡ true = typed-there reader name w.get.result w.is_none.result w.get.ensures w.is_none.ensures ∙ ap not w.if-is_none.false in
-        rw w.columns-is (other-passed schema reader all firsts c.loop-i.i c.loop-i.columns whole name w.in-Some-get_at_index.ensures.found there c.loop-i.invariant)
+          let name = w.in-Some-get_at_index.name.now in
+          let there : has (names_of reader) name ≡ true = typed-there reader name w.get.result w.is_none.result w.get.ensures w.is_none.ensures ∙ ap not w.if-is_none.false in
+          rw w.columns-is (other-passed schema reader all firsts c.loop-i.i c.loop-i.columns whole name w.in-Some-get_at_index.ensures.found there c.loop-i.invariant)
       | in_default w ↦ absurd (is-within firsts c.loop-i.i (omega (arith, c.len-i-end.ensures.value)) w.in_default.ensures.none)
     ]

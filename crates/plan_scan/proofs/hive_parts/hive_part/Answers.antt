@@ -35,6 +35,6 @@ returns-in-Err-Utf8 c =
     let plain : has_byte 42 value ≡ false = sym c.has_byte-else-has_byte.ensures ∙ c.if-has_byte-2.false in
     let decoded : percent_decode c.percent_decode.result.bytes.now ≡ percent_decode value = c.percent_decode.ensures.bytes ∙ ap percent_decode c.as_bytes.ensures.value in
     not-text part name value cut.0 cut.1 cut.2 one plain (λ text.
-        let wrong : c.in-Err-Utf8.field-0 ≡ DecodeError.OutOfMemory = c.in-Err-Utf8.ensures.utf8 (subst IsUtf8 (sym decoded) text) in
-        let is = c.in-Err-Utf8.field-0-is in
-        cc)
+    let wrong : c.in-Err-Utf8.field-0 ≡ DecodeError.OutOfMemory = c.in-Err-Utf8.ensures.utf8 (subst IsUtf8 (sym decoded) text) in
+    let is = c.in-Err-Utf8.field-0-is in
+    cc)

@@ -11,10 +11,9 @@ loop-folder-preserved-in_ok-push c =
     let rest = c.loop-folder.rest.now in
     let cut : (before 47 rest < length rest) × (c.in-Some-split_once.folder.now ≡ before_first (λ b. b == 47) rest) × (c.in-Some-split_once.more.now ≡ after_first (λ b. b == 47) rest) =
     let f = split_once_first 47 rest (Some (c.in-Some-split_once.folder, c.in-Some-split_once.more)) c.in-Some-split_once.ensures.cases (lit< tt) in f in
-    let whole = hive_parts c.args.start c.args.path.now in
-    (
+    let whole = hive_parts c.args.start c.args.path.now in (
       ap (λ (x : List HivePart). x ++ filter_map hive_part (folders c.in-Some-split_once.more.now)) c.in_ok-push.ensures.pushed
-      ∙ folder-kept c.loop-folder.parts whole rest c.in-Some-split_once.folder.now c.in-Some-split_once.more.now cut.0 cut.1 cut.2 c.loop-folder.invariant.0 c.in-Some-2.part (sym c.in-Some-2.is ∙ c.in_ok-part.ensures),
+          ∙ folder-kept c.loop-folder.parts whole rest c.in-Some-split_once.folder.now c.in-Some-split_once.more.now cut.0 cut.1 cut.2 c.loop-folder.invariant.0 c.in-Some-2.part (sym c.in-Some-2.is ∙ c.in_ok-part.ensures),
       text-behind rest c.in-Some-split_once.more.now c.loop-folder.invariant.1 cut.0 cut.2,
     )
 
@@ -23,8 +22,7 @@ loop-folder-preserved c =
     let rest = c.loop-folder.rest.now in
     let cut : (before 47 rest < length rest) × (c.in-Some-split_once.folder.now ≡ before_first (λ b. b == 47) rest) × (c.in-Some-split_once.more.now ≡ after_first (λ b. b == 47) rest) =
     let f = split_once_first 47 rest (Some (c.in-Some-split_once.folder, c.in-Some-split_once.more)) c.in-Some-split_once.ensures.cases (lit< tt) in f in
-    let whole = hive_parts c.args.start c.args.path.now in
-    (
+    let whole = hive_parts c.args.start c.args.path.now in (
       folder-passed c.loop-folder.parts whole rest c.in-Some-split_once.folder.now c.in-Some-split_once.more.now cut.0 cut.1 cut.2 c.loop-folder.invariant.0 (sym c.in_default-2.is ∙ c.in_ok-part.ensures),
       text-behind rest c.in-Some-split_once.more.now c.loop-folder.invariant.1 cut.0 cut.2,
     )
