@@ -1,0 +1,14 @@
+use Rattle.std.proofs.Common.{◌≡◌, ◌++◌, [], take, drop}
+use Rattle.plan_core.specs.Names.{with_names}
+use Rattle.plan_scan.specs.Stats.{named_among, places_among}
+use Rattle.plan_scan.proofs.partitions.HivePartitions.get_projection_schema_and_indices.Given as goal
+
+-- the names so far are there, each once
+abbrev pub invariant-loop-name : goal.invariant-loop-name
+invariant-loop-name l = l.wanted ≡ with_names [] (take l.name-index l.names)
+
+-- the columns so far and their places, and then those of what is left, are all
+abbrev pub invariant-loop-i : goal.invariant-loop-i
+invariant-loop-i l =
+    (l.schema ++ named_among l.wanted (drop l.i l.columns) ≡ named_among l.wanted l.columns)
+    × (l.places ++ places_among l.wanted l.i (drop l.i l.columns) ≡ places_among l.wanted 0 l.columns)

@@ -1,0 +1,8 @@
+-- The definitions that contracts cite.
+pub mod Source
+pub mod Walk
+pub mod Sources
+pub mod Stats
+pub mod Parts
+pub mod Values
+pub mod Hive
