@@ -2,23 +2,34 @@
 use Rattle.std.proofs.Common.{◌≡◌, List, [], ◌∷◌, ◌++◌, length, map, Option, Some, None, String, refl, ap}
 use Rattle.std.specs.declared.alloc.Global.{Global}
 use Rattle.serde_json.specs.Data.{Data}
-use Rattle.serde_json.specs.Events.{members_len}
+use Rattle.serde_json.specs.Find.{as_array, as_object}
 use Rattle.serde_json.proofs.Views.{members_len-members_view}
 use Rattle.serde_json.specs.View.{view, items_view, items_of, members_view}
 use Rattle.serde_json.specs.declared.value.Value.{Value}
-use Rattle.plan_doc.specs.Parts.{◌>>=◌, items_list, each}
+use Rattle.plan_doc.specs.Parts.{◌>>=◌, items_list, entries_of, each}
+use Rattle.plan_doc.specs.Members.{count_of}
 
 items_list-items_of : (ds : List Data) → items_list (items_of ds) ≡ ds
 items_list-items_of [] = refl
 items_list-items_of (d ∷ ds) = ap (λ l. d ∷ l) (items_list-items_of ds)
 
 -- the entries of an array in memory
-pub items_list_view : (vs : List Value) → items_list (items_view vs) ≡ map view vs
-items_list_view vs = items_list-items_of (map view vs)
+pub entries_are : (vs : List Value) (d : Data) → Some (items_view vs) ≡ as_array d → entries_of d ≡ Some (map view vs)
+unfolding entries_of
+entries_are vs d e = rw (← e, items_list-items_of (map view vs)) refl
+
+-- what is no array has no entries
+pub no_entries : (d : Data) → None ≡ as_array d → entries_of d ≡ None
+unfolding entries_of
+no_entries d e = rw (← e) refl
 
 -- the number of members of an object in memory
-pub members_len_view : (es : List (String Global × Value)) → members_len (members_view es) ≡ length es
-members_len_view es = members_len-members_view es
+pub count_is : (es : List (String Global × Value)) (d : Data) → Some (members_view es) ≡ as_object d → count_of d ≡ Some (length es)
+count_is es d e = rw (← e, members_len-members_view es) refl
+
+-- what is no object has no members
+pub no_count : (d : Data) → None ≡ as_object d → count_of d ≡ None
+no_count d e = rw (← e) refl
 
 -- the value of a step that gave one
 pub bind_some : {A B : Type 0} (o : Option A) (f : A → Option B) (y : B) → (o >>= f) ≡ Some y → (x : A) × (o ≡ Some x) × (f x ≡ Some y)

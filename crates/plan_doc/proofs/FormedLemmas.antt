@@ -20,7 +20,8 @@ use Rattle.plan_table.specs.declared.value.AnyValue.TheVariants as values
 use Rattle.plan_table.specs.declared.value.PlainValue.{PlainValue}
 use Rattle.plan_table.specs.declared.value.PlainValue.TheVariants as singles
 use Rattle.plan_table.specs.Tables.{IsPlainOf, IsOf, IsColumn, IsTable, types_of}
-use Rattle.plan_doc.specs.Parts.{◌>>=◌, each, entries_of, object_of, name_of, number_of, integer_of, truth_of, three_of, type_of, are_distinct}
+use Rattle.plan_doc.specs.Parts.{◌>>=◌, each, entries_of, name_of, number_of, integer_of, truth_of, three_of, type_of, are_distinct}
+use Rattle.plan_doc.specs.Members.{object_of, at}
 use Rattle.plan_doc.specs.Tables.{typed_single_of, single_value_of, single_values_of, typed_value_of, any_value_of, any_values_of, so_many, table_column_of, table_names, distinctly_named, table_columns_of, source_key_of, table_of}
 use Rattle.plan_doc.proofs.EntryLemmas.{bind_some, some_is}
 use Rattle.plan_doc.proofs.DistinctLemmas.{none_of, none_else}
@@ -164,11 +165,10 @@ columns_are h d all e =
 pub table_is : (d : Data) (key : SourceKey) (t : Table) → table_of d ≡ Some (key, t) → IsTable t
 unfolding table_of
 table_is d key t e =
-    let o = bind_some (object_of (codes "columns" ∷ codes "height" ∷ codes "source" ∷ []) d) (λ o. get (codes "source") o >>= λ source. source_key_of source >>= λ k. get (codes "height") o >>= λ height. number_of height >>= λ h. get (codes "columns") o >>= λ columns. table_columns_of h columns >>= λ cs. Some (k, record { height = h; columns = cs })) (key, t) e in
-    let s = bind_some (get (codes "source") o.0) (λ source. source_key_of source >>= λ k. get (codes "height") o.0 >>= λ height. number_of height >>= λ h. get (codes "columns") o.0 >>= λ columns. table_columns_of h columns >>= λ cs. Some (k, record { height = h; columns = cs })) (key, t) o.2 in
-    let k = bind_some (source_key_of s.0) (λ k. get (codes "height") o.0 >>= λ height. number_of height >>= λ h. get (codes "columns") o.0 >>= λ columns. table_columns_of h columns >>= λ cs. Some (k, record { height = h; columns = cs })) (key, t) s.2 in
-    let n = bind_some (get (codes "height") o.0) (λ height. number_of height >>= λ h. get (codes "columns") o.0 >>= λ columns. table_columns_of h columns >>= λ cs. Some (k.0, record { height = h; columns = cs })) (key, t) k.2 in
-    let h = bind_some (number_of n.0) (λ h. get (codes "columns") o.0 >>= λ columns. table_columns_of h columns >>= λ cs. Some (k.0, record { height = h; columns = cs })) (key, t) n.2 in
+    let o = bind_some (object_of (codes "columns" ∷ codes "height" ∷ codes "source" ∷ []) d) (λ o. get (codes "source") o >>= λ source. source_key_of source >>= λ k. at (codes "height") number_of o >>= λ h. get (codes "columns") o >>= λ columns. table_columns_of h columns >>= λ cs. Some (k, record { height = h; columns = cs })) (key, t) e in
+    let s = bind_some (get (codes "source") o.0) (λ source. source_key_of source >>= λ k. at (codes "height") number_of o.0 >>= λ h. get (codes "columns") o.0 >>= λ columns. table_columns_of h columns >>= λ cs. Some (k, record { height = h; columns = cs })) (key, t) o.2 in
+    let k = bind_some (source_key_of s.0) (λ k. at (codes "height") number_of o.0 >>= λ h. get (codes "columns") o.0 >>= λ columns. table_columns_of h columns >>= λ cs. Some (k, record { height = h; columns = cs })) (key, t) s.2 in
+    let h = bind_some (at (codes "height") number_of o.0) (λ h. get (codes "columns") o.0 >>= λ columns. table_columns_of h columns >>= λ cs. Some (k.0, record { height = h; columns = cs })) (key, t) k.2 in
     let c = bind_some (get (codes "columns") o.0) (λ columns. table_columns_of h.0 columns >>= λ cs. Some (k.0, record { height = h.0; columns = cs })) (key, t) h.2 in
     let cs = bind_some (table_columns_of h.0 c.0) (λ cs. Some (k.0, record { height = h.0; columns = cs })) (key, t) c.2 in
     let is : (k.0, record { height = h.0; columns = cs.0 }) ≡ (key, t) = some_is (k.0, record { height = h.0; columns = cs.0 }) (key, t) cs.2 in

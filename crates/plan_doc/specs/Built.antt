@@ -1,8 +1,9 @@
 -- What is refused until it is built. Each definition goes when its form is built.
 use Rattle.std.specs.Prelude.{ℕ, ◌==◌, List, length, Bool, Option, Some, None, if◌then◌else◌, codes, bit_and}
 use Rattle.serde_json.specs.Data.{Data}
-use Rattle.serde_json.specs.Find.{get, as_null}
+use Rattle.serde_json.specs.Find.{as_null}
 use Rattle.plan_doc.specs.Parts.{◌>>=◌, truth_of}
+use Rattle.plan_doc.specs.Members.{at}
 
 -- flags of passes that are not built: CLUSTER_WITH_COLUMNS, EAGER, FAST_PROJECTION, COLLAPSE_JOINS, CHECK_ORDER_OBSERVE
 abbrev pub unbuilt_flags : ℕ
@@ -25,9 +26,6 @@ one_path paths = if length paths == 1 then Some paths else None
 -- the fields of a scan that are null
 unfoldable pub null_fields : Data → Option (Unit {0})
 null_fields o = do
-  hive ← get (codes "hive") o
-  a ← as_null hive
-  path_column ← get (codes "path_column") o
-  b ← as_null path_column
-  row_index ← get (codes "row_index") o
-  as_null row_index
+  a ← at (codes "hive") as_null o
+  b ← at (codes "path_column") as_null o
+  at (codes "row_index") as_null o

@@ -14,7 +14,8 @@ use Rattle.plan_ir.specs.declared.ir.IR.{IR}
 use Rattle.plan_doc.specs.declared.document.Document.{Document}
 use Rattle.plan_doc.specs.declared.document.ReadError.{ReadError}
 use Rattle.plan_doc.specs.declared.document.ReadError.TheVariants as errors
-use Rattle.plan_doc.specs.Parts.{◌>>=◌, entries_of, each, object_of, nullable, number_of, link_of}
+use Rattle.plan_doc.specs.Parts.{◌>>=◌, entries_of, each, nullable, number_of, link_of}
+use Rattle.plan_doc.specs.Members.{object_of, at}
 use Rattle.plan_doc.specs.Built.{built_flags, unshared_of}
 use Rattle.plan_doc.specs.Exprs.{expr_of}
 use Rattle.plan_doc.specs.Nodes.{node_of}
@@ -51,8 +52,7 @@ document_keys = codes "exprs" ∷ codes "flags" ∷ codes "nodes" ∷ codes "roo
 unfoldable pub document_of : Data → Option Document
 document_of d = do
   o ← object_of document_keys d
-  root ← get (codes "root") o
-  r ← link_of root
+  r ← at (codes "root") link_of o
   nodes ← get (codes "nodes") o
   ns ← nodes_of nodes
   exprs ← get (codes "exprs") o
@@ -61,8 +61,7 @@ document_of d = do
   fs ← flags_of flags
   shared ← get (codes "shared") o
   s ← unshared_of shared
-  tables ← get (codes "tables") o
-  ts ← nullable tables_of tables
+  ts ← at (codes "tables") (nullable tables_of) o
   Some (record { root = r; lp = ns; ex = es; flags = fs; shared = s; tables = ts })
 
 -- What bytes stand for.

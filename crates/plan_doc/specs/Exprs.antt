@@ -16,7 +16,8 @@ use Rattle.plan_expr.specs.declared.function_expr.FunctionExpr.TheVariants as fu
 use Rattle.plan_expr.specs.Functions.{options_of}
 use Rattle.plan_expr.specs.declared.aexpr.AExpr.{AExpr}
 use Rattle.plan_expr.specs.declared.aexpr.AExpr.TheVariants as exprs
-use Rattle.plan_doc.specs.Parts.{◌>>=◌, object_of, name_of, link_of, links_of, integer_of, truth_of, plain_of}
+use Rattle.plan_doc.specs.Parts.{◌>>=◌, name_of, link_of, links_of, integer_of, truth_of, plain_of}
+use Rattle.plan_doc.specs.Members.{object_of, at}
 
 -- the operator that a text names
 unfoldable pub operator_named : List ℕ → Option Operator
@@ -46,8 +47,7 @@ operator_of d = do
 unfoldable pub column_expr_of : Data → Option AExpr
 column_expr_of d = do
   o ← object_of (codes "name" ∷ codes "op" ∷ []) d
-  name ← get (codes "name") o
-  n ← name_of name
+  n ← at (codes "name") name_of o
   Some (exprs.Column n)
 
 -- a value of the type
@@ -80,22 +80,18 @@ literal_of d = do
 unfoldable pub alias_of : Data → Option AExpr
 alias_of d = do
   o ← object_of (codes "input" ∷ codes "name" ∷ codes "op" ∷ []) d
-  input ← get (codes "input") o
-  i ← link_of input
-  name ← get (codes "name") o
-  n ← name_of name
+  i ← at (codes "input") link_of o
+  n ← at (codes "name") name_of o
   Some (exprs.Alias i n)
 
 -- an operator over two entries
 unfoldable pub binary_of : Data → Option AExpr
 binary_of d = do
   o ← object_of (codes "left" ∷ codes "op" ∷ codes "operator" ∷ codes "right" ∷ []) d
-  left ← get (codes "left") o
-  l ← link_of left
+  l ← at (codes "left") link_of o
   operator ← get (codes "operator") o
   op ← operator_of operator
-  right ← get (codes "right") o
-  r ← link_of right
+  r ← at (codes "right") link_of o
   Some (exprs.BinaryExpr l op r)
 
 -- the keys of a choice
@@ -106,12 +102,9 @@ ternary_keys = codes "falsy" ∷ codes "op" ∷ codes "predicate" ∷ codes "tru
 unfoldable pub ternary_of : Data → Option AExpr
 ternary_of d = do
   o ← object_of ternary_keys d
-  predicate ← get (codes "predicate") o
-  p ← link_of predicate
-  truthy ← get (codes "truthy") o
-  t ← link_of truthy
-  falsy ← get (codes "falsy") o
-  f ← link_of falsy
+  p ← at (codes "predicate") link_of o
+  t ← at (codes "truthy") link_of o
+  f ← at (codes "falsy") link_of o
   Some (exprs.Ternary p t f)
 
 -- the aggregate of an entry that a text names; a count of all counts nulls too
@@ -137,8 +130,7 @@ agg_kind_of input d = do
 unfoldable pub agg_of : Data → Option AExpr
 agg_of d = do
   o ← object_of (codes "input" ∷ codes "kind" ∷ codes "op" ∷ []) d
-  input ← get (codes "input") o
-  i ← link_of input
+  i ← at (codes "input") link_of o
   kind ← get (codes "kind") o
   a ← agg_kind_of i kind
   Some (exprs.Agg a)
@@ -163,8 +155,7 @@ function_name_of d = do
 unfoldable pub function_of : Data → Option AExpr
 function_of d = do
   o ← object_of (codes "inputs" ∷ codes "name" ∷ codes "op" ∷ []) d
-  inputs ← get (codes "inputs") o
-  is ← links_of inputs
+  is ← at (codes "inputs") links_of o
   name ← get (codes "name") o
   f ← function_name_of name
   Some (exprs.Function is f (options_of f))
@@ -173,10 +164,8 @@ function_of d = do
 unfoldable pub window_of : Data → Option AExpr
 window_of d = do
   o ← object_of (codes "function" ∷ codes "op" ∷ codes "partition_by" ∷ []) d
-  function ← get (codes "function") o
-  f ← link_of function
-  keys ← get (codes "partition_by") o
-  ks ← links_of keys
+  f ← at (codes "function") link_of o
+  ks ← at (codes "partition_by") links_of o
   Some (exprs.Window f ks)
 
 -- how many rows there are

@@ -4,50 +4,48 @@ use Rattle.serde_json.specs.Data.{Data}
 use Rattle.serde_json.specs.Find.{get}
 use Rattle.plan_ir.specs.declared.functions.FunctionIR.{FunctionIR}
 use Rattle.plan_ir.specs.declared.functions.FunctionIR.TheVariants as functions
-use Rattle.plan_doc.specs.Parts.{◌>>=◌, object_of, nullable, name_of, names_of, number_of, truth_of}
+use Rattle.plan_ir.specs.declared.functions.UnpivotArgsIR.{UnpivotArgsIR}
+use Rattle.plan_doc.specs.Parts.{◌>>=◌, nullable, name_of, names_of, number_of, truth_of}
+use Rattle.plan_doc.specs.Members.{object_of, at}
 
 -- columns under other names
 unfoldable pub rename_of : Data → Option FunctionIR
 rename_of d = do
   o ← object_of (codes "existing" ∷ codes "new" ∷ codes "swapping" ∷ []) d
-  existing ← get (codes "existing") o
-  es ← names_of existing
-  new ← get (codes "new") o
-  ns ← names_of new
-  swapping ← get (codes "swapping") o
-  s ← truth_of swapping
+  es ← at (codes "existing") names_of o
+  ns ← at (codes "new") names_of o
+  s ← at (codes "swapping") truth_of o
   Some (functions.Rename es ns s)
 
 -- columns behind one that numbers the rows
 unfoldable pub numbering_of : Data → Option FunctionIR
 numbering_of d = do
   o ← object_of (codes "name" ∷ codes "offset" ∷ []) d
-  name ← get (codes "name") o
-  n ← name_of name
-  offset ← get (codes "offset") o
-  first ← nullable number_of offset
+  n ← at (codes "name") name_of o
+  first ← at (codes "offset") (nullable number_of) o
   Some (functions.RowIndex n first)
+
+-- what is unpivoted, and the names of what comes of it
+unfoldable pub unpivot_args_of : Data → Option UnpivotArgsIR
+unpivot_args_of o = do
+  is ← at (codes "index") names_of o
+  os ← at (codes "on") names_of o
+  v ← at (codes "value_name") (nullable name_of) o
+  w ← at (codes "variable_name") (nullable name_of) o
+  Some (record { on = os; index = is; variable_name = w; value_name = v })
 
 -- the values of several columns in one
 unfoldable pub unpivot_of : Data → Option FunctionIR
 unpivot_of d = do
   o ← object_of (codes "index" ∷ codes "on" ∷ codes "value_name" ∷ codes "variable_name" ∷ []) d
-  index ← get (codes "index") o
-  is ← names_of index
-  on ← get (codes "on") o
-  os ← names_of on
-  value ← get (codes "value_name") o
-  v ← nullable name_of value
-  variable ← get (codes "variable_name") o
-  w ← nullable name_of variable
-  Some (functions.Unpivot (record { on = os; index = is; variable_name = w; value_name = v }))
+  args ← unpivot_args_of o
+  Some (functions.Unpivot args)
 
 -- lists taken apart
 unfoldable pub explode_of : Data → Option FunctionIR
 explode_of d = do
   o ← object_of (codes "columns" ∷ []) d
-  columns ← get (codes "columns") o
-  cs ← names_of columns
+  cs ← at (codes "columns") names_of o
   Some (functions.Explode cs)
 
 -- what stands under the one key of an object

@@ -2,6 +2,7 @@
 pub mod Gives
 pub mod Each
 pub mod Parts
+pub mod Members
 pub mod Built
 pub mod Exprs
 pub mod Functions

@@ -14,7 +14,8 @@ use Rattle.plan_options.specs.declared.sink.SinkType.TheVariants as sinks
 use Rattle.plan_options.specs.declared.sort.SortMultipleOptions.{SortMultipleOptions}
 use Rattle.plan_options.specs.declared.union.UnionOptions.{UnionOptions}
 use Rattle.plan_options.specs.Union.{default_union}
-use Rattle.plan_doc.specs.Parts.{◌>>=◌, object_of, nullable, name_of, number_of, link_of, links_of, integer_of, truth_of, truths_of, names_of, columns_of, output_of, outputs_of, slice_of, options_of}
+use Rattle.plan_doc.specs.Parts.{◌>>=◌, nullable, name_of, number_of, link_of, links_of, integer_of, truth_of, truths_of, names_of, columns_of, output_of, outputs_of, slice_of, options_of}
+use Rattle.plan_doc.specs.Members.{object_of, at}
 use Rattle.plan_doc.specs.Functions.{frame_function_of}
 use Rattle.plan_doc.specs.Scans.{frame_scan_of, scan_of}
 
@@ -22,32 +23,25 @@ use Rattle.plan_doc.specs.Scans.{frame_scan_of, scan_of}
 unfoldable pub slice_node_of : Data → Option IR
 slice_node_of d = do
   o ← object_of (codes "input" ∷ codes "len" ∷ codes "offset" ∷ codes "op" ∷ []) d
-  input ← get (codes "input") o
-  i ← link_of input
-  offset ← get (codes "offset") o
-  first ← integer_of offset
-  len ← get (codes "len") o
-  n ← number_of len
+  i ← at (codes "input") link_of o
+  first ← at (codes "offset") integer_of o
+  n ← at (codes "len") number_of o
   Some (nodes.Slice i first n)
 
 -- rows of the input where an expression is true
 unfoldable pub filter_of : Data → Option IR
 filter_of d = do
   o ← object_of (codes "input" ∷ codes "op" ∷ codes "predicate" ∷ []) d
-  input ← get (codes "input") o
-  i ← link_of input
-  predicate ← get (codes "predicate") o
-  p ← output_of predicate
+  i ← at (codes "input") link_of o
+  p ← at (codes "predicate") output_of o
   Some (nodes.Filter i p)
 
 -- columns of the input
 unfoldable pub simple_projection_of : Data → Option IR
 simple_projection_of d = do
   o ← object_of (codes "columns" ∷ codes "input" ∷ codes "op" ∷ []) d
-  columns ← get (codes "columns") o
-  c ← columns_of columns
-  input ← get (codes "input") o
-  i ← link_of input
+  c ← at (codes "columns") columns_of o
+  i ← at (codes "input") link_of o
   Some (nodes.SimpleProjection i c)
 
 -- the keys of a node that makes columns
@@ -57,20 +51,16 @@ made_keys = codes "exprs" ∷ codes "input" ∷ codes "op" ∷ codes "options" �
 -- the columns that a node makes
 unfoldable pub made_of : Data → Option (List ExprIR × Columns × ProjectionOptions)
 made_of o = do
-  exprs ← get (codes "exprs") o
-  es ← outputs_of exprs
-  schema ← get (codes "schema") o
-  s ← columns_of schema
-  options ← get (codes "options") o
-  os ← options_of options
+  es ← at (codes "exprs") outputs_of o
+  s ← at (codes "schema") columns_of o
+  os ← at (codes "options") options_of o
   Some (es, s, os)
 
 -- a column for each expression
 unfoldable pub select_of : Data → Option IR
 select_of d = do
   o ← object_of made_keys d
-  input ← get (codes "input") o
-  i ← link_of input
+  i ← at (codes "input") link_of o
   m ← made_of o
   Some (nodes.Select i m.0 m.1 m.2)
 
@@ -78,8 +68,7 @@ select_of d = do
 unfoldable pub hstack_of : Data → Option IR
 hstack_of d = do
   o ← object_of made_keys d
-  input ← get (codes "input") o
-  i ← link_of input
+  i ← at (codes "input") link_of o
   m ← made_of o
   Some (nodes.HStack i m.0 m.1 m.2)
 
@@ -90,24 +79,18 @@ sort_keys = codes "by" ∷ codes "descending" ∷ codes "input" ∷ codes "maint
 -- how rows are sorted: several threads may sort, and all rows are put out
 unfoldable pub sort_options_of : Data → Option SortMultipleOptions
 sort_options_of o = do
-  descending ← get (codes "descending") o
-  ds ← truths_of descending
-  nulls_last ← get (codes "nulls_last") o
-  ns ← truths_of nulls_last
-  maintain_order ← get (codes "maintain_order") o
-  m ← truth_of maintain_order
+  ds ← at (codes "descending") truths_of o
+  ns ← at (codes "nulls_last") truths_of o
+  m ← at (codes "maintain_order") truth_of o
   Some (record { descending = ds; nulls_last = ns; multithreaded = true; maintain_order = m; limit = None })
 
 -- the rows of the input in the order of some keys
 unfoldable pub sort_of : Data → Option IR
 sort_of d = do
   o ← object_of sort_keys d
-  input ← get (codes "input") o
-  i ← link_of input
-  keys ← get (codes "by") o
-  ks ← outputs_of keys
-  slice ← get (codes "slice") o
-  s ← nullable slice_of slice
+  i ← at (codes "input") link_of o
+  ks ← at (codes "by") outputs_of o
+  s ← at (codes "slice") (nullable slice_of) o
   options ← sort_options_of o
   Some (nodes.Sort i ks s options)
 
@@ -118,25 +101,19 @@ group_by_keys = codes "aggs" ∷ codes "input" ∷ codes "keys" ∷ codes "maint
 -- the keys, the aggregates and the columns of a grouping
 unfoldable pub grouped_of : Data → Option (List ExprIR × List ExprIR × Columns)
 grouped_of o = do
-  keys ← get (codes "keys") o
-  ks ← outputs_of keys
-  aggs ← get (codes "aggs") o
-  others ← outputs_of aggs
-  schema ← get (codes "schema") o
-  s ← columns_of schema
+  ks ← at (codes "keys") outputs_of o
+  others ← at (codes "aggs") outputs_of o
+  s ← at (codes "schema") columns_of o
   Some (ks, others, s)
 
 -- a row for each group of rows that have the same keys
 unfoldable pub group_by_of : Data → Option IR
 group_by_of d = do
   o ← object_of group_by_keys d
-  input ← get (codes "input") o
-  i ← link_of input
+  i ← at (codes "input") link_of o
   g ← grouped_of o
-  maintain_order ← get (codes "maintain_order") o
-  m ← truth_of maintain_order
-  slice ← get (codes "slice") o
-  s ← nullable slice_of slice
+  m ← at (codes "maintain_order") truth_of o
+  s ← at (codes "slice") (nullable slice_of) o
   Some (nodes.GroupBy i g.0 g.1 g.2 m (record { slice = s }))
 
 -- which row of those that are the same is kept, as a text names it
@@ -160,22 +137,18 @@ distinct_keys = codes "input" ∷ codes "keep" ∷ codes "maintain_order" ∷ co
 -- which rows are distinct, and which of them are kept
 unfoldable pub distinct_options_of : Data → Option DistinctOptionsIR
 distinct_options_of o = do
-  subset ← get (codes "subset") o
-  ns ← nullable names_of subset
-  maintain_order ← get (codes "maintain_order") o
-  m ← truth_of maintain_order
+  ns ← at (codes "subset") (nullable names_of) o
+  m ← at (codes "maintain_order") truth_of o
   keep ← get (codes "keep") o
   k ← keep_of keep
-  slice ← get (codes "slice") o
-  s ← nullable slice_of slice
+  s ← at (codes "slice") (nullable slice_of) o
   Some (record { subset = ns; maintain_order = m; keep_strategy = k; slice = s })
 
 -- of the rows that are the same in some columns one, or those that are alone
 unfoldable pub distinct_of : Data → Option IR
 distinct_of d = do
   o ← object_of distinct_keys d
-  input ← get (codes "input") o
-  i ← link_of input
+  i ← at (codes "input") link_of o
   options ← distinct_options_of o
   Some (nodes.Distinct i options)
 
@@ -183,8 +156,7 @@ distinct_of d = do
 unfoldable pub map_function_of : Data → Option IR
 map_function_of d = do
   o ← object_of (codes "function" ∷ codes "input" ∷ codes "op" ∷ []) d
-  input ← get (codes "input") o
-  i ← link_of input
+  i ← at (codes "input") link_of o
   function ← get (codes "function") o
   f ← frame_function_of function
   Some (nodes.MapFunction i f)
@@ -193,8 +165,7 @@ map_function_of d = do
 unfoldable pub sink_of : Data → Option IR
 sink_of d = do
   o ← object_of (codes "input" ∷ codes "op" ∷ []) d
-  input ← get (codes "input") o
-  i ← link_of input
+  i ← at (codes "input") link_of o
   Some (nodes.Sink i sinks.Memory)
 
 -- the keys of a union
@@ -204,24 +175,18 @@ union_keys = codes "flattened" ∷ codes "inputs" ∷ codes "maintain_order" ∷
 -- how inputs are put together; the rest is as by default
 unfoldable pub union_options_of : Data → Option UnionOptions
 union_options_of o = do
-  slice ← get (codes "slice") o
-  s ← nullable slice_of slice
-  parallel ← get (codes "parallel") o
-  p ← truth_of parallel
-  flattened ← get (codes "flattened") o
-  f ← truth_of flattened
-  rechunk ← get (codes "rechunk") o
-  r ← truth_of rechunk
-  maintain_order ← get (codes "maintain_order") o
-  m ← truth_of maintain_order
+  s ← at (codes "slice") (nullable slice_of) o
+  p ← at (codes "parallel") truth_of o
+  f ← at (codes "flattened") truth_of o
+  r ← at (codes "rechunk") truth_of o
+  m ← at (codes "maintain_order") truth_of o
   Some (record default_union { slice = s; parallel = p; flattened_by_opt = f; rechunk = r; maintain_order = m })
 
 -- the rows of the inputs, however many, those of one after those of another
 unfoldable pub union_of : Data → Option IR
 union_of d = do
   o ← object_of union_keys d
-  inputs ← get (codes "inputs") o
-  is ← links_of inputs
+  is ← at (codes "inputs") links_of o
   options ← union_options_of o
   Some (nodes.Union is options)
 
@@ -229,24 +194,18 @@ union_of d = do
 unfoldable pub hconcat_of : Data → Option IR
 hconcat_of d = do
   o ← object_of (codes "inputs" ∷ codes "op" ∷ codes "parallel" ∷ codes "schema" ∷ []) d
-  inputs ← get (codes "inputs") o
-  is ← links_of inputs
-  schema ← get (codes "schema") o
-  s ← columns_of schema
-  parallel ← get (codes "parallel") o
-  p ← truth_of parallel
+  is ← at (codes "inputs") links_of o
+  s ← at (codes "schema") columns_of o
+  p ← at (codes "parallel") truth_of o
   Some (nodes.HConcat is s (record { parallel = p }))
 
 -- the input, whose rows are kept for all caches of one number
 unfoldable pub cache_of : Data → Option IR
 cache_of d = do
   o ← object_of (codes "hits" ∷ codes "id" ∷ codes "input" ∷ codes "op" ∷ []) d
-  input ← get (codes "input") o
-  i ← link_of input
-  id ← get (codes "id") o
-  n ← number_of id
-  hits ← get (codes "hits") o
-  h ← number_of hits
+  i ← at (codes "input") link_of o
+  n ← at (codes "id") number_of o
+  h ← at (codes "hits") number_of o
   Some (nodes.Cache i n h)
 
 -- what a node leaves behind that was taken

@@ -1,10 +1,9 @@
 -- The parts of a document: what a value stands for, or nothing.
-use Rattle.std.specs.Prelude.{ℕ, ℤ, ◌^◌, ◌&&◌, ◌==◌, List, [], ◌∷◌, length, map, Bool, true, not, Option, Some, None, option_map, is_some, if◌then◌else◌, nat_lt, codes, bytes_eq}
+use Rattle.std.specs.Prelude.{ℕ, ℤ, ◌^◌, ◌&&◌, List, [], ◌∷◌, map, Bool, true, not, Option, Some, None, option_map, if◌then◌else◌, nat_lt, codes, bytes_eq}
 use Rattle.std.specs.List.{list_any}
 use Rattle.serde_json.specs.Data as json
 use Rattle.serde_json.specs.Data.{Data, Items, no_items, item}
-use Rattle.serde_json.specs.Events.{members_len}
-use Rattle.serde_json.specs.Find.{get, as_number, as_u64, as_i64, as_str, as_array, as_object, as_bool}
+use Rattle.serde_json.specs.Find.{as_number, as_u64, as_i64, as_str, as_array, as_bool}
 use Rattle.plan_core.specs.Columns.{Columns}
 use Rattle.plan_core.specs.declared.arena.Node.{Node}
 use Rattle.plan_core.specs.declared.data_type.DataType.{DataType}
@@ -38,21 +37,6 @@ each f (d ∷ ds) = do
   x ← f d
   xs ← each f ds
   Some (x ∷ xs)
-
--- each of these keys is there
-abbrev pub has_keys : List (List ℕ) → Data → Bool
-has_keys [] d = true
-has_keys (k ∷ ks) d = is_some (get k d) && has_keys ks d
-
--- how many members an object has
-abbrev pub count_of : Data → Option ℕ
-count_of d = option_map members_len (as_object d)
-
--- an object with as many members as there are keys, and each of the keys
-unfoldable pub object_of : List (List ℕ) → Data → Option Data
-object_of ks d = do
-  n ← count_of d
-  if n == length ks then (if has_keys ks d then Some d else None) else None
 
 -- null, or what f reads
 abbrev pub nullable : {A : Type 0} → (Data → Option A) → Data → Option (Option A)

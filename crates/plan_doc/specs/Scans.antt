@@ -11,7 +11,8 @@ use Rattle.plan_ir.specs.declared.scan.ScanSources.TheVariants as sources
 use Rattle.plan_ir.specs.declared.scan.FileInfo.{FileInfo}
 use Rattle.plan_ir.specs.declared.ir.IR.{IR}
 use Rattle.plan_ir.specs.declared.ir.IR.TheVariants as nodes
-use Rattle.plan_doc.specs.Parts.{◌>>=◌, object_of, nullable, name_of, number_of, truth_of, names_of, columns_of, output_of, slice_of}
+use Rattle.plan_doc.specs.Parts.{◌>>=◌, nullable, name_of, number_of, truth_of, names_of, columns_of, output_of, slice_of}
+use Rattle.plan_doc.specs.Members.{object_of, at}
 use Rattle.plan_doc.specs.Built.{one_path, null_fields}
 
 -- the format of the files
@@ -24,8 +25,7 @@ kind_of d = do
 unfoldable pub sources_of : Data → Option ScanSources
 sources_of d = do
   o ← object_of (codes "paths" ∷ []) d
-  paths ← get (codes "paths") o
-  ps ← names_of paths
+  ps ← at (codes "paths") names_of o
   one ← one_path ps
   Some (sources.Paths one)
 
@@ -41,21 +41,16 @@ files_of o = do
 -- what the files hold
 unfoldable pub file_info_of : Data → Option FileInfo
 file_info_of o = do
-  schema ← get (codes "schema") o
-  s ← columns_of schema
-  reader ← get (codes "reader") o
-  r ← nullable columns_of reader
+  s ← at (codes "schema") columns_of o
+  r ← at (codes "reader") (nullable columns_of) o
   Some (record { schema = s; reader_schema = r })
 
 -- what is read of the files; the rest is as by default
 unfoldable pub file_options_of : Data → Option FileScanOptions
 file_options_of o = do
-  columns ← get (codes "columns") o
-  c ← nullable names_of columns
-  rechunk ← get (codes "rechunk") o
-  r ← truth_of rechunk
-  slice ← get (codes "slice") o
-  s ← nullable slice_of slice
+  c ← at (codes "columns") (nullable names_of) o
+  r ← at (codes "rechunk") truth_of o
+  s ← at (codes "slice") (nullable slice_of) o
   Some (record default_scan { slice = s; with_columns = c; rechunk = r })
 
 -- the keys of a scan
@@ -68,10 +63,8 @@ scan_of d = do
   o ← object_of scan_keys d
   nothing ← null_fields o
   files ← files_of o
-  output ← get (codes "output") o
-  out ← nullable columns_of output
-  predicate ← get (codes "predicate") o
-  p ← nullable output_of predicate
+  out ← at (codes "output") (nullable columns_of) o
+  p ← at (codes "predicate") (nullable output_of) o
   info ← file_info_of o
   options ← file_options_of o
   Some (nodes.Scan files.0 info p out files.1 options)
@@ -80,10 +73,7 @@ scan_of d = do
 unfoldable pub frame_scan_of : Data → Option IR
 frame_scan_of d = do
   o ← object_of (codes "frame" ∷ codes "op" ∷ codes "output" ∷ codes "schema" ∷ []) d
-  frame ← get (codes "frame") o
-  n ← nullable number_of frame
-  schema ← get (codes "schema") o
-  s ← columns_of schema
-  output ← get (codes "output") o
-  out ← nullable columns_of output
+  n ← at (codes "frame") (nullable number_of) o
+  s ← at (codes "schema") columns_of o
+  out ← at (codes "output") (nullable columns_of) o
   Some (nodes.DataFrameScan n s out)

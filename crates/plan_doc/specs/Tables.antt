@@ -16,7 +16,8 @@ use Rattle.plan_table.specs.declared.value.AnyValue.TheVariants as values
 use Rattle.plan_table.specs.declared.value.PlainValue.{PlainValue}
 use Rattle.plan_table.specs.declared.value.PlainValue.TheVariants as singles
 use Rattle.plan_table.specs.Tables.{same_key}
-use Rattle.plan_doc.specs.Parts.{◌>>=◌, each, entries_of, object_of, name_of, number_of, integer_of, truth_of, three_of, type_of, are_distinct}
+use Rattle.plan_doc.specs.Parts.{◌>>=◌, each, entries_of, name_of, number_of, integer_of, truth_of, three_of, type_of, are_distinct}
+use Rattle.plan_doc.specs.Members.{object_of, at}
 
 -- a single value of the type
 abbrev pub typed_single_of : PlainType → Data → Option PlainValue
@@ -98,24 +99,21 @@ table_columns_of h d = do
 unfoldable pub path_key_of : Data → Option SourceKey
 path_key_of d = do
   o ← object_of (codes "path" ∷ []) d
-  path ← get (codes "path") o
-  p ← name_of path
+  p ← at (codes "path") name_of o
   Some (keys.Path p)
 
 -- the buffer of a number
 unfoldable pub buffer_key_of : Data → Option SourceKey
 buffer_key_of d = do
   o ← object_of (codes "buffer" ∷ []) d
-  buffer ← get (codes "buffer") o
-  n ← number_of buffer
+  n ← at (codes "buffer") number_of o
   Some (keys.Buffer n)
 
 -- the frame of a number
 unfoldable pub frame_key_of : Data → Option SourceKey
 frame_key_of d = do
   o ← object_of (codes "frame" ∷ []) d
-  frame ← get (codes "frame") o
-  n ← number_of frame
+  n ← at (codes "frame") number_of o
   Some (keys.Frame n)
 
 -- the source that an object of one key names
@@ -130,8 +128,7 @@ table_of d = do
   o ← object_of (codes "columns" ∷ codes "height" ∷ codes "source" ∷ []) d
   source ← get (codes "source") o
   key ← source_key_of source
-  height ← get (codes "height") o
-  h ← number_of height
+  h ← at (codes "height") number_of o
   columns ← get (codes "columns") o
   cs ← table_columns_of h columns
   Some (key, record { height = h; columns = cs })

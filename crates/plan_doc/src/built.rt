@@ -5,7 +5,8 @@ ghost use Rattle.plan_doc.specs.Gives.{Gives};
 ghost use Rattle.plan_doc.specs.Built.{built_flags as built_flags_of, unshared_of, one_path as one_path_of, null_fields as null_fields_of};
 
 use crate::fault::Fault;
-use crate::parts::{field, nothing, truth};
+use crate::members::nothing_at;
+use crate::parts::truth;
 use plan_core::{Items, PlSmallStr};
 use serde_json::Value;
 
@@ -49,7 +50,7 @@ pub fn one_path(paths: Items<PlSmallStr>) -> Result<Items<PlSmallStr>, Fault>
 pub fn null_fields(object: &Value) -> Result<(), Fault>
     ensures { Gives result (null_fields_of (view object.now)) }
 {
-    nothing(field(object, "hive")?)?;
-    nothing(field(object, "path_column")?)?;
-    nothing(field(object, "row_index")?)
+    nothing_at(object, "hive")?;
+    nothing_at(object, "path_column")?;
+    nothing_at(object, "row_index")
 }

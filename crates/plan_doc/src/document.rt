@@ -2,16 +2,17 @@
 ghost use Rattle.std.specs.Prelude.{◌≡◌};
 ghost use Rattle.serde_json.specs.View.{view};
 ghost use Rattle.plan_doc.specs.Gives.{Gives, Shows};
-ghost use Rattle.plan_doc.specs.Parts.{object_of};
+ghost use Rattle.plan_doc.specs.Members.{object_of};
 ghost use Rattle.plan_doc.specs.Document.{flags_of, named_flags as named_flags_of, nodes_of, exprs_of, document_keys, document_of as document_at, json_of, doc_of, IsJson, IsReading};
 
 use crate::arrays::arena_of_each;
 use crate::built::{built_flags, unshared};
 use crate::exprs::expr;
 use crate::fault::Fault;
+use crate::members::{field, link_at, object};
 use crate::nodes::node;
-use crate::optional::optional_tables;
-use crate::parts::{entries, field, link, number, object};
+use crate::optional::optional_tables_at;
+use crate::parts::{entries, number};
 use plan_core::{Arena, Node, OptFlags};
 use plan_expr::AExpr;
 use plan_ir::IR;
@@ -102,12 +103,12 @@ fn document_of(alloc: Global, value: &Value) -> Result<Document, Fault>
     ensures { Gives result (document_at (view value.now)) }
 {
     let object = document_object(value)?;
-    let root = link(field(object, "root")?)?;
+    let root = link_at(object, "root")?;
     let lp = nodes(alloc, field(object, "nodes")?)?;
     let ex = exprs(alloc, field(object, "exprs")?)?;
     let flags = flags(field(object, "flags")?)?;
     let shared = unshared(field(object, "shared")?)?;
-    let tables = optional_tables(alloc, field(object, "tables")?)?;
+    let tables = optional_tables_at(alloc, object, "tables")?;
     Ok(Document {
         root,
         lp,

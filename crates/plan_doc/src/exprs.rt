@@ -2,11 +2,12 @@
 ghost use Rattle.std.specs.Prelude.{◌≡◌};
 ghost use Rattle.serde_json.specs.View.{view};
 ghost use Rattle.plan_doc.specs.Gives.{Gives, Shows};
-ghost use Rattle.plan_doc.specs.Parts.{object_of};
+ghost use Rattle.plan_doc.specs.Members.{object_of};
 ghost use Rattle.plan_doc.specs.Exprs.{operator_of, column_expr_of, value_of, value_or_null, literal_of, alias_of, binary_of, ternary_keys, ternary_of, agg_kind_of, agg_of, function_name_of, function_of, window_of, len_of, expr_of};
 
 use crate::fault::Fault;
-use crate::parts::{field, integer, link, links, name, object, plain_type, text, truth};
+use crate::members::{field, link_at, links_at, name_at, object};
+use crate::parts::{integer, name, options, plain_type, text, truth};
 use plan_core::{Node, PlainType};
 use plan_expr::{AExpr, FunctionExpr, IRAggExpr, LiteralValue, Operator};
 use serde_json::Value;
@@ -42,7 +43,7 @@ fn column_expr(alloc: Global, value: &Value) -> Result<AExpr, Fault>
     ensures { Gives result (column_expr_of (view value.now)) }
 {
     let object = object(value, &["name", "op"])?;
-    let name = name(alloc, field(object, "name")?)?;
+    let name = name_at(alloc, object, "name")?;
     Ok(AExpr::Column(name))
 }
 
@@ -84,8 +85,8 @@ fn alias(alloc: Global, value: &Value) -> Result<AExpr, Fault>
     ensures { Gives result (alias_of (view value.now)) }
 {
     let object = object(value, &["input", "name", "op"])?;
-    let input = link(field(object, "input")?)?;
-    let name = name(alloc, field(object, "name")?)?;
+    let input = link_at(object, "input")?;
+    let name = name_at(alloc, object, "name")?;
     Ok(AExpr::Alias(input, name))
 }
 
@@ -95,9 +96,9 @@ fn binary(value: &Value) -> Result<AExpr, Fault>
     ensures { Gives result (binary_of (view value.now)) }
 {
     let object = object(value, &["left", "op", "operator", "right"])?;
-    let left = link(field(object, "left")?)?;
+    let left = link_at(object, "left")?;
     let op = operator(field(object, "operator")?)?;
-    let right = link(field(object, "right")?)?;
+    let right = link_at(object, "right")?;
     Ok(AExpr::BinaryExpr { left, op, right })
 }
 
@@ -115,9 +116,9 @@ fn ternary(value: &Value) -> Result<AExpr, Fault>
     ensures { Gives result (ternary_of (view value.now)) }
 {
     let object = ternary_object(value)?;
-    let predicate = link(field(object, "predicate")?)?;
-    let truthy = link(field(object, "truthy")?)?;
-    let falsy = link(field(object, "falsy")?)?;
+    let predicate = link_at(object, "predicate")?;
+    let truthy = link_at(object, "truthy")?;
+    let falsy = link_at(object, "falsy")?;
     Ok(AExpr::Ternary {
         predicate,
         truthy,
@@ -150,7 +151,7 @@ fn agg(value: &Value) -> Result<AExpr, Fault>
     ensures { Gives result (agg_of (view value.now)) }
 {
     let object = object(value, &["input", "kind", "op"])?;
-    let input = link(field(object, "input")?)?;
+    let input = link_at(object, "input")?;
     let agg = agg_kind(input, field(object, "kind")?)?;
     Ok(AExpr::Agg(agg))
 }
@@ -177,7 +178,7 @@ fn function(alloc: Global, value: &Value) -> Result<AExpr, Fault>
     ensures { Gives result (function_of (view value.now)) }
 {
     let object = object(value, &["inputs", "name", "op"])?;
-    let input = links(alloc, field(object, "inputs")?)?;
+    let input = links_at(alloc, object, "inputs")?;
     let function = function_name(field(object, "name")?)?;
     Ok(AExpr::Function {
         input,
@@ -192,8 +193,8 @@ fn window(alloc: Global, value: &Value) -> Result<AExpr, Fault>
     ensures { Gives result (window_of (view value.now)) }
 {
     let object = object(value, &["function", "op", "partition_by"])?;
-    let function = link(field(object, "function")?)?;
-    let partition_by = links(alloc, field(object, "partition_by")?)?;
+    let function = link_at(object, "function")?;
+    let partition_by = links_at(alloc, object, "partition_by")?;
     Ok(AExpr::Window {
         function,
         partition_by,

@@ -2,11 +2,11 @@
 ghost use Rattle.std.specs.Prelude.{◌≡◌};
 ghost use Rattle.serde_json.specs.View.{view};
 ghost use Rattle.plan_doc.specs.Gives.{Gives, Shows};
-ghost use Rattle.plan_doc.specs.Functions.{rename_of, numbering_of, unpivot_of, explode_of, only_of, frame_function_of};
+ghost use Rattle.plan_doc.specs.Functions.{rename_of, numbering_of, unpivot_args_of, unpivot_of, explode_of, only_of, frame_function_of};
 
 use crate::fault::Fault;
-use crate::optional::{optional_name, optional_number};
-use crate::parts::{field, name, names, object, truth};
+use crate::members::{field, name_at, names_at, object, truth_at};
+use crate::optional::{optional_name_at, optional_number_at};
 use plan_ir::{FunctionIR, UnpivotArgsIR};
 use serde_json::Value;
 use std::alloc::Global;
@@ -17,9 +17,9 @@ fn rename(alloc: Global, value: &Value) -> Result<FunctionIR, Fault>
     ensures { Gives result (rename_of (view value.now)) }
 {
     let object = object(value, &["existing", "new", "swapping"])?;
-    let existing = names(alloc, field(object, "existing")?)?;
-    let new = names(alloc, field(object, "new")?)?;
-    let swapping = truth(field(object, "swapping")?)?;
+    let existing = names_at(alloc, object, "existing")?;
+    let new = names_at(alloc, object, "new")?;
+    let swapping = truth_at(object, "swapping")?;
     Ok(FunctionIR::Rename {
         existing,
         new,
@@ -33,9 +33,26 @@ fn numbering(alloc: Global, value: &Value) -> Result<FunctionIR, Fault>
     ensures { Gives result (numbering_of (view value.now)) }
 {
     let object = object(value, &["name", "offset"])?;
-    let name = name(alloc, field(object, "name")?)?;
-    let offset = optional_number(field(object, "offset")?)?;
+    let name = name_at(alloc, object, "name")?;
+    let offset = optional_number_at(object, "offset")?;
     Ok(FunctionIR::RowIndex { name, offset })
+}
+
+/// What is unpivoted, and the names of what comes of it, from the object of an unpivot.
+#[tactic(auto, unfolding(crate::specs::Functions::unpivot_args_of))]
+fn unpivot_args(alloc: Global, object: &Value) -> Result<UnpivotArgsIR, Fault>
+    ensures { Gives result (unpivot_args_of (view object.now)) }
+{
+    let index = names_at(alloc, object, "index")?;
+    let on = names_at(alloc, object, "on")?;
+    let value_name = optional_name_at(alloc, object, "value_name")?;
+    let variable_name = optional_name_at(alloc, object, "variable_name")?;
+    Ok(UnpivotArgsIR {
+        on,
+        index,
+        variable_name,
+        value_name,
+    })
 }
 
 /// The unpivot of an object.
@@ -44,18 +61,8 @@ fn unpivot(alloc: Global, value: &Value) -> Result<FunctionIR, Fault>
     ensures { Gives result (unpivot_of (view value.now)) }
 {
     let object = object(value, &["index", "on", "value_name", "variable_name"])?;
-    let index = names(alloc, field(object, "index")?)?;
-    let on = names(alloc, field(object, "on")?)?;
-    let value_name = optional_name(alloc, field(object, "value_name")?)?;
-    let variable_name = optional_name(alloc, field(object, "variable_name")?)?;
-    Ok(FunctionIR::Unpivot {
-        args: UnpivotArgsIR {
-            on,
-            index,
-            variable_name,
-            value_name,
-        },
-    })
+    let args = unpivot_args(alloc, object)?;
+    Ok(FunctionIR::Unpivot { args })
 }
 
 /// The explode of an object.
@@ -64,7 +71,7 @@ fn explode(alloc: Global, value: &Value) -> Result<FunctionIR, Fault>
     ensures { Gives result (explode_of (view value.now)) }
 {
     let object = object(value, &["columns"])?;
-    let columns = names(alloc, field(object, "columns")?)?;
+    let columns = names_at(alloc, object, "columns")?;
     Ok(FunctionIR::Explode { columns })
 }
 

@@ -7,6 +7,7 @@ mod document;
 mod exprs;
 mod fault;
 mod functions;
+mod members;
 mod nodes;
 mod optional;
 mod parts;

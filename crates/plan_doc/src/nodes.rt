@@ -2,16 +2,17 @@
 ghost use Rattle.std.specs.Prelude.{◌≡◌};
 ghost use Rattle.serde_json.specs.View.{view};
 ghost use Rattle.plan_doc.specs.Gives.{Gives, Shows};
-ghost use Rattle.plan_doc.specs.Parts.{object_of};
+ghost use Rattle.plan_doc.specs.Members.{object_of};
 ghost use Rattle.plan_doc.specs.Nodes.{slice_node_of, filter_of, simple_projection_of, made_keys, made_of, select_of, hstack_of, sort_keys, sort_options_of, sort_of, group_by_keys, grouped_of, group_by_of, keep_of, distinct_keys, distinct_options_of, distinct_of, map_function_of, sink_of, union_keys, union_options_of, union_of, hconcat_of, cache_of, invalid_of, node_of};
 
 use crate::fault::Fault;
 use crate::functions::frame_function;
-use crate::optional::{optional_names, optional_slice};
-use crate::parts::{
-    columns, field, integer, link, links, number, object, options, output, outputs, text, truth,
-    truths,
+use crate::members::{
+    columns_at, field, integer_at, link_at, links_at, number_at, object, options_at, output_at,
+    outputs_at, truth_at, truths_at,
 };
+use crate::optional::{optional_names_at, optional_slice_at};
+use crate::parts::text;
 use crate::scans::{frame_scan, scan};
 use plan_core::{Items, ProjectionOptions, Schema};
 use plan_expr::ExprIR;
@@ -29,9 +30,9 @@ fn slice_node(value: &Value) -> Result<IR, Fault>
     ensures { Gives result (slice_node_of (view value.now)) }
 {
     let object = object(value, &["input", "len", "offset", "op"])?;
-    let input = link(field(object, "input")?)?;
-    let offset = integer(field(object, "offset")?)?;
-    let len = number(field(object, "len")?)?;
+    let input = link_at(object, "input")?;
+    let offset = integer_at(object, "offset")?;
+    let len = number_at(object, "len")?;
     Ok(IR::Slice { input, offset, len })
 }
 
@@ -41,8 +42,8 @@ fn filter(alloc: Global, value: &Value) -> Result<IR, Fault>
     ensures { Gives result (filter_of (view value.now)) }
 {
     let object = object(value, &["input", "op", "predicate"])?;
-    let input = link(field(object, "input")?)?;
-    let predicate = output(alloc, field(object, "predicate")?)?;
+    let input = link_at(object, "input")?;
+    let predicate = output_at(alloc, object, "predicate")?;
     Ok(IR::Filter { input, predicate })
 }
 
@@ -52,8 +53,8 @@ fn simple_projection(alloc: Global, value: &Value) -> Result<IR, Fault>
     ensures { Gives result (simple_projection_of (view value.now)) }
 {
     let object = object(value, &["columns", "input", "op"])?;
-    let columns = columns(alloc, field(object, "columns")?)?;
-    let input = link(field(object, "input")?)?;
+    let columns = columns_at(alloc, object, "columns")?;
+    let input = link_at(object, "input")?;
     Ok(IR::SimpleProjection { input, columns })
 }
 
@@ -70,9 +71,9 @@ fn made_object(value: &Value) -> Result<&Value, Fault>
 fn made(alloc: Global, object: &Value) -> Result<(Items<ExprIR>, Schema, ProjectionOptions), Fault>
     ensures { Gives result (made_of (view object.now)) }
 {
-    let exprs = outputs(alloc, field(object, "exprs")?)?;
-    let schema = columns(alloc, field(object, "schema")?)?;
-    let options = options(field(object, "options")?)?;
+    let exprs = outputs_at(alloc, object, "exprs")?;
+    let schema = columns_at(alloc, object, "schema")?;
+    let options = options_at(object, "options")?;
     Ok((exprs, schema, options))
 }
 
@@ -82,7 +83,7 @@ fn select(alloc: Global, value: &Value) -> Result<IR, Fault>
     ensures { Gives result (select_of (view value.now)) }
 {
     let object = made_object(value)?;
-    let input = link(field(object, "input")?)?;
+    let input = link_at(object, "input")?;
     let (expr, schema, options) = made(alloc, object)?;
     Ok(IR::Select {
         input,
@@ -98,7 +99,7 @@ fn hstack(alloc: Global, value: &Value) -> Result<IR, Fault>
     ensures { Gives result (hstack_of (view value.now)) }
 {
     let object = made_object(value)?;
-    let input = link(field(object, "input")?)?;
+    let input = link_at(object, "input")?;
     let (exprs, schema, options) = made(alloc, object)?;
     Ok(IR::HStack {
         input,
@@ -132,9 +133,9 @@ fn sort_object(value: &Value) -> Result<&Value, Fault>
 fn sort_options(alloc: Global, object: &Value) -> Result<SortMultipleOptions, Fault>
     ensures { Gives result (sort_options_of (view object.now)) }
 {
-    let descending = truths(alloc, field(object, "descending")?)?;
-    let nulls_last = truths(alloc, field(object, "nulls_last")?)?;
-    let maintain_order = truth(field(object, "maintain_order")?)?;
+    let descending = truths_at(alloc, object, "descending")?;
+    let nulls_last = truths_at(alloc, object, "nulls_last")?;
+    let maintain_order = truth_at(object, "maintain_order")?;
     Ok(SortMultipleOptions {
         descending,
         nulls_last,
@@ -150,9 +151,9 @@ fn sort(alloc: Global, value: &Value) -> Result<IR, Fault>
     ensures { Gives result (sort_of (view value.now)) }
 {
     let object = sort_object(value)?;
-    let input = link(field(object, "input")?)?;
-    let by_column = outputs(alloc, field(object, "by")?)?;
-    let slice = optional_slice(field(object, "slice")?)?;
+    let input = link_at(object, "input")?;
+    let by_column = outputs_at(alloc, object, "by")?;
+    let slice = optional_slice_at(object, "slice")?;
     let sort_options = sort_options(alloc, object)?;
     Ok(IR::Sort {
         input,
@@ -186,9 +187,9 @@ fn group_by_object(value: &Value) -> Result<&Value, Fault>
 fn grouped(alloc: Global, object: &Value) -> Result<(Items<ExprIR>, Items<ExprIR>, Schema), Fault>
     ensures { Gives result (grouped_of (view object.now)) }
 {
-    let keys = outputs(alloc, field(object, "keys")?)?;
-    let aggs = outputs(alloc, field(object, "aggs")?)?;
-    let schema = columns(alloc, field(object, "schema")?)?;
+    let keys = outputs_at(alloc, object, "keys")?;
+    let aggs = outputs_at(alloc, object, "aggs")?;
+    let schema = columns_at(alloc, object, "schema")?;
     Ok((keys, aggs, schema))
 }
 
@@ -198,10 +199,10 @@ fn group_by(alloc: Global, value: &Value) -> Result<IR, Fault>
     ensures { Gives result (group_by_of (view value.now)) }
 {
     let object = group_by_object(value)?;
-    let input = link(field(object, "input")?)?;
+    let input = link_at(object, "input")?;
     let (keys, aggs, schema) = grouped(alloc, object)?;
-    let maintain_order = truth(field(object, "maintain_order")?)?;
-    let slice = optional_slice(field(object, "slice")?)?;
+    let maintain_order = truth_at(object, "maintain_order")?;
+    let slice = optional_slice_at(object, "slice")?;
     Ok(IR::GroupBy {
         input,
         keys,
@@ -242,10 +243,10 @@ fn distinct_object(value: &Value) -> Result<&Value, Fault>
 fn distinct_options(alloc: Global, object: &Value) -> Result<DistinctOptionsIR, Fault>
     ensures { Gives result (distinct_options_of (view object.now)) }
 {
-    let subset = optional_names(alloc, field(object, "subset")?)?;
-    let maintain_order = truth(field(object, "maintain_order")?)?;
+    let subset = optional_names_at(alloc, object, "subset")?;
+    let maintain_order = truth_at(object, "maintain_order")?;
     let keep_strategy = keep(field(object, "keep")?)?;
-    let slice = optional_slice(field(object, "slice")?)?;
+    let slice = optional_slice_at(object, "slice")?;
     Ok(DistinctOptionsIR {
         subset,
         maintain_order,
@@ -260,7 +261,7 @@ fn distinct(alloc: Global, value: &Value) -> Result<IR, Fault>
     ensures { Gives result (distinct_of (view value.now)) }
 {
     let object = distinct_object(value)?;
-    let input = link(field(object, "input")?)?;
+    let input = link_at(object, "input")?;
     let options = distinct_options(alloc, object)?;
     Ok(IR::Distinct { input, options })
 }
@@ -271,7 +272,7 @@ fn map_function(alloc: Global, value: &Value) -> Result<IR, Fault>
     ensures { Gives result (map_function_of (view value.now)) }
 {
     let object = object(value, &["function", "input", "op"])?;
-    let input = link(field(object, "input")?)?;
+    let input = link_at(object, "input")?;
     let function = frame_function(alloc, field(object, "function")?)?;
     Ok(IR::MapFunction { input, function })
 }
@@ -282,7 +283,7 @@ fn sink(value: &Value) -> Result<IR, Fault>
     ensures { Gives result (sink_of (view value.now)) }
 {
     let object = object(value, &["input", "op"])?;
-    let input = link(field(object, "input")?)?;
+    let input = link_at(object, "input")?;
     Ok(IR::Sink {
         input,
         payload: SinkType::Memory,
@@ -313,11 +314,11 @@ fn union_object(value: &Value) -> Result<&Value, Fault>
 fn union_options(object: &Value) -> Result<UnionOptions, Fault>
     ensures { Gives result (union_options_of (view object.now)) }
 {
-    let slice = optional_slice(field(object, "slice")?)?;
-    let parallel = truth(field(object, "parallel")?)?;
-    let flattened_by_opt = truth(field(object, "flattened")?)?;
-    let rechunk = truth(field(object, "rechunk")?)?;
-    let maintain_order = truth(field(object, "maintain_order")?)?;
+    let slice = optional_slice_at(object, "slice")?;
+    let parallel = truth_at(object, "parallel")?;
+    let flattened_by_opt = truth_at(object, "flattened")?;
+    let rechunk = truth_at(object, "rechunk")?;
+    let maintain_order = truth_at(object, "maintain_order")?;
     Ok(UnionOptions {
         slice,
         parallel,
@@ -334,7 +335,7 @@ fn union(alloc: Global, value: &Value) -> Result<IR, Fault>
     ensures { Gives result (union_of (view value.now)) }
 {
     let object = union_object(value)?;
-    let inputs = links(alloc, field(object, "inputs")?)?;
+    let inputs = links_at(alloc, object, "inputs")?;
     let options = union_options(object)?;
     Ok(IR::Union { inputs, options })
 }
@@ -345,9 +346,9 @@ fn hconcat(alloc: Global, value: &Value) -> Result<IR, Fault>
     ensures { Gives result (hconcat_of (view value.now)) }
 {
     let object = object(value, &["inputs", "op", "parallel", "schema"])?;
-    let inputs = links(alloc, field(object, "inputs")?)?;
-    let schema = columns(alloc, field(object, "schema")?)?;
-    let parallel = truth(field(object, "parallel")?)?;
+    let inputs = links_at(alloc, object, "inputs")?;
+    let schema = columns_at(alloc, object, "schema")?;
+    let parallel = truth_at(object, "parallel")?;
     Ok(IR::HConcat {
         inputs,
         schema,
@@ -361,9 +362,9 @@ fn cache(value: &Value) -> Result<IR, Fault>
     ensures { Gives result (cache_of (view value.now)) }
 {
     let object = object(value, &["hits", "id", "input", "op"])?;
-    let input = link(field(object, "input")?)?;
-    let id = number(field(object, "id")?)?;
-    let cache_hits = number(field(object, "hits")?)?;
+    let input = link_at(object, "input")?;
+    let id = number_at(object, "id")?;
+    let cache_hits = number_at(object, "hits")?;
     Ok(IR::Cache {
         input,
         id,

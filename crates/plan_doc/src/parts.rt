@@ -1,9 +1,9 @@
 //! The parts that the readers of nodes and expressions are made of.
 ghost use Rattle.std.specs.Prelude.{◌≡◌, map};
-ghost use Rattle.serde_json.specs.Find.{get, as_null};
+ghost use Rattle.serde_json.specs.Find.{as_null};
 ghost use Rattle.serde_json.specs.View.{view};
 ghost use Rattle.plan_doc.specs.Gives.{Gives, Shows};
-ghost use Rattle.plan_doc.specs.Parts.{entries_of, object_of, name_of, number_of, link_of, links_of, truth_of, integer_of, truths_of, names_of, two_of, three_of, type_of, plain_of, column_of, columns_of, output_of, outputs_of, slice_of, options_of, count_of, has_keys as has_keys_of};
+ghost use Rattle.plan_doc.specs.Parts.{entries_of, name_of, number_of, link_of, links_of, truth_of, integer_of, truths_of, names_of, two_of, three_of, type_of, plain_of, column_of, columns_of, output_of, outputs_of, slice_of, options_of};
 
 use crate::arrays::each;
 use crate::fault::Fault;
@@ -11,49 +11,6 @@ use plan_core::{DataType, Items, Node, PlSmallStr, PlainType, ProjectionOptions,
 use plan_expr::{ExprIR, OutputName};
 use serde_json::Value;
 use std::alloc::Global;
-
-/// The value under a key of an object; `Form` where the value is no object or lacks the key.
-pub fn field<'a>(value: &'a Value, key: &str) -> Result<&'a Value, Fault>
-    ensures { Shows (λ v. view v.now) result (get key.now (view value.now)) }
-{
-    value.get(key).ok_or(Fault::Form)
-}
-
-/// How many members an object has.
-#[tactic(auto, using(crate::proofs::EntryLemmas::members_len_view))]
-fn member_count(value: &Value) -> Result<usize, Fault>
-    ensures { Gives result (count_of (view value.now)) }
-{
-    match value.as_object() {
-        Some(members) => Ok(members.len()),
-        None => Err(Fault::Form),
-    }
-}
-
-/// Whether a value has each of these keys; it may have others.
-fn has_keys(value: &Value, keys: &[&str]) -> bool
-    ensures { result ≡ has_keys_of (map (λ k. k.now) keys.now) (view value.now) }
-{
-    match keys {
-        [] => true,
-        [first, rest @ ..] => value.get(*first).is_some() && has_keys(value, rest),
-    }
-}
-
-/// The value itself, where it is an object with these keys and no other; else `Form`. No key is given twice.
-#[tactic(auto, unfolding(crate::specs::Parts::object_of))]
-pub fn object<'a>(value: &'a Value, keys: &[&str]) -> Result<&'a Value, Fault>
-    ensures { Shows (λ v. view v.now) result (object_of (map (λ k. k.now) keys.now) (view value.now)) }
-{
-    let count = member_count(value)?;
-    if count != keys.len() {
-        return Err(Fault::Form);
-    }
-    if !has_keys(value, keys) {
-        return Err(Fault::Form);
-    }
-    Ok(value)
-}
 
 /// Null.
 pub fn nothing(value: &Value) -> Result<(), Fault>
@@ -134,7 +91,6 @@ pub fn name(alloc: Global, value: &Value) -> Result<PlSmallStr, Fault>
 }
 
 /// The entries of an array.
-#[tactic(auto, using(crate::proofs::EntryLemmas::items_list_view), unfolding(crate::specs::Parts::entries_of))]
 pub fn entries(value: &Value) -> Result<&[Value], Fault>
     ensures { Shows (λ v. map view v.now) result (entries_of (view value.now)) }
 {

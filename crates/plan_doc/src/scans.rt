@@ -2,15 +2,17 @@
 ghost use Rattle.std.specs.Prelude.{◌≡◌};
 ghost use Rattle.serde_json.specs.View.{view};
 ghost use Rattle.plan_doc.specs.Gives.{Gives, Shows};
-ghost use Rattle.plan_doc.specs.Parts.{object_of};
+ghost use Rattle.plan_doc.specs.Members.{object_of};
 ghost use Rattle.plan_doc.specs.Scans.{kind_of, sources_of, files_of, file_info_of, file_options_of, scan_keys, scan_of, frame_scan_of};
 
 use crate::built::{null_fields, one_path};
 use crate::fault::Fault;
+use crate::members::{columns_at, field, names_at, object, truth_at};
 use crate::optional::{
-    optional_columns, optional_names, optional_number, optional_output, optional_slice,
+    optional_columns_at, optional_names_at, optional_number_at, optional_output_at,
+    optional_slice_at,
 };
-use crate::parts::{columns, field, names, object, text, truth};
+use crate::parts::text;
 use plan_core::FileScanOptions;
 use plan_ir::{FileInfo, FileScan, IR, ScanSources};
 use serde_json::Value;
@@ -33,7 +35,7 @@ fn sources(alloc: Global, value: &Value) -> Result<ScanSources, Fault>
     ensures { Gives result (sources_of (view value.now)) }
 {
     let object = object(value, &["paths"])?;
-    let paths = one_path(names(alloc, field(object, "paths")?)?)?;
+    let paths = one_path(names_at(alloc, object, "paths")?)?;
     Ok(ScanSources::Paths(paths))
 }
 
@@ -52,8 +54,8 @@ fn files(alloc: Global, object: &Value) -> Result<(ScanSources, FileScan), Fault
 fn file_info(alloc: Global, object: &Value) -> Result<FileInfo, Fault>
     ensures { Gives result (file_info_of (view object.now)) }
 {
-    let schema = columns(alloc, field(object, "schema")?)?;
-    let reader_schema = optional_columns(alloc, field(object, "reader")?)?;
+    let schema = columns_at(alloc, object, "schema")?;
+    let reader_schema = optional_columns_at(alloc, object, "reader")?;
     Ok(FileInfo {
         schema,
         reader_schema,
@@ -65,9 +67,9 @@ fn file_info(alloc: Global, object: &Value) -> Result<FileInfo, Fault>
 fn file_options(alloc: Global, object: &Value) -> Result<FileScanOptions, Fault>
     ensures { Gives result (file_options_of (view object.now)) }
 {
-    let with_columns = optional_names(alloc, field(object, "columns")?)?;
-    let rechunk = truth(field(object, "rechunk")?)?;
-    let slice = optional_slice(field(object, "slice")?)?;
+    let with_columns = optional_names_at(alloc, object, "columns")?;
+    let rechunk = truth_at(object, "rechunk")?;
+    let slice = optional_slice_at(object, "slice")?;
     Ok(FileScanOptions {
         slice,
         with_columns,
@@ -109,9 +111,8 @@ pub fn scan(alloc: Global, value: &Value) -> Result<IR, Fault>
     let object = scan_object(value)?;
     null_fields(object)?;
     let (sources, scan_type) = files(alloc, object)?;
-    let output_value = field(object, "output")?;
-    let output_schema = optional_columns(alloc, output_value)?;
-    let predicate = optional_output(alloc, field(object, "predicate")?)?;
+    let output_schema = optional_columns_at(alloc, object, "output")?;
+    let predicate = optional_output_at(alloc, object, "predicate")?;
     let file_info = file_info(alloc, object)?;
     let file_options = file_options(alloc, object)?;
     Ok(IR::Scan {
@@ -130,9 +131,9 @@ pub fn frame_scan(alloc: Global, value: &Value) -> Result<IR, Fault>
     ensures { Gives result (frame_scan_of (view value.now)) }
 {
     let object = object(value, &["frame", "op", "output", "schema"])?;
-    let df = optional_number(field(object, "frame")?)?;
-    let schema = columns(alloc, field(object, "schema")?)?;
-    let output_schema = optional_columns(alloc, field(object, "output")?)?;
+    let df = optional_number_at(object, "frame")?;
+    let schema = columns_at(alloc, object, "schema")?;
+    let output_schema = optional_columns_at(alloc, object, "output")?;
     Ok(IR::DataFrameScan {
         df,
         schema,

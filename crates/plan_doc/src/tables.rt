@@ -6,7 +6,8 @@ ghost use Rattle.plan_doc.specs.Tables.{typed_single_of, single_value_of, single
 
 use crate::arrays::each;
 use crate::fault::Fault;
-use crate::parts::{data_type, entries, field, integer, name, number, object, three, truth};
+use crate::members::{field, name_at, number_at, object};
+use crate::parts::{data_type, entries, integer, name, three, truth};
 use plan_core::{DataType, Items, PlainType};
 use plan_table::{AnyValue, Column, Columns, PlainValue, SourceKey, Table, Tables};
 use serde_json::Value;
@@ -124,7 +125,7 @@ fn path_key(alloc: Global, value: &Value) -> Result<SourceKey, Fault>
     ensures { Gives result (path_key_of (view value.now)) }
 {
     let object = object(value, &["path"])?;
-    let path = name(alloc, field(object, "path")?)?;
+    let path = name_at(alloc, object, "path")?;
     Ok(SourceKey::Path(path))
 }
 
@@ -134,7 +135,7 @@ fn buffer_key(value: &Value) -> Result<SourceKey, Fault>
     ensures { Gives result (buffer_key_of (view value.now)) }
 {
     let object = object(value, &["buffer"])?;
-    let buffer = number(field(object, "buffer")?)?;
+    let buffer = number_at(object, "buffer")?;
     Ok(SourceKey::Buffer(buffer))
 }
 
@@ -144,7 +145,7 @@ fn frame_key(value: &Value) -> Result<SourceKey, Fault>
     ensures { Gives result (frame_key_of (view value.now)) }
 {
     let object = object(value, &["frame"])?;
-    let frame = number(field(object, "frame")?)?;
+    let frame = number_at(object, "frame")?;
     Ok(SourceKey::Frame(frame))
 }
 
@@ -168,7 +169,7 @@ fn table(alloc: Global, value: &Value) -> Result<(SourceKey, Table), Fault>
 {
     let object = object(value, &["columns", "height", "source"])?;
     let key = source_key(alloc, field(object, "source")?)?;
-    let height = number(field(object, "height")?)? as usize;
+    let height = number_at(object, "height")? as usize;
     let columns = table_columns(alloc, height, field(object, "columns")?)?;
     Ok((key, Table { height, columns }))
 }

@@ -3,15 +3,9 @@
 #![tactic(auto)]
 
 #[cfg(test)]
-mod explodes;
-#[cfg(test)]
 mod fitting;
 #[cfg(test)]
-mod functions;
-#[cfg(test)]
 mod nodes;
-#[cfg(test)]
-mod orders;
 #[cfg(test)]
 mod plans;
 pub mod tables;

@@ -79,15 +79,6 @@ pub fn given(
     Ok(shown(alloc, &table)?)
 }
 
-/// Names.
-pub fn names(alloc: Global, names: &[&str]) -> Result<Items<PlSmallStr>, AllocError> {
-    let mut items = Items::new(alloc);
-    for name in names {
-        items.push(PlSmallStr::new(alloc, *name)?)?;
-    }
-    Ok(items)
-}
-
 /// Columns; c is a text, and the others whole numbers.
 pub fn columns(alloc: Global, names: &[&str]) -> Result<Schema, AllocError> {
     let mut schema = Schema::new(alloc);

@@ -1,4 +1,4 @@
-use Rattle.std.proofs.Common.{rules, ◌≡◌, None}
+use Rattle.std.proofs.Common.{rules, ◌≡◌, None, sym}
 use Rattle.plan_table.specs.Tables.{column_of}
 use Rattle.plan_doc.specs.Tables.{table_column_of, table_columns_of, distinctly_named}
 use Rattle.plan_doc.proofs.DistinctLemmas.{no_entry, next_entry, entry_twice}
@@ -14,11 +14,11 @@ pub returns-in-Some : goal.returns-in-Some
 unfolding table_columns_of
 returns-in-Some c = rw c.in_ok-entries.ensures
     (entry_twice (table_column_of c.args.height) c.in_ok-entries.entries.now c.loop-entry.entry-index c.entry-item.result c.loop-entry-test.true c.entry-item.is c.loop-entry.columns c.in_ok-column.column c.loop-entry.invariant.read c.in_ok-column.ensures
-    distinctly_named (name_twice c.in_ok-column.column c.loop-entry.columns c.in-Some.field-0.now (search rules)))
+    distinctly_named (name_twice c.in_ok-column.column c.loop-entry.columns c.in-Some.field-0.now (rw c.as_str.ensures at (sym c.in-Some.ensures))))
 
 pub loop-entry-preserved : goal.loop-entry-preserved
 loop-entry-preserved c =
-    let new : column_of c.loop-entry.columns c.in_ok-column.column.name ≡ None = search rules in
+    let new : column_of c.loop-entry.columns c.in_ok-column.column.name ≡ None = rw c.as_str.ensures at (sym c.in-None.ensures) in
     rw (c.in_ok-with_column.ensures.after, column_last c.in_ok-column.column c.loop-entry.columns new) record {
       read = next_entry (table_column_of c.args.height) c.in_ok-entries.entries.now c.loop-entry.entry-index c.entry-item.result c.loop-entry-test.true c.entry-item.is c.loop-entry.columns c.in_ok-column.column c.loop-entry.invariant.read c.in_ok-column.ensures;
       distinct = names_last c.in_ok-column.column c.loop-entry.columns new c.loop-entry.invariant.distinct;

@@ -1,10 +1,11 @@
 //! Explodes over a frame with lists.
 
-use crate::plans::{given_by, names, only};
-use crate::tables::column;
+use crate::plans::{given, only};
 use plan_core::{Arena, DataType, Items, PlSmallStr, PlainType, Schema};
+use plan_eval_tests::tables::column;
 use plan_ir::{FunctionIR, IR};
-use plan_table::{AnyValue, Column, Columns, PlainValue, SourceKey, Table};
+use plan_made::names;
+use plan_table::{AnyValue, Column, Columns, PlainValue, Table};
 use std::alloc::{AllocError, Global};
 use std::test::Fail;
 
@@ -102,8 +103,8 @@ fn exploded(alloc: Global, columns: &[&str], len: u32) -> Result<String, AllocEr
     let columns = names(alloc, columns)?;
     let function = FunctionIR::Explode { columns };
     let node = IR::MapFunction { input, function };
-    let tables = only(alloc, SourceKey::Frame(1), frame(alloc)?)?;
-    given_by(alloc, node, &mut lp, &Arena::new(alloc), &tables)
+    let tables = only(alloc, frame(alloc)?)?;
+    given(alloc, node, &mut lp, &Arena::new(alloc), &tables)
 }
 
 #[test]

@@ -1,10 +1,33 @@
-//! Functions of whole frames over a file with three rows.
+//! Functions of whole frames over a frame with three rows.
 
-use crate::plans::{files, given_by, names, scan};
-use plan_core::{Arena, Node, PlSmallStr};
+use crate::plans::{given, only};
+use plan_core::{Arena, DataType, Node, PlSmallStr};
+use plan_eval_tests::tables::table;
 use plan_ir::{FunctionIR, IR, UnpivotArgsIR};
+use plan_made::{names, schema};
+use plan_table::Tables;
 use std::alloc::{AllocError, Global};
 use std::test::Fail;
+
+/// The frame of a, b and c with three rows.
+fn frames(alloc: Global) -> Result<Tables, AllocError> {
+    let table = table(alloc, &["1", "2", "3"], &["2", "1", "5"], &["x", "y", "z"])?;
+    only(alloc, table)
+}
+
+/// Adds the scan of the frame.
+fn scan(alloc: Global, lp: &mut Arena<IR>) -> Result<Node, AllocError> {
+    let columns = [
+        ("a", DataType::Int64),
+        ("b", DataType::Int64),
+        ("c", DataType::String),
+    ];
+    Ok(lp.add(IR::DataFrameScan {
+        df: Some(1),
+        schema: schema(alloc, &columns)?,
+        output_schema: None,
+    })?)
+}
 
 /// What a function makes of a node.
 fn made(
@@ -14,7 +37,7 @@ fn made(
     lp: &mut Arena<IR>,
 ) -> Result<String, AllocError> {
     let node = IR::MapFunction { input, function };
-    given_by(alloc, node, lp, &Arena::new(alloc), &files(alloc)?)
+    given(alloc, node, lp, &Arena::new(alloc), &frames(alloc)?)
 }
 
 /// What a renaming of the scan gives.

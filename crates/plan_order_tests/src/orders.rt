@@ -1,10 +1,11 @@
 //! Sorts, distinct rows and sinks over a small table.
 
-use crate::plans::{columns, compared, given, given_by, only};
-use crate::tables::table;
-use plan_core::{Arena, Items, Node, PlSmallStr, Schema};
+use crate::plans::{compared, given};
+use plan_core::{Arena, DataType, Items, Node, PlSmallStr, Schema};
+use plan_eval_tests::tables::{add, table};
 use plan_expr::{AExpr, ExprIR, Operator, OutputName};
 use plan_ir::IR;
+use plan_made::{marks, names};
 use plan_options::{DistinctOptionsIR, SinkType, SortMultipleOptions, UniqueKeepStrategy};
 use plan_table::{SourceKey, Tables};
 use std::alloc::{AllocError, Global};
@@ -18,7 +19,23 @@ fn frames(alloc: Global) -> Result<Tables, AllocError> {
         &["1", "2", "1", "null", "null", "1"],
         &["u", "v", "w", "x", "y", "z"],
     )?;
-    only(alloc, SourceKey::Frame(7), table)
+    let mut tables = Tables::new(alloc);
+    add(SourceKey::Frame(7), table, &mut tables)?;
+    Ok(tables)
+}
+
+/// The columns of these names of the frame: c is a text, and the others whole numbers.
+fn columns(alloc: Global, names: &[&str]) -> Result<Schema, AllocError> {
+    let mut columns = Schema::new(alloc);
+    for name in names {
+        let dtype = if *name == "c" {
+            DataType::String
+        } else {
+            DataType::Int64
+        };
+        let _ = columns.with_column(PlSmallStr::new(alloc, *name)?, dtype)?;
+    }
+    Ok(columns)
 }
 
 /// Adds the scan of the frame.
@@ -42,16 +59,7 @@ fn projected(
     let input = lp.add(node)?;
     let columns = columns(alloc, names)?;
     let node = IR::SimpleProjection { input, columns };
-    given_by(alloc, node, lp, ex, &frames(alloc)?)
-}
-
-/// Marks.
-fn marks(alloc: Global, marks: &[bool]) -> Result<Items<bool>, AllocError> {
-    let mut items = Items::new(alloc);
-    for mark in marks {
-        items.push(*mark)?;
-    }
-    Ok(items)
+    given(alloc, node, lp, ex, &frames(alloc)?)
 }
 
 /// How a sort by marks orders; it need not keep rows with the same keys in order.
@@ -141,15 +149,11 @@ fn each_key_has_its_marks(rt: HostRuntime) -> Result<(), Fail> {
 }
 
 /// The names that are told, none where these are none.
-fn told(alloc: Global, names: &[&str]) -> Result<Option<Items<PlSmallStr>>, AllocError> {
-    if names.is_empty() {
+fn told(alloc: Global, texts: &[&str]) -> Result<Option<Items<PlSmallStr>>, AllocError> {
+    if texts.is_empty() {
         return Ok(None);
     }
-    let mut items = Items::new(alloc);
-    for name in names {
-        items.push(PlSmallStr::new(alloc, *name)?)?;
-    }
-    Ok(Some(items))
+    Ok(Some(names(alloc, texts)?))
 }
 
 /// The rows that distinct rows of the frame are, as their values in c.
@@ -223,7 +227,7 @@ fn distinct_of_b(alloc: Global, keep_strategy: UniqueKeepStrategy) -> Result<Str
         slice: None,
     };
     let node = IR::Distinct { input, options };
-    given_by(alloc, node, &mut lp, &Arena::new(alloc), &frames(alloc)?)
+    given(alloc, node, &mut lp, &Arena::new(alloc), &frames(alloc)?)
 }
 
 /// What a sink of the frame gives.
@@ -231,8 +235,8 @@ fn sunk(alloc: Global) -> Result<String, AllocError> {
     let mut lp = Arena::new(alloc);
     let input = frame(alloc, &mut lp)?;
     let payload = SinkType::Memory;
-    let root = lp.add(IR::Sink { input, payload })?;
-    given(alloc, root, &lp, &Arena::new(alloc), &frames(alloc)?)
+    let node = IR::Sink { input, payload };
+    given(alloc, node, &mut lp, &Arena::new(alloc), &frames(alloc)?)
 }
 
 #[test]
