@@ -1,10 +1,9 @@
 -- Columns of a join along pairs: each has the values that the join gives it, and they stand one behind another.
-use Rattle.std.proofs.Common.{◌≡◌, ◌∙◌, ◌++◌, ◌<◌, ℕ, zero, suc, Bool, true, false, not, ◌||◌, cond, List, [], ◌∷◌, map, replicate, Option, None, Some, refl, sym, ap, ap₂, subst, append_assoc}
+use Rattle.std.proofs.Common.{◌≡◌, ◌∙◌, ◌++◌, ℕ, zero, suc, Bool, true, false, not, ◌||◌, cond, List, [], ◌∷◌, map, replicate, Option, None, Some, refl, sym, ap, ap₂, subst, append_assoc}
 use Rattle.std.specs.Str.{bytes_eq}
 use Rattle.plan_core.specs.declared.data_type.DataType.{DataType}
 use Rattle.plan_core.specs.Columns.{Columns, HasDistinctNames, names_of}
 use Rattle.plan_core.specs.Names.{has}
-use Rattle.plan_core.proofs.ColumnLemmas.{flip_false}
 use Rattle.plan_expr.specs.Leaves.{Name}
 use Rattle.plan_frame.specs.Frames.{Column, row}
 use Rattle.plan_frame.specs.Values.{Value, null}

@@ -1,10 +1,10 @@
 -- Rows that are compared one by one, and the lists of those that match.
-use Rattle.std.proofs.Common.{◌≡◌, ◌∙◌, ◌++◌, ◌+◌, ◌<◌, ℕ, Bool, true, false, cond, List, [], ◌∷◌, length, Option, None, Some, get_or, refl, sym, ap, append-nil, arith}
+use Rattle.std.proofs.Common.{◌≡◌, ◌∙◌, ◌++◌, ◌+◌, ◌<◌, ℕ, Bool, true, false, cond, [], ◌∷◌, length, None, Some, get_or, ap, arith}
 use Rattle.std.specs.List.{filter as only_where, range_with_len}
 use Rattle.std.proofs.lemmas.List.Elements.{filter-append}
 use Rattle.plan_pairs.specs.declared.matches.Matches.{Matches}
 use Rattle.plan_pairs.specs.Pairs.{Test, passing}
-use Rattle.plan_pairs.specs.Rows.{listed_at, matches_of, AreJoined}
+use Rattle.plan_pairs.specs.Rows.{listed_at, AreJoined}
 use Rattle.plan_pairs.proofs.PlaceLemmas.{range-next}
 use Rattle.plan_join_eval.specs.Compared.{sided}
 

@@ -1,12 +1,11 @@
 -- Rows of two sides with equal keys: those that are alike in the keys of both sides, one after another.
-use Rattle.std.proofs.Common.{◌≡◌, ◌∙◌, ◌++◌, ◌+◌, ◌<◌, ◌≤◌, ◌&&◌, ◌||◌, ◌⊎◌, inl, inr, ℕ, zero, suc, Bool, true, false, not, cond, List, [], ◌∷◌, map, length, Option, None, Some, get_or, refl, sym, ap, ap₂, arith, add-one, append-nil, append_assoc}
+use Rattle.std.proofs.Common.{◌≡◌, ◌∙◌, ◌++◌, ◌+◌, ◌<◌, ◌&&◌, ◌||◌, ◌⊎◌, inl, inr, ℕ, zero, suc, Bool, true, false, not, cond, List, [], ◌∷◌, length, None, Some, get_or, refl, sym, ap, ap₂, arith, add-one}
 use Rattle.std.specs.Prelude.{nat_eq}
 use Rattle.std.specs.List.{filter as only_where, range_with_len}
-use Rattle.std.proofs.lemmas.List.{map-append}
 use Rattle.std.proofs.lemmas.List.FromFn.{get_or-map-range_with_len, length-map-range_with_len}
 use Rattle.plan_frame.specs.Values.{Value, is_null, null, same_value}
 use Rattle.plan_frame.specs.Frames.{row}
-use Rattle.plan_frame.specs.Meaning.{Cell, many, are_alike, places_from, value_at}
+use Rattle.plan_frame.specs.Meaning.{Cell, are_alike, places_from, value_at}
 use Rattle.plan_joined.specs.Matching.{key_matches, keys_match}
 use Rattle.plan_pairs.specs.Pairs.{passing}
 use Rattle.plan_pairs.proofs.PlaceLemmas.{passing-below, passing-none}

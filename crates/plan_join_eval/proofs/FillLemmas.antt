@@ -1,5 +1,5 @@
 -- Partners of columns, from the last pair of keys to the first.
-use Rattle.std.proofs.Common.{◌≡◌, ◌∙◌, ◌++◌, ◌+◌, ◌<◌, ◌≤◌, ◌⊎◌, inl, inr, ℕ, zero, suc, Bool, true, false, cond, List, [], ◌∷◌, length, take, drop, set, replicate, Option, None, Some, get_or, refl, sym, ap, subst, arith, append-nil, length-set}
+use Rattle.std.proofs.Common.{◌≡◌, ◌∙◌, ◌++◌, ◌+◌, ◌<◌, ◌⊎◌, inl, inr, ℕ, zero, suc, Bool, true, false, cond, List, [], ◌∷◌, length, take, drop, set, replicate, Option, None, Some, get_or, refl, sym, ap, subst, arith, append-nil, length-set}
 use Rattle.std.specs.List.{cons_option, slice_get, AllByRecursion, IsDistinct}
 use Rattle.std.specs.Option.{option_and_then}
 use Rattle.std.specs.Str.{bytes_eq}
@@ -98,12 +98,12 @@ partners-put left right l r ls rs places place d once at are = record {
   long = length-set places place (place_of right r) ∙ are.long;
   each = λ i lt. elim (cases_eq i place) as (λ _. get_or (set places place (place_of right r)) i None ≡ option_and_then (place_of right) (partner (l ∷ ls) (r ∷ rs) (get_or (names_of left) i []))) [
     | inl e ↦ ap (λ (k : ℕ). get_or (set places place (place_of right r)) k None) e
-      ∙ get_or-set_same places place (place_of right r) None (omega (arith, place_within left place (l, d) at, are.long))
-      ∙ sym (ap (option_and_then (place_of right)) (partner_first l r ls rs (get_or (names_of left) i []) (ap (λ (k : ℕ). get_or (names_of left) k []) e ∙ named_at left place l d at)))
+        ∙ get_or-set_same places place (place_of right r) None (omega (arith, place_within left place (l, d) at, are.long))
+        ∙ sym (ap (option_and_then (place_of right)) (partner_first l r ls rs (get_or (names_of left) i []) (ap (λ (k : ℕ). get_or (names_of left) k []) e ∙ named_at left place l d at)))
     | inr other ↦ get_or-set_other places place i (place_of right r) None other ∙ are.each i lt
-      ∙ sym (ap (option_and_then (place_of right)) (partner_later l r ls rs (get_or (names_of left) i [])
-      (ap (bytes_eq (get_or (names_of left) i [])) (sym (named_at left place l d at))
-      ∙ apart (names_of left) i place once (omega (arith, lt, names_long left)) (omega (arith, place_within left place (l, d) at, names_long left)) other)))
+        ∙ sym (ap (option_and_then (place_of right)) (partner_later l r ls rs (get_or (names_of left) i [])
+        (ap (bytes_eq (get_or (names_of left) i [])) (sym (named_at left place l d at))
+        ∙ apart (names_of left) i place once (omega (arith, lt, names_long left)) (omega (arith, place_within left place (l, d) at, names_long left)) other)))
   ];
 }
 

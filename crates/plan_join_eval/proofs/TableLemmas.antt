@@ -1,10 +1,10 @@
 -- The table of a join is the frame of the join: its left columns, and then its right ones.
-use Rattle.std.proofs.Common.{◌≡◌, ◌∙◌, ◌++◌, ◌<◌, ℕ, zero, suc, Bool, true, false, cond, List, [], ◌∷◌, map, length, replicate, Option, None, Some, get_or, refl, sym, ap, ap₂, subst, unwrap_or, arith}
+use Rattle.std.proofs.Common.{◌≡◌, ◌∙◌, ◌++◌, ℕ, zero, suc, Bool, true, false, cond, List, [], ◌∷◌, map, length, replicate, Option, None, Some, refl, sym, ap, ap₂, subst, unwrap_or, arith}
 use Rattle.std.specs.List.{AllByRecursion, IsDistinct, filter as only_where, slice_get}
 use Rattle.std.specs.Option.{option_and_then, option_map_or}
 use Rattle.std.specs.Str.{bytes_eq}
 use Rattle.plan_core.specs.declared.data_type.DataType.{DataType}
-use Rattle.plan_core.specs.Columns.{Columns, HasDistinctNames, StandsAt, names_of, place_of, type_of}
+use Rattle.plan_core.specs.Columns.{Columns, HasDistinctNames, names_of, place_of, type_of}
 use Rattle.plan_core.proofs.ColumnLemmas.{flip_false}
 use Rattle.plan_core.proofs.PlaceLemmas.{stands_nowhere, stands_there}
 use Rattle.plan_options.specs.declared.join.JoinArgs.{JoinArgs}
@@ -15,10 +15,10 @@ use Rattle.plan_frame.specs.Values.{Value, null}
 use Rattle.plan_frame.proofs.NameSets.{same_named}
 use Rattle.plan_join.specs.declared.origin.Side.TheVariants as sides
 use Rattle.plan_join.specs.Naming.{left_rest, right_name, right_rest}
-use Rattle.plan_join.specs.Origins.{puts_out_left, puts_out_right}
+use Rattle.plan_join.specs.Origins.{puts_out_left}
 use Rattle.plan_joined.specs.Joined.{filled_by, joined, side_value, value_or}
 use Rattle.plan_joined.specs.Sides.{filler}
-use Rattle.plan_joined.proofs.JoinedLemmas.{left_columns, parts, right_columns, under}
+use Rattle.plan_joined.proofs.JoinedLemmas.{parts, under}
 use Rattle.plan_joined.proofs.NameLemmas.{left-names, left-where, own-types, right-names}
 use Rattle.plan_pairs.specs.declared.pairs.RowPair.{RowPair}
 use Rattle.plan_table.specs.declared.column.Column.{Column as Typed}

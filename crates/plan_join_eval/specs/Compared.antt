@@ -1,5 +1,5 @@
 -- Which rows meet what only some kinds of joins are told.
-use Rattle.std.specs.Prelude.{ℕ, Bool, true, false, List, [], ◌∷◌}
+use Rattle.std.specs.Prelude.{Bool, true, false, List, [], ◌∷◌}
 use Rattle.plan_core.specs.Columns.{Columns, HasDistinctNames}
 use Rattle.plan_options.specs.declared.join.JoinArgs.{JoinArgs}
 use Rattle.plan_expr.specs.declared.aexpr.AExpr.{AExpr}

@@ -101,10 +101,24 @@ fn keys_meet(
 {
     match (left, right) {
         ([first, lefts @ ..], [second, rights @ ..]) => {
-            if !key_meets(alloc, operators.operator1, first, left_row, second, right_row)? {
+            if !key_meets(
+                alloc,
+                operators.operator1,
+                first,
+                left_row,
+                second,
+                right_row,
+            )? {
                 return Ok(false);
             }
-            second_meets(alloc, operators.operator2, lefts, left_row, rights, right_row)
+            second_meets(
+                alloc,
+                operators.operator2,
+                lefts,
+                left_row,
+                rights,
+                right_row,
+            )
         }
         _ => Ok(true),
     }

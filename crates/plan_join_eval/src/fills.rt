@@ -90,5 +90,11 @@ pub fn fillers(
     }
     let left_keys = key_names(alloc, left_on, ex)?;
     let right_keys = key_names(alloc, right_on, ex)?;
-    partners(alloc, left_keys.as_slice(), right_keys.as_slice(), left, right)
+    partners(
+        alloc,
+        left_keys.as_slice(),
+        right_keys.as_slice(),
+        left,
+        right,
+    )
 }

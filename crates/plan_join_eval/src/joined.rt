@@ -179,7 +179,15 @@ pub fn joined_table(
     let right_schema = typed(alloc, &right.columns)?;
     let lefts = left_rest(alloc, args, left_on, &left_schema, ex)?;
     let rights = right_rest(alloc, args, right_on, &right_schema, ex)?;
-    let fills = fillers(alloc, args, left_on, right_on, &left_schema, &right_schema, ex)?;
+    let fills = fillers(
+        alloc,
+        args,
+        left_on,
+        right_on,
+        &left_schema,
+        &right_schema,
+        ex,
+    )?;
     let columns = with_lefts(alloc, left, right, &lefts, &left_schema, &fills, pairs)?;
     Ok(Table {
         height: pairs.len(),

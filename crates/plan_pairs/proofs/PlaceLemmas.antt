@@ -55,7 +55,7 @@ any-passing p (x ∷ xs) = at (any-passing p xs) (p x)
 -- a number among places
 
 first_or_later : (a j : ℕ) → a ≤ j → (j ≡ a) ⊎ (a + 1 ≤ j)
-first_or_later a j from = elim (cases_eq j a) as (λ _. (j ≡ a) ⊎ (a + 1 ≤ j)) [ | inl e ↦ inl e | inr differ ↦ inr (omega (arith, from, differ)) ]
+first_or_later a j from = elim (cases_eq j a) as (λ _. (j ≡ a) ⊎ (a + 1 ≤ j)) [ inl e ↦ inl e | inr differ ↦ inr (omega (arith, from, differ)) ]
 
 same_number : (j a : ℕ) → j ≡ a → nat_eq j a ≡ true
 same_number j a e = eq-eqb j a e
@@ -151,11 +151,11 @@ marked-more bs js x lt =
     each : (i : ℕ) → i < length bs → get_or (set (marked bs js) x true) i false ≡ get_or (marked bs (js ++ x ∷ [])) i false
     each i below = elim (cases_eq i x) as (λ _. get_or (set (marked bs js) x true) i false ≡ get_or (marked bs (js ++ x ∷ [])) i false) [
       | inl e ↦ ap (λ (k : ℕ). get_or (set (marked bs js) x true) k false) e
-        ∙ get_or-set_same (marked bs js) x true false (omega (arith, lt, long bs js))
-        ∙ sym (mark_at bs (js ++ x ∷ []) i below ∙ ap (λ (b : Bool). get_or bs i false || b) (more i ∙ ap (λ (b : Bool). list_any (nat_eq i) js || b) (same_number i x e)) ∙ or_true (get_or bs i false) (list_any (nat_eq i) js))
+          ∙ get_or-set_same (marked bs js) x true false (omega (arith, lt, long bs js))
+          ∙ sym (mark_at bs (js ++ x ∷ []) i below ∙ ap (λ (b : Bool). get_or bs i false || b) (more i ∙ ap (λ (b : Bool). list_any (nat_eq i) js || b) (same_number i x e)) ∙ or_true (get_or bs i false) (list_any (nat_eq i) js))
       | inr differ ↦ get_or-set_other (marked bs js) x i true false differ
-        ∙ mark_at bs js i below
-        ∙ sym (mark_at bs (js ++ x ∷ []) i below ∙ ap (λ (b : Bool). get_or bs i false || b) (more i ∙ ap (λ (b : Bool). list_any (nat_eq i) js || b) (other_number i x differ) ∙ or-false (list_any (nat_eq i) js)))
+          ∙ mark_at bs js i below
+          ∙ sym (mark_at bs (js ++ x ∷ []) i below ∙ ap (λ (b : Bool). get_or bs i false || b) (more i ∙ ap (λ (b : Bool). list_any (nat_eq i) js || b) (other_number i x differ) ∙ or-false (list_any (nat_eq i) js)))
     ]
 
 -- and none beyond them

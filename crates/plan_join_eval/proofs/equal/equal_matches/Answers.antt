@@ -1,13 +1,12 @@
-use Rattle.std.proofs.Common.{◌≡◌, ◌∙◌, ◌+◌, ◌<◌, ◌≤◌, ℕ, Bool, List, [], Option, Some, None, take, drop, length, get_or, map, refl, sym, ap, ap₂, subst, arith, rules}
+use Rattle.std.proofs.Common.{◌≡◌, ◌∙◌, ◌+◌, ◌<◌, ℕ, List, Option, None, take, drop, length, get_or, refl, sym, ap, ap₂, arith, rules}
 use Rattle.std.specs.Prelude.{nat_eq}
-use Rattle.std.specs.List.{range_with_len}
 use Rattle.std.proofs.lemmas.List.{get_or-drop, get_or-take, length-drop, length-take}
 use Rattle.std.proofs.lemmas.List.FromFn.{length-map-range_with_len}
 use Rattle.plan_frame.proofs.FrameLemmas.{length-map}
-use Rattle.plan_frame.specs.Meaning.{Cell, are_alike, places_from}
+use Rattle.plan_frame.specs.Meaning.{Cell, are_alike}
 use Rattle.plan_pairs.specs.Rows.{listed_at}
 use Rattle.plan_value.specs.Cells.{cell_of, cells_of}
-use Rattle.plan_join_eval.specs.Equal.{number_where, numbers_where, stacked_cells}
+use Rattle.plan_join_eval.specs.Equal.{number_where, stacked_cells}
 use Rattle.plan_join_eval.proofs.EqualLemmas.{listed-where}
 use Rattle.plan_join_eval.proofs.equal.equal_matches.Goals as goal
 

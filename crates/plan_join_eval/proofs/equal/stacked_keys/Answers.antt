@@ -1,6 +1,5 @@
-use Rattle.std.proofs.Common.{◌≡◌, ◌∙◌, ◌++◌, List, [], ◌∷◌, length, ap, sym, append-nil, ⊎_elim, inl, inr}
+use Rattle.std.proofs.Common.{◌∙◌, ◌++◌, List, ap, sym, append-nil, ⊎_elim, inl, inr}
 use Rattle.plan_frame.specs.Meaning.{Cell}
-use Rattle.plan_value.specs.declared.exprs.Values.{Values}
 use Rattle.plan_value.specs.Cells.{cells_of}
 use Rattle.plan_join_eval.proofs.EqualLemmas.{stacked-done}
 use Rattle.plan_join_eval.proofs.equal.stacked_keys.Goals as goal

@@ -1,4 +1,4 @@
-use Rattle.std.proofs.Common.{◌∙◌, ◌++◌, ◌∷◌, [], List, refl, ap, ap₂}
+use Rattle.std.proofs.Common.{◌∙◌, ◌++◌, ◌∷◌, [], List, refl, ap₂}
 use Rattle.std.proofs.lemmas.Option.{slice_get_read}
 use Rattle.plan_expr.specs.Leaves.{Name}
 use Rattle.plan_join_eval.proofs.FillLemmas.{key-column, key-other}
@@ -14,6 +14,6 @@ loop-key-preserved c =
     let here = slice_get_read keys _ i key refl c.loop-key-test.true c.key-item.is in
     elim c.match-column_name.branch [
       | in-Some+in_ok-new+in_ok-push w ↦ w.names-is ∙ w.in_ok-push.ensures.pushed ∙ ap₂ (λ (names : List Name) (a : Name). names ++ a ∷ []) c.loop-key.invariant w.in_ok-new.ensures
-        ∙ key-column ex keys i key c.get.result.now w.in-Some.name.now c.loop-key-test.true here c.get.ensures.entry w.in-Some.ensures.some
+          ∙ key-column ex keys i key c.get.result.now w.in-Some.name.now c.loop-key-test.true here c.get.ensures.entry w.in-Some.ensures.some
       | in_default w ↦ w.names-is ∙ c.loop-key.invariant ∙ key-other ex keys i key c.get.result.now c.loop-key-test.true here c.get.ensures.entry w.in_default.ensures.none
     ]

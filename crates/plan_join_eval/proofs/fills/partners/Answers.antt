@@ -1,10 +1,8 @@
-use Rattle.std.proofs.Common.{[], ◌≡◌, ◌∙◌, ◌-◌, ◌<◌, ◌≤◌, ◌⊎◌, inl, inr, ⊎_elim, ℕ, List, Option, None, Some, drop, get_or, length, min, replicate, suc, set, refl, sym, ap, subst, arith, Vec, Global}
-use Rattle.std.specs.List.{slice_get}
+use Rattle.std.proofs.Common.{[], ◌≡◌, ◌∙◌, ◌-◌, ◌<◌, ◌≤◌, ◌⊎◌, inl, inr, ⊎_elim, ℕ, Option, None, Some, drop, get_or, length, min, replicate, suc, set, sym, ap, subst, arith}
 use Rattle.std.proofs.lemmas.Bool.{cases_lt}
 use Rattle.std.proofs.lemmas.List.{length-drop}
 use Rattle.std.proofs.lemmas.Option.{slice_get-get_or}
 use Rattle.plan_expr.specs.Leaves.{Name}
-use Rattle.plan_core.specs.Columns.{place_of}
 use Rattle.plan_frame.proofs.ScalarExprs.{item_here}
 use Rattle.plan_joined.specs.Sides.{partner}
 use Rattle.plan_join_eval.specs.Fills.{ArePartners}

@@ -1,4 +1,4 @@
-use Rattle.std.proofs.Common.{◌≡◌, ◌∙◌, ℕ, List, Some, None, ap, sym, rules}
+use Rattle.std.proofs.Common.{◌≡◌, ◌∙◌, List, Some, None, ap, sym, rules}
 use Rattle.plan_frame.specs.Frames.{row}
 use Rattle.plan_frame.specs.Values.{Value}
 use Rattle.plan_table.specs.Tables.{column_of}

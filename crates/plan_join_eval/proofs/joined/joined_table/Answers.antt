@@ -1,8 +1,8 @@
-use Rattle.std.proofs.Common.{◌≡◌, ◌∙◌, ◌++◌, List, Option, ℕ, ap, ap₂, sym, map, length, subst}
+use Rattle.std.proofs.Common.{◌∙◌, ◌++◌, List, Option, ℕ, ap, ap₂, map, length, subst}
 use Rattle.plan_core.specs.Columns.{Columns, names_of}
 use Rattle.plan_options.specs.Join.{suffix_of}
 use Rattle.plan_expr.specs.Leaves.{Name}
-use Rattle.plan_frame.specs.Frames.{Column, Frame}
+use Rattle.plan_frame.specs.Frames.{Column}
 use Rattle.plan_join.specs.Naming.{key_columns, left_rest, right_name, right_rest}
 use Rattle.plan_joined.specs.Sides.{filler}
 use Rattle.plan_value.specs.Shown.{frame_of, schema_of}

@@ -1,14 +1,14 @@
-use Rattle.std.proofs.Common.{◌≡◌, ◌∙◌, ◌++◌, ◌∷◌, [], List, Option, ℕ, ap, ap₂, sym, map, false}
+use Rattle.std.proofs.Common.{◌∙◌, ◌++◌, List, Option, ℕ, ap, ap₂, sym, map, false}
 use Rattle.std.specs.Option.{option_and_then}
 use Rattle.std.proofs.lemmas.List.{map-id}
 use Rattle.plan_core.specs.declared.data_type.DataType.{DataType}
-use Rattle.plan_core.specs.Columns.{Columns, names_of, place_of}
+use Rattle.plan_core.specs.Columns.{Columns, names_of}
 use Rattle.plan_core.specs.Names.{has}
 use Rattle.plan_expr.specs.Leaves.{Name}
-use Rattle.plan_frame.specs.Frames.{Column, column_or}
+use Rattle.plan_frame.specs.Frames.{column_or}
 use Rattle.plan_frame.specs.Values.{Value}
 use Rattle.plan_table.specs.Tables.{types_of}
-use Rattle.plan_value.specs.Shown.{columns_shown, column_shown, frame_of, values_of}
+use Rattle.plan_value.specs.Shown.{columns_shown, frame_of, values_of}
 use Rattle.plan_join_eval.specs.Along.{filling, left_column, slot, value_along}
 use Rattle.plan_join_eval.proofs.AlongLemmas.{along-same, next-new, shown-next, types-next}
 use Rattle.plan_join_eval.proofs.joined.with_lefts.Goals as goal

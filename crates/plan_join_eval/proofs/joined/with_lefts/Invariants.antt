@@ -1,5 +1,5 @@
 use Rattle.std.proofs.Common.{◌≡◌, ◌++◌, map}
-use Rattle.plan_core.specs.Columns.{HasDistinctNames, names_of}
+use Rattle.plan_core.specs.Columns.{names_of}
 use Rattle.plan_table.specs.Tables.{types_of}
 use Rattle.plan_value.specs.Shown.{columns_shown, frame_of}
 use Rattle.plan_join_eval.specs.Along.{left_column}

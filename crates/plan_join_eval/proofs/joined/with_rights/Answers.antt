@@ -1,9 +1,9 @@
-use Rattle.std.proofs.Common.{◌≡◌, ◌∙◌, ◌++◌, ◌∷◌, [], List, Option, ℕ, ap, ap₂, sym, map, true}
+use Rattle.std.proofs.Common.{◌∙◌, ◌++◌, [], List, ap, ap₂, map, true}
 use Rattle.plan_core.specs.declared.data_type.DataType.{DataType}
-use Rattle.plan_core.specs.Columns.{Columns, names_of}
+use Rattle.plan_core.specs.Columns.{names_of}
 use Rattle.plan_core.specs.Names.{has}
 use Rattle.plan_expr.specs.Leaves.{Name}
-use Rattle.plan_frame.specs.Frames.{Column, column_or}
+use Rattle.plan_frame.specs.Frames.{column_or}
 use Rattle.plan_frame.specs.Values.{Value}
 use Rattle.plan_join.specs.Naming.{right_name, with_right}
 use Rattle.plan_table.specs.Tables.{types_of}

@@ -35,7 +35,7 @@ loop-other-preserved c =
     c.gives_alone-in-loop-other.ensures ∙ ap (gives_alone (not b) c.args.how) (ap (λ (bs : List Bool). get_or bs n false) marks ∙ get_or-map-range_with_len (is_met m (length m.numbers)) 0 m.others n n false (omega (arith, c.loop-other-test.true, long)) (omega arith)) in
     elim c.if-gives_alone.branch [
       | then-gives_alone+in_ok-push w ↦ w.pairs-is ∙ w.in_ok-push.ensures.pushed ∙ ap₂ (λ (ps : List RowPair) (p : RowPair). ps ++ p ∷ []) c.loop-other.invariant w.pair.ensures
-        ∙ append_assoc c.args.pairs.now (map f (passing test n)) (f n ∷ []) ∙ ap (λ (ps : List RowPair). c.args.pairs.now ++ ps) (sym (passing-more f test n (sym own ∙ w.if-gives_alone.true)))
+          ∙ append_assoc c.args.pairs.now (map f (passing test n)) (f n ∷ []) ∙ ap (λ (ps : List RowPair). c.args.pairs.now ++ ps) (sym (passing-more f test n (sym own ∙ w.if-gives_alone.true)))
       | else-gives_alone w ↦ w.pairs-is ∙ c.loop-other.invariant ∙ ap (λ (ps : List RowPair). c.args.pairs.now ++ ps) (sym (passing-less f test n (sym own ∙ w.if-gives_alone.false)))
     ]
 
