@@ -1,5 +1,5 @@
 -- Which rows meet what only some kinds of joins are told.
-use Rattle.std.specs.Prelude.{Bool, true, false, List, [], ◌∷◌}
+use Rattle.std.specs.Prelude.{Bool, true, false, List, [], ◌∷◌, Option, None, Some}
 use Rattle.plan_core.specs.Columns.{Columns, HasDistinctNames}
 use Rattle.plan_options.specs.declared.join.JoinArgs.{JoinArgs}
 use Rattle.plan_expr.specs.declared.aexpr.AExpr.{AExpr}
@@ -13,7 +13,7 @@ use Rattle.plan_join.specs.declared.options.JoinTypeOptionsIR.TheVariants.{IEJoi
 use Rattle.plan_join.specs.Naming.{join_columns}
 use Rattle.plan_join.specs.Told.{operators}
 use Rattle.plan_joined.specs.Joined.{joined}
-use Rattle.plan_joined.specs.Matching.{keys_meet}
+use Rattle.plan_joined.specs.Matching.{keys_match, keys_meet}
 use Rattle.plan_pairs.specs.Pairs.{Test, both}
 use Rattle.plan_pairs.specs.Rows.{flipped}
 
@@ -31,3 +31,13 @@ sided false test = test
 abbrev pub IsConditioned : List AExpr → JoinArgs → JoinTypeOptionsIR → Columns → Columns → Type 0
 IsConditioned ex args (IEJoin o) s t = Unit {0}
 IsConditioned ex args (Cross predicate) s t = IsExpr ex predicate.node × HasDistinctNames (join_columns args [] [] s t)
+
+-- whether two rows match, by the keys of both sides: where these are equal, or meet what is told
+abbrev pub option_test : List AExpr → JoinArgs → Option JoinTypeOptionsIR → (left right : List Cell) → (f g : Frame) → Test
+option_test ex args None cs ds f g = keys_match args.join_nulls cs ds
+option_test ex args (Some told) cs ds f g = kind_test ex args told cs ds f g
+
+-- where something is told that only some kinds of joins are, it is a condition over the columns of the join, if it is one
+abbrev pub IsTold : List AExpr → JoinArgs → Option JoinTypeOptionsIR → Columns → Columns → Type 0
+IsTold ex args None s t = Unit {0}
+IsTold ex args (Some told) s t = IsConditioned ex args told s t

@@ -27,6 +27,7 @@ use plan_value::{Values, evaluate_expr, is_true_at, operated, value_at};
 use std::alloc::{AllocError, Global};
 
 /// A side of a join: its table, and the values of its keys over the rows of that.
+#[derive(Clone, Copy)]
 pub struct Rows<'a> {
     /// The table.
     pub table: &'a Table,

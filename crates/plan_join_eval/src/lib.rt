@@ -4,7 +4,7 @@
 mod compared;
 mod equal;
 mod fills;
+mod join;
 mod joined;
 
-pub use equal::equal_matches;
-pub use fills::fillers;
+pub use join::evaluate_join;
