@@ -1,8 +1,7 @@
 -- A grouping by one column of what another is, over the scan of a frame.
-use Rattle.std.proofs.Common.{◌≡◌, ◌∙◌, ◌++◌, ◌⊎◌, ⊎_elim, false, arith, List, [], ◌∷◌, Some, None, codes, refl, sym, ap, subst}
+use Rattle.std.proofs.Common.{◌≡◌, ◌⊎◌, ⊎_elim, false, arith, List, [], ◌∷◌, Some, None, codes, refl, sym, ap, subst}
 use Rattle.std.specs.List.{slice_get}
 use Rattle.plan_core.specs.declared.arena.Node.{Node}
-use Rattle.plan_core.specs.Columns.{Columns}
 use Rattle.plan_tree.specs.Rose.{rose, no_roses, more}
 use Rattle.plan_tree.specs.Stands.{Trees, Reaches, StandsOnce}
 use Rattle.plan_tree.proofs.ReadLemmas.{tree_at-is}

@@ -1,11 +1,9 @@
 -- The numbers of a plan that stands are good.
 use Rattle.std.proofs.Common.{◌≡◌, List, [], ◌∷◌, None, refl, sym, subst}
 use Rattle.plan_core.specs.declared.arena.Node.{Node}
-use Rattle.plan_core.specs.declared.error.At.{At}
 use Rattle.plan_tree.specs.Rose.{labels}
 use Rattle.plan_tree.specs.Stands.{Trees, StandsOnce}
 use Rattle.plan_tree.specs.Walk.{nodes_of, walk_from}
-use Rattle.plan_tree.specs.declared.walking.Walked.{Walked}
 use Rattle.plan_tree.proofs.WalkTrees.{walk_from_trees}
 use Rattle.plan_expr.specs.declared.aexpr.AExpr.{AExpr}
 use Rattle.plan_expr.specs.Operands.{expr_shape}

@@ -1,12 +1,11 @@
 -- Columns that are appended where none is called like them.
-use Rattle.std.proofs.Common.{◌≡◌, ◌∙◌, ◌++◌, ◌||◌, Bool, true, false, cond, List, [], ◌∷◌, map, Option, Some, None, is_some, refl, sym, ap, ap₂, subst}
+use Rattle.std.proofs.Common.{◌≡◌, ◌∙◌, ◌++◌, ◌||◌, Bool, true, false, cond, List, [], ◌∷◌, Some, is_some, refl, sym, ap, ap₂}
 use Rattle.std.specs.Str.{bytes_eq}
 use Rattle.std.proofs.lemmas.Bool.{cond-true, cond-false, or_parts}
 use Rattle.std.proofs.lemmas.List.{map-append}
-use Rattle.plan_core.specs.Columns.{Columns, names_of}
+use Rattle.plan_core.specs.Columns.{names_of}
 use Rattle.plan_core.specs.Names.{has}
 use Rattle.plan_core.specs.declared.data_type.DataType.{DataType}
-use Rattle.plan_core.proofs.ColumnLemmas.{flip_false}
 use Rattle.plan_expr.specs.Leaves.{Name}
 use Rattle.plan_frame.specs.Frames.{Column, column_names, with_new_column}
 use Rattle.plan_frame.specs.Beside.{with_new}

@@ -1,21 +1,18 @@
 -- A concatenation over inputs that narrow at what it asks of them.
-use Rattle.std.proofs.Common.{◌≡◌, ℕ, max, Bool, true, false, not, ◌&&◌, ◌||◌, List, [], ◌∷◌, ◌++◌, map, fold, Option, Some, None, option_map, is_some, refl, sym, ap, ap₂, ◌∙◌, subst, ⊎_elim, ◌⊎◌, inl, inr}
-use Rattle.std.specs.List.{filter as only_where, list_all, range_with_len}
+use Rattle.std.proofs.Common.{◌≡◌, ℕ, max, Bool, true, false, not, List, [], ◌∷◌, ◌++◌, map, fold, Option, Some, None, option_map, is_some, refl, sym, ap, ap₂, ◌∙◌, subst, ⊎_elim, ◌⊎◌, inl, inr}
+use Rattle.std.specs.List.{list_all, range_with_len}
 use Rattle.std.proofs.lemmas.Bool.{and_parts, and_from, both_ways, false_from_ne_true}
-use Rattle.plan_core.specs.declared.data_type.DataType.{DataType}
 use Rattle.plan_core.specs.Columns.{Columns, names_of, type_of}
 use Rattle.plan_core.specs.Names.{has}
 use Rattle.plan_tree.specs.Rose.{Roses, rose, no_roses, more}
 use Rattle.plan_expr.specs.Leaves.{Name}
 use Rattle.plan_ir.specs.Plans.{Op, hconcat}
 use Rattle.plan_options.specs.declared.union.HConcatOptions.{HConcatOptions}
-use Rattle.plan_frame.specs.Values.{Value}
 use Rattle.plan_frame.specs.Beside.{are_apart, in_a_row, share_no_name, side_by_side}
-use Rattle.plan_meaning.specs.Typing.{is_empty, schema_by, schemas, stored_checks, checks, AllHold, AllValid}
-use Rattle.plan_frame.specs.Frames.{Frame, Column, HasSchema, found, highest, levelled, beside, picked, picked_columns, Agree}
-use Rattle.plan_meaning.specs.Contents.{Contents}
-use Rattle.plan_meaning.specs.Steps.{Step, IsValid}
-use Rattle.plan_meaning.specs.Relating.{Asked, all, names, Holding, NarrowColumns, AgreeOn, Narrows}
+use Rattle.plan_meaning.specs.Typing.{is_empty, schemas, stored_checks, checks, AllHold, AllValid}
+use Rattle.plan_frame.specs.Frames.{Frame, HasSchema, found, highest, levelled, beside, picked, picked_columns, Agree}
+use Rattle.plan_meaning.specs.Steps.{IsValid}
+use Rattle.plan_meaning.specs.Relating.{Asked, all, names, NarrowColumns, AgreeOn, Narrows}
 use Rattle.plan_meaning.specs.Asked.{set_of, Fair, IsFair}
 use Rattle.plan_frame.proofs.NameSets.{has_cons, has_first, has_later, some-type_of}
 use Rattle.plan_frame.proofs.FrameLemmas.{found-picked}
@@ -23,7 +20,7 @@ use Rattle.plan_frame.proofs.MadeColumns.{some-found}
 use Rattle.plan_meaning.proofs.KeptExprs.{has_where}
 use Rattle.plan_frame.proofs.TurnLemmas.{HaveSchemas}
 use Rattle.plan_frame.proofs.BesideLemmas.{or_else, type_of-join, found-join, type_of-beside, found-beside}
-use Rattle.plan_meaning.proofs.Related.{SchemasRelated, FramesRelated, AllRelate, LocalTo, relates_node}
+use Rattle.plan_meaning.proofs.Related.{SchemasRelated, FramesRelated, AllRelate, relates_node}
 use Rattle.plan_narrowing.specs.Pruned.{held_names, pruned_hconcat}
 use Rattle.plan_schema.specs.Stored.{stored_all}
 use Rattle.plan_schema.proofs.StoredLemmas.{is_same, stored-schemas}

@@ -7,17 +7,16 @@ use Rattle.std.specs.Str.{bytes_eq}
 use Rattle.plan_core.specs.declared.data_type.DataType.{DataType}
 use Rattle.plan_core.specs.declared.error.PolarsError.TheVariants.{SchemaFieldNotFound, SchemaMismatch}
 use Rattle.plan_core.specs.Columns.{Columns, type_of}
-use Rattle.plan_core.specs.Names.{has, with_names}
+use Rattle.plan_core.specs.Names.{has}
 use Rattle.plan_ir.specs.declared.functions.FunctionIR.TheVariants.{Explode}
 use Rattle.plan_expr.specs.Leaves.{Name}
 use Rattle.plan_frame.specs.Reshaped.{item_type, exploded_columns, items, rows_given, exploded_rows, exploded_values}
-use Rattle.plan_meaning.specs.Functions.{function_schema}
 use Rattle.plan_meaning.specs.Mapped.{mapped}
 use Rattle.plan_meaning.specs.Typing.{Check, is_known, is_list_type, explode_checks, function_checks, AllHold}
 use Rattle.plan_frame.specs.Values.{Value}
 use Rattle.plan_frame.specs.Frames.{Frame, Column, HasSchema, found, row, column_or, Agree}
 use Rattle.plan_meaning.specs.Relating.{Holding}
-use Rattle.plan_meaning.specs.Asked.{function_names, Fair}
+use Rattle.plan_meaning.specs.Asked.{function_names}
 use Rattle.plan_frame.proofs.NameSets.{named, keeps_names, adds_names}
 use Rattle.plan_frame.proofs.FrameLemmas.{or_same}
 use Rattle.plan_narrowing.proofs.FunctionParts.{FunctionKept}

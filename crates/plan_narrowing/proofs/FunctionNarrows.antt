@@ -1,9 +1,7 @@
 -- A function over an input that narrows at what it asks.
-use Rattle.std.proofs.Common.{◌≡◌, Bool, true, false, not, cond, List, [], ◌∷◌, ◌++◌, map, Option, Some, None, is_some, unwrap_or, refl, sym, ap, ◌∙◌, subst}
-use Rattle.std.specs.Str.{bytes_eq}
-use Rattle.plan_core.specs.declared.data_type.DataType.{DataType}
-use Rattle.plan_core.specs.Columns.{Columns, names_of, type_of}
-use Rattle.plan_core.specs.Names.{has, with_names}
+use Rattle.std.proofs.Common.{◌≡◌, Bool, true, false, cond, List, [], ◌∷◌, ◌++◌, refl, sym, ap, ◌∙◌, subst}
+use Rattle.plan_core.specs.Columns.{Columns}
+use Rattle.plan_core.specs.Names.{with_names}
 use Rattle.plan_ir.specs.declared.functions.FunctionIR.{FunctionIR}
 use Rattle.plan_ir.specs.declared.functions.FunctionIR.TheVariants.{Rename, RowIndex, Unpivot, Explode}
 use Rattle.plan_ir.specs.Plans.{map_function}
@@ -11,8 +9,8 @@ use Rattle.plan_expr.specs.Leaves.{Name}
 use Rattle.plan_meaning.specs.Functions.{function_schema}
 use Rattle.plan_meaning.specs.Mapped.{mapped}
 use Rattle.plan_meaning.specs.Typing.{is_empty, function_checks, AllHold}
-use Rattle.plan_frame.specs.Frames.{Frame, HasSchema, Agree}
-use Rattle.plan_meaning.specs.Relating.{Asked, all, names as these, cached, Holding, NarrowColumns, AgreeOn}
+use Rattle.plan_frame.specs.Frames.{Frame, Agree}
+use Rattle.plan_meaning.specs.Relating.{Asked, all, names as these, cached, Holding, NarrowColumns}
 use Rattle.plan_meaning.specs.Asked.{set_of, function_names, asks_function, Fair, IsFair}
 use Rattle.plan_narrowing.proofs.NarrowLemmas.{Local, one_step, same_one, same_cached}
 use Rattle.plan_narrowing.proofs.FunctionParts.{FunctionKept, self_holds}

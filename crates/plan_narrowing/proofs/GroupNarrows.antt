@@ -1,14 +1,13 @@
 -- A grouping that keeps its keys and what is asked of its aggregates narrows.
-use Rattle.std.proofs.Common.{◌≡◌, ℕ, Bool, true, false, not, List, [], ◌∷◌, ◌++◌, map, fold, refl, sym, ap, ap₂, ◌∙◌, subst, is_some, ⊎_elim, inl, inr}
+use Rattle.std.proofs.Common.{◌≡◌, ℕ, Bool, true, false, List, [], ◌∷◌, ◌++◌, map, refl, sym, ap, ap₂, ◌∙◌, subst, ⊎_elim}
 use Rattle.std.specs.List.{AllByRecursion, IsDistinct, filter as only_where}
 use Rattle.std.specs.Str.{bytes_eq}
 use Rattle.std.proofs.lemmas.List.{map-append}
 use Rattle.std.proofs.lemmas.List.Sums.{fold-append}
 use Rattle.plan_core.specs.Columns.{Columns, names_of, type_of, with_types}
-use Rattle.plan_core.specs.Names.{has, with_names, AreDistinct}
+use Rattle.plan_core.specs.Names.{has, AreDistinct}
 use Rattle.plan_expr.specs.Exprs.{Named}
 use Rattle.plan_expr.specs.Leaves.{Name}
-use Rattle.plan_expr.specs.Naming.{name_of}
 use Rattle.plan_ir.specs.Plans.{group_by}
 use Rattle.plan_options.specs.declared.distinct.UniqueKeepStrategy.TheVariants.{First}
 use Rattle.plan_options.specs.declared.group.GroupbyOptions.{GroupbyOptions}
@@ -19,16 +18,14 @@ use Rattle.plan_meaning.specs.Typing.{checks, AllHold}
 use Rattle.plan_frame.specs.Frames.{Frame, Column, found, with_column, with_columns, rows_at, Agree}
 use Rattle.plan_frame.specs.Meaning.{Cell, are_alike}
 use Rattle.plan_frame.specs.Orders.{AreKept, key_cells}
-use Rattle.plan_meaning.specs.Contents.{Contents}
-use Rattle.plan_meaning.specs.Steps.{Step}
-use Rattle.plan_meaning.specs.Relating.{Asked, all, names, cached, Holding, NarrowColumns, AgreeOn}
-use Rattle.plan_meaning.specs.Asked.{is_asked, set_of, kept_exprs, grouping_names, asks_grouped, Fair}
-use Rattle.plan_frame.proofs.NameSets.{has_front, has_back, has_either, has-append, adds_names}
+use Rattle.plan_meaning.specs.Relating.{Asked, all, names, cached, Holding, NarrowColumns}
+use Rattle.plan_meaning.specs.Asked.{is_asked, set_of, kept_exprs, grouping_names, Fair}
+use Rattle.plan_frame.proofs.NameSets.{has_front, has_back, has_either, adds_names}
 use Rattle.plan_frame.proofs.FrameLemmas.{agree_fewer, agree_rows}
 use Rattle.plan_meaning.proofs.CheckParts.{MadeGood, made_good, good_made}
 use Rattle.plan_meaning.proofs.KeptColumns.{types_kept, columns_kept}
 use Rattle.plan_frame.proofs.MadeColumns.{some-made}
-use Rattle.plan_meaning.proofs.KeptExprs.{all_append, all_where, all_kept_exprs, kept-all, kept_named, distinct_where, names-join, names-kept, has_where, kept-named}
+use Rattle.plan_meaning.proofs.KeptExprs.{all_append, all_where, all_kept_exprs, kept-all, kept_named, distinct_where, names-join, names-kept, kept-named}
 use Rattle.plan_frame.proofs.GroupLemmas.{all_front, all_back, gathered-names, group_reads, row_reads, leaves-join}
 use Rattle.plan_narrowing.specs.Pruned.{typed_names}
 use Rattle.plan_narrowing.proofs.NarrowLemmas.{Local, one_step, same_cached}

@@ -1,6 +1,5 @@
 -- A numbering of rows over an input that narrows at what it asks.
-use Rattle.std.proofs.Common.{◌≡◌, ℕ, Bool, true, false, not, cond, List, [], ◌∷◌, Option, Some, is_some, unwrap_or, refl, sym, ap, ◌∙◌}
-use Rattle.std.specs.List.{filter as only_where}
+use Rattle.std.proofs.Common.{◌≡◌, ℕ, Bool, true, false, not, cond, List, Option, Some, is_some, unwrap_or, refl, sym, ap, ◌∙◌}
 use Rattle.std.specs.Str.{bytes_eq}
 use Rattle.std.proofs.lemmas.Bool.{not-true, false_from_ne_true}
 use Rattle.plan_core.specs.declared.data_type.DataType.{DataType}
@@ -13,7 +12,6 @@ use Rattle.plan_meaning.specs.Functions.{function_schema}
 use Rattle.plan_meaning.specs.Mapped.{mapped}
 use Rattle.plan_frame.specs.Reshaped.{row_numbers}
 use Rattle.plan_meaning.specs.Typing.{function_checks, row_index_checks, AllHold}
-use Rattle.plan_frame.specs.Values.{Value}
 use Rattle.plan_frame.specs.Frames.{Frame, HasSchema, found, Agree}
 use Rattle.plan_meaning.specs.Relating.{Holding}
 use Rattle.plan_meaning.specs.Asked.{function_names, Fair}

@@ -19,7 +19,6 @@ use Rattle.plan_meaning.specs.Typing.{columns_or, file_columns, first_schema, sc
 use Rattle.plan_frame.specs.Frames.{names_or, Agree}
 use Rattle.plan_frame.specs.ExprLists.{out_names, all_leaves}
 use Rattle.plan_frame.specs.Made.{made_schema, made}
-use Rattle.plan_frame.specs.Beside.{side_by_side}
 use Rattle.plan_meaning.specs.Functions.{function_schema}
 use Rattle.plan_frame.specs.Grouping.{group_exprs}
 use Rattle.plan_meaning.specs.Steps.{IsValid}

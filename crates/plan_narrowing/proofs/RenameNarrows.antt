@@ -1,5 +1,5 @@
 -- A renaming over an input that narrows at what it asks.
-use Rattle.std.proofs.Common.{◌≡◌, ℕ, suc, ◌==◌, Bool, true, false, cond, List, [], ◌∷◌, ◌++◌, map, length, Option, Some, None, is_some, refl, sym, ap, ◌∙◌, subst, ⊎_elim}
+use Rattle.std.proofs.Common.{◌≡◌, suc, Bool, true, false, cond, List, [], ◌∷◌, ◌++◌, map, length, Option, Some, None, is_some, refl, sym, ap, ◌∙◌, subst, ⊎_elim}
 use Rattle.std.specs.List.{filter_map, cons_option}
 use Rattle.std.specs.Str.{bytes_eq}
 use Rattle.plan_core.specs.declared.data_type.DataType.{DataType}
@@ -12,7 +12,6 @@ use Rattle.plan_meaning.specs.Functions.{renamed, former, stay_apart, function_s
 use Rattle.plan_frame.specs.Reshaped.{renamed_columns}
 use Rattle.plan_meaning.specs.Mapped.{mapped}
 use Rattle.plan_meaning.specs.Typing.{Check, check, each_new, function_checks, rename_checks, AllHold}
-use Rattle.plan_frame.specs.Values.{Value}
 use Rattle.plan_frame.specs.Frames.{Column, Frame, HasSchema, found, column_names, Agree}
 use Rattle.plan_meaning.specs.Relating.{Holding}
 use Rattle.plan_meaning.specs.Asked.{function_names, Fair}

@@ -12,7 +12,7 @@ use Rattle.plan_ir.specs.declared.functions.FunctionIR.TheVariants.{Unpivot}
 use Rattle.plan_ir.specs.declared.functions.UnpivotArgsIR.{UnpivotArgsIR}
 use Rattle.plan_expr.specs.Leaves.{Name}
 use Rattle.plan_meaning.specs.Functions.{told_names, value_names, first_type, variable_name, value_name, unpivoted_names, all_differ, function_schema}
-use Rattle.plan_frame.specs.Reshaped.{type_or, columns_at, repeated, names_down, values_down}
+use Rattle.plan_frame.specs.Reshaped.{type_or, repeated, names_down, values_down}
 use Rattle.plan_frame.specs.Exprs.{is_type}
 use Rattle.plan_meaning.specs.Mapped.{mapped}
 use Rattle.plan_meaning.specs.Typing.{Check, check, each, is_empty, is_known, is_column, unpivot_name_checks, unpivot_type_checks, unpivot_checks, function_checks, AllHold}

@@ -1,4 +1,4 @@
-use Rattle.std.proofs.Common.{◌≡◌, ◌∙◌, List, ap, sym, subst, fold}
+use Rattle.std.proofs.Common.{◌∙◌, List, ap, sym, fold}
 use Rattle.plan_core.specs.Columns.{Columns}
 use Rattle.plan_frame.specs.Frames.{Column, picked_columns, with_new_column}
 use Rattle.plan_frame.specs.Beside.{with_new}

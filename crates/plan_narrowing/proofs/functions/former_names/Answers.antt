@@ -1,4 +1,4 @@
-use Rattle.std.proofs.Common.{◌≡◌, ◌∙◌, ap, sym, arith, List, Option, Some, None, unwrap_or}
+use Rattle.std.proofs.Common.{◌≡◌, ◌∙◌, ap, sym, arith, List, Option, unwrap_or}
 use Rattle.std.proofs.Math.Path.{fun_ext}
 use Rattle.plan_core.specs.Columns.{names_of}
 use Rattle.plan_core.specs.Names.{with_name}

@@ -1,4 +1,4 @@
-use Rattle.std.proofs.Common.{◌≡◌, ◌∙◌, refl, sym}
+use Rattle.std.proofs.Common.{sym}
 use Rattle.plan_meaning.specs.Typing.{function_checks}
 use Rattle.plan_schema.proofs.StoredLemmas.{all-without, fault-told, none-with}
 use Rattle.plan_schema.proofs.stored.given.Goals as goal
