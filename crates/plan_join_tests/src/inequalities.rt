@@ -77,3 +77,14 @@ fn null_meets_no_inequality(rt: HostRuntime) -> Result<(), Fail> {
     }
     Ok(())
 }
+
+#[test]
+fn one_key_meets_two_inequalities(rt: HostRuntime) -> Result<(), Fail> {
+    let join = Join {
+        left_on: &["x", "x"],
+        ..double(InequalityOperator::Gt, InequalityOperator::LtEq)
+    };
+    let text = given(rt.alloc(), &join, "3; x 1 2 3", "2; y 1 0; v 3 1")?;
+    assert_eq!(rt; text.as_str(), "3; x 1 2 3; y 0 1 1; v 1 3 3");
+    Ok(())
+}

@@ -11,13 +11,13 @@ mod crosses;
 mod empty;
 #[cfg(test)]
 mod inequalities;
-pub mod joins;
+mod joins;
 #[cfg(test)]
 mod kinds;
 #[cfg(test)]
 mod names;
 #[cfg(test)]
 mod orders;
-pub mod tables;
+mod tables;
 #[cfg(test)]
 mod two_keys;

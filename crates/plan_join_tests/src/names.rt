@@ -122,3 +122,34 @@ fn only_left_columns_that_remain_give_right_ones_the_suffix(rt: HostRuntime) -> 
     }
     Ok(())
 }
+
+#[test]
+fn a_right_key_may_be_called_like_another_left_column(rt: HostRuntime) -> Result<(), Fail> {
+    let (usually, one) = (JoinCoalesce::JoinSpecific, JoinCoalesce::CoalesceColumns);
+    let full = "3; k 1 2 null; v 5 6 null; v_right null 2 3; b null 7 8";
+    for (how, coalesce, wanted) in [
+        (JoinType::Inner, usually, "1; k 2; v 6; b 7"),
+        (
+            JoinType::Inner,
+            JoinCoalesce::KeepColumns,
+            "1; k 2; v 6; v_right 2; b 7",
+        ),
+        (JoinType::Left, usually, "2; k 1 2; v 5 6; b null 7"),
+        (JoinType::Right, usually, "2; v 6 null; v_right 2 3; b 7 8"),
+        (JoinType::Full, one, "3; k 1 2 3; v 5 6 null; b null 7 8"),
+        (JoinType::Full, usually, full),
+    ] {
+        let join = Join {
+            coalesce,
+            left_on: &["k"],
+            right_on: &["v"],
+            ..usual(how, &[])
+        };
+        let text = given(rt.alloc(), &join, "2; k 1 2; v 5 6", "2; v 2 3; b 7 8")?;
+        assert_eq!(rt; text.as_str(), wanted);
+    }
+    let right = usual(JoinType::Right, &["k"]);
+    let text = given(rt.alloc(), &right, "1; k 1; v 2", "1; k 1; v 3")?;
+    assert_eq!(rt; text.as_str(), "1; v 2; k 1; v_right 3");
+    Ok(())
+}
