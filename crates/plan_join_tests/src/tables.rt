@@ -44,7 +44,7 @@ fn column(alloc: Global, text: &str) -> Result<Column, AllocError> {
     })
 }
 
-/// The table of a text. It is no test of texts: of two columns of one name the last one counts, and a height that is no number
+/// The table of a text. It tests no text: of two columns of one name the last one counts, and a height that is no number
 /// is 0.
 pub fn table(alloc: Global, text: &str) -> Result<Table, AllocError> {
     let (height, rest) = text.split_once("; ").unwrap_or((text, ""));
