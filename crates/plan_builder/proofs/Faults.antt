@@ -7,7 +7,8 @@ use Rattle.plan_core.specs.declared.error.PolarsError.TheVariants.{Duplicate}
 use Rattle.plan_core.specs.Errors.{item_at}
 use Rattle.plan_core.specs.Names.{has}
 use Rattle.plan_expr.specs.Leaves.{Name}
-use Rattle.plan_meaning.specs.Typing.{Check, each, each_new, or_fault}
+use Rattle.plan_meaning.specs.Checks.{Check, each, each_new}
+use Rattle.plan_meaning.specs.Typing.{or_fault}
 use Rattle.plan_function.proofs.CheckLemmas.{drop-at, drop-end}
 use Rattle.plan_builder.specs.Picks.{first_item_fault}
 

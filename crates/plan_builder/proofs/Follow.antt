@@ -21,7 +21,8 @@ use Rattle.plan_ir.specs.Parts.{exprs_of, inputs_of, is_invalid, plan_shape, IsP
 use Rattle.plan_ir.specs.Plans.{Op, bare, op_at, plans_at, plans_of, simple_projection}
 use Rattle.plan_meaning.specs.PlanAt.{one_plan, plan_at}
 use Rattle.plan_meaning.specs.Steps.{IsValid}
-use Rattle.plan_meaning.specs.Typing.{AllHold, checks, each, is_column, is_empty, is_known, schema}
+use Rattle.plan_meaning.specs.Checks.{each, is_column, is_empty, is_known}
+use Rattle.plan_meaning.specs.Typing.{AllHold, checks, schema}
 use Rattle.plan_meaning.proofs.CheckParts.{hold_join, pass_each}
 use Rattle.plan_frame.proofs.FrameLemmas.{length-map, some_type_is, weaker}
 use Rattle.plan_meaning.proofs.NodeExprs.{all_stand}

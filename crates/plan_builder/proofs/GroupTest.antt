@@ -19,7 +19,8 @@ use Rattle.plan_ir.specs.Plans.{group_by}
 use Rattle.plan_options.specs.declared.group.GroupbyOptions.{GroupbyOptions}
 use Rattle.plan_options.specs.Group.{default_group}
 use Rattle.plan_frame.specs.Grouping.{group_exprs}
-use Rattle.plan_meaning.specs.Typing.{AllHold, checks, form_checks, is_built_group, leaf_checks, made_checks, naming_checks, once_checks, stored_checks, type_checks}
+use Rattle.plan_meaning.specs.Checks.{form_checks, leaf_checks, naming_checks, once_checks, stored_checks, type_checks}
+use Rattle.plan_meaning.specs.Typing.{AllHold, checks, is_built_group, made_checks}
 use Rattle.plan_frame.specs.Made.{made_schema}
 use Rattle.plan_builder.specs.Builds.{Adds, columns_at, grouping, IsBuilt, MayFollow}
 use Rattle.plan_builder.proofs.Follow.{over_follow}

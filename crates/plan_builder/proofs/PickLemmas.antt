@@ -9,7 +9,7 @@ use Rattle.plan_core.specs.Columns.{Columns, names_of, type_of, with_type}
 use Rattle.plan_core.specs.Errors.{item_at}
 use Rattle.plan_core.specs.Names.{has}
 use Rattle.plan_expr.specs.Leaves.{Name}
-use Rattle.plan_meaning.specs.Typing.{each_new}
+use Rattle.plan_meaning.specs.Checks.{each_new}
 use Rattle.plan_frame.proofs.NameSets.{some-type_of}
 use Rattle.plan_builder.specs.Picks.{first_item_fault, Picks}
 use Rattle.plan_builder.proofs.Faults.{NewLeft, new-all, new-bad, new-end, new-next}

@@ -11,7 +11,7 @@ use Rattle.plan_expr.specs.declared.aexpr.AExpr.{AExpr}
 use Rattle.plan_expr.specs.declared.aexpr.AExpr.TheVariants.{Column}
 use Rattle.plan_expr.specs.Leaves.{Name}
 use Rattle.plan_expr.specs.Walks.{column_name}
-use Rattle.plan_meaning.specs.Typing.{Check, each, each_new, is_known}
+use Rattle.plan_meaning.specs.Checks.{Check, each, each_new, is_known}
 
 -- the columns have these names, in order, and the types that they have among others
 pub record Picks (s : Columns) (names : List Name) (cs : Columns) : Type 0 where

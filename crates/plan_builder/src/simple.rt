@@ -4,7 +4,8 @@ ghost use Rattle.plan_core.specs.declared.error.PolarsError.TheVariants.{SchemaF
 ghost use Rattle.plan_core.specs.Columns.{Columns};
 ghost use Rattle.plan_core.specs.Errors.{item_at};
 ghost use Rattle.plan_ir.specs.declared.ir.IR.TheVariants.{SimpleProjection};
-ghost use Rattle.plan_meaning.specs.Typing.{each, each_new, is_known, Says};
+ghost use Rattle.plan_meaning.specs.Checks.{each, each_new, is_known};
+ghost use Rattle.plan_meaning.specs.Typing.{Says};
 ghost use Rattle.plan_builder.specs.Builds.{Adds, columns_at, IsBuilt, Stays};
 ghost use Rattle.plan_builder.specs.Picks.{column_at, first_item_fault, IsColumn, name_checks, Picks};
 

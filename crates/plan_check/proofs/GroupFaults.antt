@@ -25,7 +25,8 @@ use Rattle.plan_expr.specs.Scalars.{is_scalar}
 use Rattle.plan_expr.specs.Types.{list_of, all_of}
 use Rattle.plan_frame.specs.Exprs.{all_known, expr_type, op_type}
 use Rattle.plan_frame.specs.Grouping.{gathered, gathered_expr, group_exprs}
-use Rattle.plan_meaning.specs.Typing.{Check, check, each, each_new, first_fault, or_fault, form_checks, leaf_checks, type_checks, once_checks, stored_checks, naming_checks, made_checks}
+use Rattle.plan_meaning.specs.Checks.{Check, check, each, each_new, form_checks, leaf_checks, type_checks, once_checks, stored_checks, naming_checks}
+use Rattle.plan_meaning.specs.Typing.{first_fault, or_fault, made_checks}
 use Rattle.plan_frame.specs.Made.{made_schema}
 use Rattle.plan_frame.specs.ExprLists.{out_names}
 use Rattle.plan_frame.proofs.GroupLemmas.{gathered-leaves, gathered-names}

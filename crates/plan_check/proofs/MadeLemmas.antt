@@ -16,7 +16,7 @@ use Rattle.plan_expr.specs.Forms.{has_form}
 use Rattle.plan_expr.specs.Leaves.{leaves}
 use Rattle.plan_expr.specs.Naming.{naming, may_be_named, name_of}
 use Rattle.plan_frame.specs.Exprs.{all_known, expr_type}
-use Rattle.plan_meaning.specs.Typing.{each, each_new, form_checks, leaf_checks, type_checks, plain_checks, is_plain_type, once_checks, naming_checks}
+use Rattle.plan_meaning.specs.Checks.{each, each_new, form_checks, leaf_checks, type_checks, plain_checks, is_plain_type, once_checks, naming_checks}
 use Rattle.plan_frame.specs.Made.{made_schema}
 use Rattle.plan_function.proofs.CheckLemmas.{each-map}
 

@@ -7,7 +7,8 @@ use Rattle.plan_core.specs.declared.error.PolarsError.{PolarsError}
 use Rattle.plan_core.specs.Columns.{Columns}
 use Rattle.plan_core.specs.Names.{has, with_name, with_names}
 use Rattle.plan_expr.specs.Leaves.{Name}
-use Rattle.plan_meaning.specs.Typing.{Check, check, each, has_columns, all_read, is_column, put_out_checks}
+use Rattle.plan_meaning.specs.Checks.{Check, check, each, is_column}
+use Rattle.plan_meaning.specs.Typing.{has_columns, all_read, put_out_checks}
 
 or_assoc : (a b c : Bool) → ((a || b) || c) ≡ (a || (b || c))
 or_assoc true b c = refl

@@ -1,7 +1,8 @@
 //! Checks that go over columns in order.
 ghost use Rattle.std.specs.Prelude.{◌≡◌, ◌+◌, ◌<◌, ◌^◌, length, ◌&&◌};
 ghost use Rattle.plan_core.specs.declared.error.PolarsError.TheVariants.{SchemaFieldNotFound, SchemaMismatch};
-ghost use Rattle.plan_meaning.specs.Typing.{all_read as are_all_read, each, has_columns, is_column as is_one, is_known, stored_checks, first_fault, Says};
+ghost use Rattle.plan_meaning.specs.Checks.{each, is_column as is_one, is_known, stored_checks};
+ghost use Rattle.plan_meaning.specs.Typing.{all_read as are_all_read, has_columns, first_fault, Says};
 
 use plan_core::{DataType, Names, Node, PolarsError, PolarsResult, Schema};
 use plan_function::{at, is_column};

@@ -8,7 +8,8 @@ ghost use Rattle.plan_expr.specs.Exprs.{all_named_at, expr_at};
 ghost use Rattle.plan_ir.specs.Plans.{group_by};
 ghost use Rattle.plan_frame.specs.Exprs.{expr_type as type_of_expr};
 ghost use Rattle.plan_frame.specs.Grouping.{gathered, gathered_expr, group_exprs};
-ghost use Rattle.plan_meaning.specs.Typing.{each, is_built_group, type_checks, first_fault, Says, IsMade};
+ghost use Rattle.plan_meaning.specs.Checks.{each, type_checks};
+ghost use Rattle.plan_meaning.specs.Typing.{is_built_group, first_fault, Says, IsMade};
 ghost use Rattle.plan_frame.specs.Made.{made_schema as schema_made};
 ghost use Rattle.plan_meaning.specs.Typed.{IsNodeTyped};
 

@@ -4,7 +4,8 @@ ghost use Rattle.plan_core.specs.declared.error.PolarsError.TheVariants.{Duplica
 ghost use Rattle.plan_options.specs.declared.union.HConcatOptions.{HConcatOptions};
 ghost use Rattle.plan_ir.specs.Plans.{hconcat};
 ghost use Rattle.plan_frame.specs.Beside.{are_apart, side_by_side as columns_beside};
-ghost use Rattle.plan_meaning.specs.Typing.{check, first_fault, Says};
+ghost use Rattle.plan_meaning.specs.Checks.{check};
+ghost use Rattle.plan_meaning.specs.Typing.{first_fault, Says};
 ghost use Rattle.plan_meaning.specs.Typed.{IsNodeTyped};
 
 use crate::columns::check_stored;

@@ -6,7 +6,8 @@ ghost use Rattle.plan_core.specs.declared.options.ProjectionOptions.{ProjectionO
 ghost use Rattle.plan_expr.specs.Operands.{IsExpr};
 ghost use Rattle.plan_expr.specs.Exprs.{all_named_at};
 ghost use Rattle.plan_ir.specs.Plans.{hstack, select};
-ghost use Rattle.plan_meaning.specs.Typing.{form_checks, leaf_checks, type_checks, once_checks, naming_checks, first_fault, Says, IsMade};
+ghost use Rattle.plan_meaning.specs.Checks.{form_checks, leaf_checks, type_checks, once_checks, naming_checks};
+ghost use Rattle.plan_meaning.specs.Typing.{first_fault, Says, IsMade};
 ghost use Rattle.plan_frame.specs.Made.{made_schema as schema_made};
 ghost use Rattle.plan_meaning.specs.Typed.{IsNodeTyped};
 

@@ -6,7 +6,8 @@ ghost use Rattle.plan_expr.specs.Exprs.{named_at};
 ghost use Rattle.plan_ir.specs.Plans.{scan};
 ghost use Rattle.plan_ir.specs.declared.scan.FileScan.{FileScan};
 ghost use Rattle.plan_ir.specs.declared.scan.ScanSources.{ScanSources};
-ghost use Rattle.plan_meaning.specs.Typing.{columns_or, file_columns, is_none, each_new, put_out_checks, scan_checks, scan_column_checks, scan_name_checks, first_fault, Says};
+ghost use Rattle.plan_meaning.specs.Checks.{is_none, each_new};
+ghost use Rattle.plan_meaning.specs.Typing.{columns_or, file_columns, put_out_checks, scan_checks, scan_column_checks, scan_name_checks, first_fault, Says};
 ghost use Rattle.plan_frame.specs.Frames.{names_or};
 ghost use Rattle.plan_meaning.specs.Typed.{IsNodeTyped};
 

@@ -4,7 +4,8 @@ ghost use Rattle.std.specs.Prelude.{◌≡◌, [], ◌∷◌, All, length};
 ghost use Rattle.plan_expr.specs.Operands.{IsExpr};
 ghost use Rattle.plan_expr.specs.Exprs.{all_named_at};
 ghost use Rattle.plan_ir.specs.Plans.{sort};
-ghost use Rattle.plan_meaning.specs.Typing.{are_marks, is_built_sort, is_plain_type, key_checks, plain_checks, first_fault, Says};
+ghost use Rattle.plan_meaning.specs.Checks.{is_plain_type, plain_checks};
+ghost use Rattle.plan_meaning.specs.Typing.{are_marks, is_built_sort, key_checks, first_fault, Says};
 ghost use Rattle.plan_meaning.specs.Typed.{IsNodeTyped};
 
 use crate::made::{check_forms, check_leaves, check_namings};

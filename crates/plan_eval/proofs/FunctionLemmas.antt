@@ -13,7 +13,8 @@ use Rattle.plan_expr.specs.Leaves.{Name}
 use Rattle.plan_frame.specs.Frames.{Column}
 use Rattle.plan_meaning.specs.Functions.{become_one, name_in, names_now, new_name, renamed, stay_apart}
 use Rattle.plan_frame.specs.Reshaped.{renamed_columns, row_numbers}
-use Rattle.plan_meaning.specs.Typing.{AllHold, Check, check, each_new, rename_checks, row_index_checks}
+use Rattle.plan_meaning.specs.Checks.{Check, check, each_new}
+use Rattle.plan_meaning.specs.Typing.{AllHold, rename_checks, row_index_checks}
 use Rattle.plan_frame.specs.Values.{Value, whole}
 use Rattle.plan_meaning.proofs.CheckParts.{hold_back}
 use Rattle.plan_function.proofs.RenameLemmas.{names-renamed, or_false}

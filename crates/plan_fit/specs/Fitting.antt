@@ -8,7 +8,8 @@ use Rattle.plan_ir.specs.declared.scan.ScanSources.{ScanSources}
 use Rattle.plan_ir.specs.declared.scan.ScanSources.TheVariants.{Paths}
 use Rattle.plan_ir.specs.Plans.{Op, slice, filter, scan, frame_scan, simple_projection, select, hstack, sort, group_by, distinct, map_function, sink, union, hconcat, cache, invalid}
 use Rattle.plan_ir.specs.declared.scan.FileInfo.{FileInfo}
-use Rattle.plan_meaning.specs.Typing.{file_columns, is_column}
+use Rattle.plan_meaning.specs.Checks.{is_column}
+use Rattle.plan_meaning.specs.Typing.{file_columns}
 use Rattle.plan_table.specs.declared.source_key.SourceKey.{SourceKey}
 use Rattle.plan_table.specs.declared.source_key.SourceKey.TheVariants as keys
 use Rattle.plan_table.specs.declared.table.Table.{Table}

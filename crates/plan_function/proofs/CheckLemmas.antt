@@ -9,7 +9,8 @@ use Rattle.plan_core.specs.Names.{has}
 use Rattle.plan_core.specs.Columns.{Columns}
 use Rattle.plan_core.specs.declared.data_type.DataType.{DataType}
 use Rattle.plan_expr.specs.Leaves.{Name}
-use Rattle.plan_meaning.specs.Typing.{Check, check, each, each_new, all_read, has_columns, first_fault, or_fault, at}
+use Rattle.plan_meaning.specs.Checks.{Check, check, each, each_new}
+use Rattle.plan_meaning.specs.Typing.{all_read, has_columns, first_fault, or_fault, at}
 
 -- the items from a place on
 pub drop-at : {A : Type 0} (xs : List A) (i : ℕ) (x : A) → slice_get xs i ≡ Some x → drop i xs ≡ x ∷ drop (suc i) xs

@@ -18,7 +18,8 @@ use Rattle.plan_frame.specs.Reshaped.{renamed_columns}
 use Rattle.std.proofs.lemmas.Bool.{and_parts, not-true, false_from_ne_true, eq-eqb}
 use Rattle.std.proofs.lemmas.List.{append-nil, map-append}
 use Rattle.plan_frame.proofs.NameSets.{named, same_named, has_cons, has_first, has_later, has_front, has_back, has_either, only, some-type_of, distinct_cons, names-append}
-use Rattle.plan_meaning.specs.Typing.{Check, check, each_new, first_fault, or_fault, at, rename_checks}
+use Rattle.plan_meaning.specs.Checks.{Check, check, each_new}
+use Rattle.plan_meaning.specs.Typing.{first_fault, or_fault, at, rename_checks}
 use Rattle.plan_function.proofs.CheckLemmas.{drop-at, drop-end, fault_append}
 
 abbrev pub Entries : Type 0

@@ -6,7 +6,8 @@ ghost use Rattle.plan_core.specs.Names.{has};
 ghost use Rattle.plan_ir.specs.declared.functions.FunctionIR.TheVariants.{Explode};
 ghost use Rattle.plan_ir.specs.Plans.{map_function};
 ghost use Rattle.plan_frame.specs.Reshaped.{exploded_columns, item_type as type_of_items};
-ghost use Rattle.plan_meaning.specs.Typing.{each, explode_checks, is_list_type, first_fault, Says};
+ghost use Rattle.plan_meaning.specs.Checks.{each};
+ghost use Rattle.plan_meaning.specs.Typing.{explode_checks, is_list_type, first_fault, Says};
 ghost use Rattle.plan_meaning.specs.Typed.{IsNodeTyped};
 
 use crate::names::{check_names_known, set_of};

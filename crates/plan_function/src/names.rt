@@ -2,7 +2,8 @@
 ghost use Rattle.std.specs.Prelude.{◌≡◌, ◌+◌, ◌<◌, ◌^◌, length, [], IfOk};
 ghost use Rattle.plan_core.specs.declared.error.PolarsError.TheVariants.{SchemaFieldNotFound, SchemaMismatch};
 ghost use Rattle.plan_core.specs.Names.{with_names};
-ghost use Rattle.plan_meaning.specs.Typing.{each, each_new, is_column as is_one, is_known, first_fault, Says};
+ghost use Rattle.plan_meaning.specs.Checks.{each, each_new, is_column as is_one, is_known};
+ghost use Rattle.plan_meaning.specs.Typing.{first_fault, Says};
 
 use crate::place::at;
 use plan_core::{DataType, Names, Node, PlSmallStr, PolarsError, PolarsResult, Schema};

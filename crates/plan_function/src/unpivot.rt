@@ -9,7 +9,8 @@ ghost use Rattle.plan_ir.specs.declared.functions.FunctionIR.TheVariants.{Unpivo
 ghost use Rattle.plan_ir.specs.Plans.{map_function};
 ghost use Rattle.plan_meaning.specs.Functions.{all_differ, first_type as has_first_type, unpivoted_names, variable_name as variable_named, value_name as value_named};
 ghost use Rattle.plan_frame.specs.Reshaped.{columns_at as columns_named, type_or as has_type_or};
-ghost use Rattle.plan_meaning.specs.Typing.{is_column as is_one, unpivot_checks, unpivot_name_checks, unpivot_type_checks, first_fault, Says};
+ghost use Rattle.plan_meaning.specs.Checks.{is_column as is_one};
+ghost use Rattle.plan_meaning.specs.Typing.{unpivot_checks, unpivot_name_checks, unpivot_type_checks, first_fault, Says};
 ghost use Rattle.plan_meaning.specs.Typed.{IsNodeTyped};
 
 use crate::names::{check_names_known, check_names_typed, is_column};

@@ -1,6 +1,7 @@
 -- Copies of the nodes and expressions of a plan, in walk order and numbered so, are that plan.
-use Rattle.std.proofs.Common.{◌≡◌, ℕ, ◌<◌, All, List, [], ◌∷◌, ◌++◌, length, map, take, drop, nat_eq, Some, None, refl, sym, ap, ap₂, ◌∙◌}
+use Rattle.std.proofs.Common.{◌≡◌, ℕ, ◌<◌, All, List, [], ◌∷◌, ◌++◌, length, map, take, drop, nat_eq, Some, None, Option, refl, sym, ap, ap₂, ◌∙◌}
 use Rattle.std.specs.List.{AllByRecursion, IsDistinct, flat_map, range_with_len, slice_get}
+use Rattle.std.specs.Option.{option_map}
 use Rattle.std.proofs.lemmas.Grind.{flat_map-append}
 use Rattle.std.proofs.lemmas.List.{length-map, map-append, take-append-drop}
 use Rattle.std.proofs.lemmas.List.Elements.{All-from_recursion}
@@ -20,14 +21,20 @@ use Rattle.plan_expr.specs.declared.aexpr.AExpr.{AExpr}
 use Rattle.plan_expr.specs.declared.aexpr.AExpr.TheVariants.{Column, Literal, Alias, BinaryExpr, Ternary, Agg, Function, Window, Len}
 use Rattle.plan_expr.specs.declared.expr_ir.ExprIR.{ExprIR}
 use Rattle.plan_ir.specs.declared.ir.IR.{IR}
-use Rattle.plan_ir.specs.declared.ir.IR.TheVariants.{Slice, Filter, Scan, DataFrameScan, SimpleProjection, Select, HStack, Sort, GroupBy, Distinct, MapFunction, Sink, Union, HConcat, Cache, Invalid}
+use Rattle.plan_ir.specs.declared.ir.IR.TheVariants.{Slice, Filter, Scan, DataFrameScan, SimpleProjection, Select, HStack, Sort, GroupBy, Join, Distinct, MapFunction, Sink, Union, HConcat, Cache, Invalid}
+use Rattle.plan_core.specs.Columns.{Columns}
+use Rattle.plan_join.specs.Told.{Told, KindOptions, condition, kind_options_at}
+use Rattle.plan_join.specs.declared.options.JoinOptions.{JoinOptions}
+use Rattle.plan_join.specs.declared.options.JoinTypeOptionsIR.{JoinTypeOptionsIR}
+use Rattle.plan_join.specs.declared.options.JoinTypeOptionsIR.TheVariants.{IEJoin, Cross}
 use Rattle.plan_ir.specs.Copies.{IsRenumbered, Lists}
 use Rattle.plan_ir.specs.Moved.{entries_at, moved_expr, moved_named, moved_node, new_number}
 use Rattle.plan_expr.specs.Operands.{expr_shape, operands_of}
-use Rattle.plan_ir.specs.Parts.{plan_shape, inputs_of, is_invalid, roots_of, roots_in, StandsPlan, IsPlan}
+use Rattle.plan_ir.specs.Parts.{condition_in, condition_of, inputs_of, is_invalid, list_of, options_over, plan_shape, roots_of, roots_in, told_over, StandsPlan, IsPlan}
 use Rattle.plan_expr.specs.Exprs.{aggregate, Expr, Named, all_named_at, expr_op, expr_at, exprs_at, named_at}
-use Rattle.plan_ir.specs.Plans.{Op, filter, scan, select, hstack, sort, group_by, op_at, plans_of, bare}
+use Rattle.plan_ir.specs.Plans.{Op, filter, scan, select, hstack, sort, group_by, join, op_at, plans_of, bare}
 use Rattle.plan_ir.proofs.EntryLemmas.{entries_at-labels}
+use Rattle.plan_ir.proofs.PartLemmas.{ap-three, first-part, second-part, last-part}
 use Rattle.plan_expr.specs.Aggregates.{agg_input}
 use Rattle.plan_expr.proofs.AggLemmas.{input-over, op-over}
 use Rattle.plan_expr.proofs.ExprLemmas.{exprs_at-is}
@@ -113,6 +120,7 @@ module _ (nodes exprs : List Node) where
   inputs-moved (HStack input own schema options) = refl
   inputs-moved (Sort input by_column slice sort_options) = refl
   inputs-moved (GroupBy input keys aggs schema maintain_order options) = refl
+  inputs-moved (Join input_left input_right schema left_on right_on options) = refl
   inputs-moved (Distinct input options) = refl
   inputs-moved (MapFunction input function) = refl
   inputs-moved (Sink input payload) = refl
@@ -131,6 +139,7 @@ module _ (nodes exprs : List Node) where
   invalid-moved (HStack input own schema options) = refl
   invalid-moved (Sort input by_column slice sort_options) = refl
   invalid-moved (GroupBy input keys aggs schema maintain_order options) = refl
+  invalid-moved (Join input_left input_right schema left_on right_on options) = refl
   invalid-moved (Distinct input options) = refl
   invalid-moved (MapFunction input function) = refl
   invalid-moved (Sink input payload) = refl
@@ -151,6 +160,38 @@ module _ (nodes exprs : List Node) where
       ap₂ drop (sym (length-map keys (moved_named exprs))) (map-append (moved_named exprs) keys aggs)
       ∙ drop-append_seam (map (moved_named exprs) keys) (map (moved_named exprs) aggs)
 
+  -- the parts of moved keys and a condition are those of the keys and the condition, moved
+  module _ (ls rs cs : List ExprIR) where
+    three-moved : map (moved_named exprs) ((ls ++ rs) ++ cs) ≡ (map (moved_named exprs) ls ++ map (moved_named exprs) rs) ++ map (moved_named exprs) cs
+    three-moved = map-append (moved_named exprs) (ls ++ rs) cs ∙ ap (λ (x : List ExprIR). x ++ map (moved_named exprs) cs) (map-append (moved_named exprs) ls rs)
+
+    pub left-moved : take (length ls) (map (moved_named exprs) ((ls ++ rs) ++ cs)) ≡ map (moved_named exprs) ls
+    left-moved = ap₂ take (sym (length-map ls (moved_named exprs))) three-moved ∙ first-part (map (moved_named exprs) ls) (map (moved_named exprs) rs) (map (moved_named exprs) cs)
+
+    behind-moved : drop (length ls) (map (moved_named exprs) ((ls ++ rs) ++ cs)) ≡ drop (length (map (moved_named exprs) ls)) ((map (moved_named exprs) ls ++ map (moved_named exprs) rs) ++ map (moved_named exprs) cs)
+    behind-moved = ap₂ drop (sym (length-map ls (moved_named exprs))) three-moved
+
+    pub right-moved : take (length rs) (drop (length ls) (map (moved_named exprs) ((ls ++ rs) ++ cs))) ≡ map (moved_named exprs) rs
+    right-moved = ap₂ take (sym (length-map rs (moved_named exprs))) behind-moved ∙ second-part (map (moved_named exprs) ls) (map (moved_named exprs) rs) (map (moved_named exprs) cs)
+
+    pub condition-moved : drop (length rs) (drop (length ls) (map (moved_named exprs) ((ls ++ rs) ++ cs))) ≡ map (moved_named exprs) cs
+    condition-moved = ap₂ drop (sym (length-map rs (moved_named exprs))) behind-moved ∙ last-part (map (moved_named exprs) ls) (map (moved_named exprs) rs) (map (moved_named exprs) cs)
+
+  -- the condition of a join that is told what another is, with the condition moved
+  told-moved : (o : Option JoinTypeOptionsIR) → list_of (condition_in (told_over o (slice_get (map (moved_named exprs) (list_of (condition_in o))) 0))) ≡ map (moved_named exprs) (list_of (condition_in o))
+  told-moved None = refl
+  told-moved (Some (IEJoin operators)) = refl
+  told-moved (Some (Cross predicate)) = refl
+
+  -- a moved join
+  pub join-moved : (l r : Node) (schema : Columns) (ls rs : List ExprIR) (o : JoinOptions) → moved_node nodes exprs (Join l r schema ls rs o) ≡ Join (new_number nodes l) (new_number nodes r) schema (map (moved_named exprs) ls) (map (moved_named exprs) rs) (options_over o (slice_get (map (moved_named exprs) (list_of (condition_of o))) 0))
+  join-moved l r schema ls rs o =
+      let cs = list_of (condition_of o) in
+      ap-three (λ (x y : List ExprIR) (u : JoinOptions). Join (new_number nodes l) (new_number nodes r) schema x y u)
+      (left-moved ls rs cs)
+      (right-moved ls rs cs)
+      (ap (λ (es : List ExprIR). options_over o (slice_get es 0)) (condition-moved ls rs cs))
+
   nodes-moved : (es : List ExprIR) → map (λ (e : ExprIR). e.node) (map (moved_named exprs) es) ≡ map (new_number exprs) (map (λ (e : ExprIR). e.node) es)
   nodes-moved es = sym (map_twice (λ (e : ExprIR). e.node) (moved_named exprs) es) ∙ map_twice (new_number exprs) (λ (e : ExprIR). e.node) es
 
@@ -165,6 +206,12 @@ module _ (nodes exprs : List Node) where
   roots-moved (HStack input own schema options) = nodes-moved own
   roots-moved (Sort input by_column slice sort_options) = nodes-moved by_column
   roots-moved (GroupBy input keys aggs schema maintain_order options) = ap (map (λ (e : ExprIR). e.node)) (take-append-drop (length keys) (map (moved_named exprs) (keys ++ aggs))) ∙ nodes-moved (keys ++ aggs)
+  roots-moved (Join input_left input_right schema left_on right_on options) =
+      let cs = list_of (condition_of options) in
+      ap roots_of (join-moved input_left input_right schema left_on right_on options)
+      ∙ ap (λ (es : List ExprIR). map (λ (e : ExprIR). e.node) ((map (moved_named exprs) left_on ++ map (moved_named exprs) right_on) ++ es)) (told-moved options.options)
+      ∙ ap (map (λ (e : ExprIR). e.node)) (sym (three-moved left_on right_on cs))
+      ∙ nodes-moved ((left_on ++ right_on) ++ cs)
   roots-moved (Distinct input options) = refl
   roots-moved (MapFunction input function) = refl
   roots-moved (Sink input payload) = refl
@@ -195,6 +242,12 @@ module _ (ex ex' : List AExpr) (nodes exprs : List Node) where
   all-moved [] same = refl
   all-moved (e ∷ es) same = ap₂ (λ (n : Named) (ns : List Named). n ∷ ns) (named-moved e same.0) (all-moved es same.1)
 
+  -- what a join is told, with its condition moved
+  told_at-moved : (o : Option JoinTypeOptionsIR) → AllByRecursion Same (map (λ (e : ExprIR). e.node) (list_of (condition_in o))) → option_map (kind_options_at ex') (told_over o (slice_get (map (moved_named exprs) (list_of (condition_in o))) 0)) ≡ option_map (kind_options_at ex) o
+  told_at-moved None same = refl
+  told_at-moved (Some (IEJoin operators)) same = refl
+  told_at-moved (Some (Cross predicate)) same = ap (λ (n : Named). Some (condition n)) (named-moved predicate same.0)
+
   op_at-moved : (p : IR) → AllByRecursion Same (roots_of p) → op_at ex' (moved_node nodes exprs p) ≡ op_at ex p
   op_at-moved (Slice input offset len) same = refl
   op_at-moved (Filter input predicate) same = ap filter (named-moved predicate same.0)
@@ -210,6 +263,16 @@ module _ (ex ex' : List AExpr) (nodes exprs : List Node) where
       ap₂ (λ (ks others : List Named). group_by ks others schema maintain_order options)
       (ap (all_named_at ex') (keys-moved nodes exprs keys aggs) ∙ all-moved keys (all_first Same (map (λ (e : ExprIR). e.node) keys) (map (λ (e : ExprIR). e.node) aggs) parts))
       (ap (all_named_at ex') (aggs-moved nodes exprs keys aggs) ∙ all-moved aggs (all_second Same (map (λ (e : ExprIR). e.node) keys) (map (λ (e : ExprIR). e.node) aggs) parts))
+  op_at-moved (Join input_left input_right schema left_on right_on options) same =
+      let cs = list_of (condition_of options) in
+      let number = λ (e : ExprIR). e.node in
+      let parts : AllByRecursion Same ((map number left_on ++ map number right_on) ++ map number cs) = rw (← map-append number left_on right_on) (rw (← map-append number (left_on ++ right_on) cs) same) in
+      let keys = all_first Same (map number left_on ++ map number right_on) (map number cs) parts in
+      ap (op_at ex') (join-moved nodes exprs input_left input_right schema left_on right_on options)
+      ∙ ap-three (λ (ls rs : List Named) (o : Option KindOptions). let told : Told = record { allow_parallel = options.allow_parallel; force_parallel = options.force_parallel; args = options.args; options = o } in join ls rs schema told)
+      (all-moved left_on (all_first Same (map number left_on) (map number right_on) keys))
+      (all-moved right_on (all_second Same (map number left_on) (map number right_on) keys))
+      (told_at-moved options.options (all_second Same (map number left_on ++ map number right_on) (map number cs) parts))
   op_at-moved (Distinct input options) same = refl
   op_at-moved (MapFunction input function) same = refl
   op_at-moved (Sink input payload) same = refl

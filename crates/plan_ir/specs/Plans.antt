@@ -14,6 +14,7 @@ use Rattle.plan_tree.specs.Stands.{Trees}
 use Rattle.plan_tree.specs.Read.{trees_at}
 use Rattle.plan_tree.specs.Rose.{Rose, Roses, map_roses}
 use Rattle.plan_expr.specs.declared.aexpr.AExpr.{AExpr}
+use Rattle.plan_join.specs.Told.{Told, told_at}
 use Rattle.plan_ir.specs.declared.scan.FileInfo.{FileInfo}
 use Rattle.plan_ir.specs.declared.scan.FileScan.{FileScan}
 use Rattle.plan_ir.specs.declared.scan.ScanSources.{ScanSources}
@@ -34,6 +35,7 @@ pub data Op : Type 0 where
   hstack : (exprs : List Named) → (schema : Columns) → (options : ProjectionOptions) → Op
   sort : (keys : List Named) → (cut : Option (ℤ × ℕ)) → (options : SortMultipleOptions) → Op
   group_by : (keys aggs : List Named) → (schema : Columns) → (maintain_order : Bool) → (options : GroupbyOptions) → Op
+  join : (left_on right_on : List Named) → (schema : Columns) → (told : Told) → Op
   distinct : (options : DistinctOptionsIR) → Op
   map_function : (function : FunctionIR) → Op
   sink : (payload : SinkType) → Op
@@ -57,6 +59,7 @@ op_at ex (nodes.Select input expr schema options) = select (all_named_at ex expr
 op_at ex (nodes.HStack input exprs schema options) = hstack (all_named_at ex exprs) schema options
 op_at ex (nodes.Sort input by_column cut sort_options) = sort (all_named_at ex by_column) cut sort_options
 op_at ex (nodes.GroupBy input keys aggs schema maintain_order options) = group_by (all_named_at ex keys) (all_named_at ex aggs) schema maintain_order options
+op_at ex (nodes.Join input_left input_right schema left_on right_on options) = join (all_named_at ex left_on) (all_named_at ex right_on) schema (told_at ex options)
 op_at ex (nodes.Distinct input options) = distinct options
 op_at ex (nodes.MapFunction input function) = map_function function
 op_at ex (nodes.Sink input payload) = sink payload

@@ -6,7 +6,7 @@ use Rattle.plan_core.specs.Names.{with_names}
 use Rattle.plan_core.specs.declared.options.FileScanOptions.{FileScanOptions}
 use Rattle.plan_ir.specs.declared.scan.FileInfo.{FileInfo}
 use Rattle.plan_ir.specs.declared.ir.IR.{IR}
-use Rattle.plan_ir.specs.declared.ir.IR.TheVariants.{Slice, Filter, Scan, DataFrameScan, SimpleProjection, Select, HStack, Sort, GroupBy, Distinct, MapFunction, Sink, Union, HConcat, Cache, Invalid}
+use Rattle.plan_ir.specs.declared.ir.IR.TheVariants.{Slice, Filter, Scan, DataFrameScan, SimpleProjection, Select, HStack, Sort, GroupBy, Join, Distinct, MapFunction, Sink, Union, HConcat, Cache, Invalid}
 
 -- a node that reads from sources
 abbrev pub is_scan : IR → Bool
@@ -19,6 +19,7 @@ is_scan (Select input expr schema options) = false
 is_scan (HStack input exprs schema options) = false
 is_scan (Sort input by_column slice sort_options) = false
 is_scan (GroupBy input keys aggs schema maintain_order options) = false
+is_scan (Join input_left input_right schema left_on right_on options) = false
 is_scan (Distinct input options) = false
 is_scan (MapFunction input function) = false
 is_scan (Sink input payload) = false
@@ -54,6 +55,7 @@ reads_of (Select input expr schema options) = []
 reads_of (HStack input exprs schema options) = []
 reads_of (Sort input by_column slice sort_options) = []
 reads_of (GroupBy input keys aggs schema maintain_order options) = []
+reads_of (Join input_left input_right schema left_on right_on options) = []
 reads_of (Distinct input options) = []
 reads_of (MapFunction input function) = []
 reads_of (Sink input payload) = []

@@ -5,6 +5,7 @@ use crate::functions::FunctionIR;
 use crate::scan::{FileInfo, FileScan, ScanSources};
 use plan_core::{FileScanOptions, Items, Node, ProjectionOptions, Schema, TryClone};
 use plan_expr::ExprIR;
+use plan_join::JoinOptions;
 use plan_options::{
     DistinctOptionsIR, GroupbyOptions, HConcatOptions, SinkType, SortMultipleOptions, UnionOptions,
 };
@@ -110,6 +111,22 @@ pub enum IR {
         maintain_order: bool,
         /// Which groups are put out.
         options: GroupbyOptions,
+    },
+    /// For pairs of rows that match, a row of the columns of both; by its kind also rows that match none, with null where a row
+    /// is absent. `schema` lists the columns.
+    Join {
+        /// The number of the node whose rows are the left ones.
+        input_left: Node,
+        /// The number of the node whose rows are the right ones.
+        input_right: Node,
+        /// The columns of the node, in order.
+        schema: Schema,
+        /// The keys over the left columns, in order; as many as over the right ones.
+        left_on: Items<ExprIR>,
+        /// The keys over the right columns, in order.
+        right_on: Items<ExprIR>,
+        /// Which pairs of rows there are, in which order, and how the columns are named.
+        options: JoinOptions,
     },
     /// Of the rows that are the same in some columns one, or those that are alone.
     Distinct {

@@ -8,6 +8,7 @@ mod ir;
 mod iterator;
 mod moving;
 mod numbering;
+mod over;
 mod parts;
 mod reading;
 mod scan;

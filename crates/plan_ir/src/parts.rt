@@ -1,12 +1,11 @@
 //! The parts of nodes: inputs and expressions.
-ghost use Rattle.std.specs.Prelude.{◌≡◌, ◌≤◌, ◌++◌, ◌∷◌, [], length, map, IfOk, IsTrue, OnOk};
-ghost use Rattle.plan_ir.specs.Parts.{exprs_of, exprs_over, inputs_of, list_of, over_parts};
-ghost use Rattle.plan_ir.specs.Parts.{is_file_scan, is_frame_scan, is_group_by, is_hstack, is_select, is_sort};
+ghost use Rattle.std.specs.Prelude.{◌≡◌, ◌++◌, length, map, IfOk, OnOk};
+ghost use Rattle.plan_ir.specs.Parts.{condition_of, exprs_of, exprs_over, inputs_of, list_of, listed_exprs_of, over_parts};
 
 use crate::ir::IR;
-use crate::split::split_at;
 use plan_core::{Items, Node, TryClone, UnitVec};
 use plan_expr::ExprIR;
+use plan_join::{JoinOptions, JoinTypeOptionsIR};
 use plan_tree::Entry;
 use std::alloc::{AllocError, Global};
 
@@ -37,6 +36,15 @@ impl Entry for IR {
                 out.push(*input)?;
                 Ok(())
             }
+            IR::Join {
+                input_left,
+                input_right,
+                ..
+            } => {
+                out.push(*input_left)?;
+                out.push(*input_right)?;
+                Ok(())
+            }
             IR::Union { inputs, .. } | IR::HConcat { inputs, .. } => {
                 for input in inputs.as_slice() {
                     out.push(*input)?;
@@ -50,10 +58,22 @@ impl Entry for IR {
 
 impl IR {
     /// The expressions, in order: for a filter its predicate, for a scan the predicate that it may have, for a selection
-    /// and an addition of columns those that make them, for a sort its keys, for a grouping its keys and then its aggregates.
-    /// Refuses for want of memory alone.
+    /// and an addition of columns those that make them, for a sort its keys, for a grouping its keys and then its aggregates,
+    /// for a join its left keys, its right keys, and then the condition that it may have. Refuses for want of memory alone.
     pub fn exprs(&self, alloc: Global) -> Result<Items<&ExprIR>, AllocError>
         ensures { IfOk result (λ exprs. map (λ e. e.now) exprs ≡ exprs_of self.now) }
+    {
+        let mut exprs = self.listed_exprs(alloc)?;
+        match self {
+            IR::Join { options, .. } => append_condition(options, &mut exprs)?,
+            _ => {}
+        }
+        Ok(exprs)
+    }
+
+    /// The expressions, in order, but for the condition of a join. Refuses for want of memory alone.
+    fn listed_exprs(&self, alloc: Global) -> Result<Items<&ExprIR>, AllocError>
+        ensures { IfOk result (λ exprs. map (λ e. e.now) exprs ≡ listed_exprs_of self.now) }
     {
         let mut exprs = Items::new(alloc);
         match self {
@@ -73,9 +93,18 @@ impl IR {
             } => {
                 append(list.as_slice(), &mut exprs)?;
             }
-            IR::GroupBy { keys, aggs, .. } => {
-                append(keys.as_slice(), &mut exprs)?;
-                append(aggs.as_slice(), &mut exprs)?;
+            IR::GroupBy {
+                keys: first,
+                aggs: others,
+                ..
+            }
+            | IR::Join {
+                left_on: first,
+                right_on: others,
+                ..
+            } => {
+                append(first.as_slice(), &mut exprs)?;
+                append(others.as_slice(), &mut exprs)?;
             }
             IR::Slice { .. }
             | IR::DataFrameScan { .. }
@@ -91,19 +120,20 @@ impl IR {
         Ok(exprs)
     }
 
-    /// Appends copies of the expressions, in order. Refuses for want of memory alone.
+    /// Appends copies of the expressions, in order; the condition of a join isn't among them. Refuses for want of memory
+    /// alone.
     pub fn copy_exprs(&self, alloc: Global, out: &mut Items<ExprIR>) -> Result<(), AllocError>
-        ensures { OnOk result (out.new ≡ out.old ++ exprs_of self.now) }
+        ensures { OnOk result (out.new ≡ out.old ++ listed_exprs_of self.now) }
     {
-        for expr in self.exprs(alloc)?.as_slice() {
+        for expr in self.listed_exprs(alloc)?.as_slice() {
             out.push(expr.try_clone(alloc)?)?;
         }
         Ok(())
     }
 
-    /// Copies of the expressions, in order. Refuses for want of memory alone.
+    /// Copies of the expressions, in order; the condition of a join isn't among them. Refuses for want of memory alone.
     pub fn get_exprs(&self, alloc: Global) -> Result<Items<ExprIR>, AllocError>
-        ensures { IfOk result (λ exprs. exprs ≡ exprs_of self.now) }
+        ensures { IfOk result (λ exprs. exprs ≡ listed_exprs_of self.now) }
     {
         let mut copies = Items::new(alloc);
         self.copy_exprs(alloc, &mut copies)?;
@@ -136,6 +166,14 @@ impl IR {
             | IR::MapFunction { input, .. }
             | IR::Sink { input, .. }
             | IR::Cache { input, .. } => inputs.push(*input)?,
+            IR::Join {
+                input_left,
+                input_right,
+                ..
+            } => {
+                inputs.push(*input_left)?;
+                inputs.push(*input_right)?;
+            }
             IR::Union { inputs: list, .. } | IR::HConcat { inputs: list, .. } => {
                 for input in list.as_slice() {
                     inputs.push(*input)?;
@@ -146,244 +184,34 @@ impl IR {
         Ok(inputs)
     }
 
-    /// A copy with other expressions, over other inputs: as many of each as the node has, but that a sort keeps its own
-    /// keys. Its other fields are as they were; with its own expressions and inputs it is the same node. Refuses for want of
-    /// memory alone.
+    /// A copy with other expressions, over other inputs: as many of each as `get_exprs` and `get_inputs_vec` give, but that a
+    /// sort keeps its own keys. Its other fields are as they were; with its own expressions and inputs it is the same node.
+    /// Refuses for want of memory alone.
     pub fn with_exprs_and_input(
         &self,
         alloc: Global,
         exprs: Items<ExprIR>,
         inputs: Items<Node>,
     ) -> Result<IR, AllocError>
-        requires exprs_fit { length exprs ≡ length (exprs_of self.now) }
+        requires exprs_fit { length exprs ≡ length (listed_exprs_of self.now) }
         requires inputs_fit { length inputs ≡ length (inputs_of self.now) }
         ensures inputs { IfOk result (λ node. inputs_of node ≡ inputs) }
         ensures node { IfOk result (λ node. node ≡ over_parts self.now (exprs_over self.now exprs) inputs) }
-        ensures own { exprs ≡ exprs_of self.now → inputs ≡ inputs_of self.now → IfOk result (λ node. node ≡ self.now) }
+        ensures own { exprs ≡ listed_exprs_of self.now → inputs ≡ inputs_of self.now → IfOk result (λ node. node ≡ self.now) }
     {
         let exprs = self.exprs_over(alloc, exprs)?;
         self.over(alloc, exprs, inputs)
     }
 
-    /// The expressions that a copy has: a sort keeps its own keys, any other node takes these.
+    /// The expressions that a copy has: a sort keeps its own keys, a join its condition behind these, and any other node takes
+    /// these.
     fn exprs_over(&self, alloc: Global, exprs: Items<ExprIR>) -> Result<Items<ExprIR>, AllocError>
         ensures { IfOk result (λ kept. kept ≡ exprs_over self.now exprs) }
     {
         match self {
             IR::Sort { by_column, .. } => by_column.try_clone(alloc),
+            IR::Join { options, .. } => with_condition(alloc, exprs, options),
             _ => Ok(exprs),
-        }
-    }
-
-    /// A copy with other expressions, over other inputs: as many of each as the node has. Its other fields are as they were.
-    pub(crate) fn over(
-        &self,
-        alloc: Global,
-        exprs: Items<ExprIR>,
-        inputs: Items<Node>,
-    ) -> Result<IR, AllocError>
-        requires exprs_fit { length exprs ≡ length (exprs_of self.now) }
-        requires inputs_fit { length inputs ≡ length (inputs_of self.now) }
-        ensures { IfOk result (λ node. node ≡ over_parts self.now exprs inputs) }
-    {
-        match self {
-            IR::Slice { offset, len, .. } => Ok(IR::Slice {
-                input: only(inputs),
-                offset: *offset,
-                len: *len,
-            }),
-            IR::Filter { .. } => Ok(IR::Filter {
-                input: only(inputs),
-                predicate: only(exprs),
-            }),
-            IR::Scan { .. } => self.scan_over(alloc, at_most_one(exprs)),
-            IR::DataFrameScan { .. } => self.frame_scan_copy(alloc),
-            IR::SimpleProjection { columns, .. } => Ok(IR::SimpleProjection {
-                input: only(inputs),
-                columns: columns.try_clone(alloc)?,
-            }),
-            IR::Select { .. } => self.select_over(alloc, exprs, only(inputs)),
-            IR::HStack { .. } => self.hstack_over(alloc, exprs, only(inputs)),
-            IR::Sort { .. } => self.sort_over(alloc, exprs, only(inputs)),
-            IR::GroupBy { .. } => self.group_by_over(alloc, exprs, only(inputs)),
-            IR::Distinct { options, .. } => Ok(IR::Distinct {
-                input: only(inputs),
-                options: options.try_clone(alloc)?,
-            }),
-            IR::MapFunction { function, .. } => Ok(IR::MapFunction {
-                input: only(inputs),
-                function: function.try_clone(alloc)?,
-            }),
-            IR::Sink { payload, .. } => Ok(IR::Sink {
-                input: only(inputs),
-                payload: *payload,
-            }),
-            IR::Union { options, .. } => Ok(IR::Union {
-                inputs,
-                options: *options,
-            }),
-            IR::HConcat {
-                schema,
-                options,
-                ..
-            } => Ok(IR::HConcat {
-                inputs,
-                schema: schema.try_clone(alloc)?,
-                options: *options,
-            }),
-            IR::Cache { id, cache_hits, .. } => Ok(IR::Cache {
-                input: only(inputs),
-                id: *id,
-                cache_hits: *cache_hits,
-            }),
-            IR::Invalid => Ok(IR::Invalid),
-        }
-    }
-
-    /// A copy of a scan of files, with a predicate or without one.
-    fn scan_over(&self, alloc: Global, predicate: Option<ExprIR>) -> Result<IR, AllocError>
-        requires { IsTrue (is_file_scan self.now) }
-        ensures { IfOk result (λ node. node ≡ over_parts self.now (list_of predicate) []) }
-    {
-        match self {
-            IR::Scan {
-                sources,
-                file_info,
-                predicate: _,
-                output_schema,
-                scan_type,
-                file_options,
-            } => Ok(IR::Scan {
-                sources: sources.try_clone(alloc)?,
-                file_info: file_info.try_clone(alloc)?,
-                predicate,
-                output_schema: output_schema.try_clone(alloc)?,
-                scan_type: *scan_type,
-                file_options: file_options.try_clone(alloc)?,
-            }),
-            _ => unreachable!(),
-        }
-    }
-
-    /// A copy of a scan of a frame.
-    fn frame_scan_copy(&self, alloc: Global) -> Result<IR, AllocError>
-        requires { IsTrue (is_frame_scan self.now) }
-        ensures { IfOk result (λ node. node ≡ self.now) }
-    {
-        match self {
-            IR::DataFrameScan {
-                df,
-                schema,
-                output_schema,
-            } => Ok(IR::DataFrameScan {
-                df: *df,
-                schema: schema.try_clone(alloc)?,
-                output_schema: output_schema.try_clone(alloc)?,
-            }),
-            _ => unreachable!(),
-        }
-    }
-
-    /// A copy of a selection with other expressions, over another input.
-    fn select_over(&self, alloc: Global, expr: Items<ExprIR>, input: Node) -> Result<IR, AllocError>
-        requires { IsTrue (is_select self.now) }
-        ensures { IfOk result (λ node. node ≡ over_parts self.now expr (input ∷ [])) }
-    {
-        match self {
-            IR::Select {
-                schema,
-                options,
-                ..
-            } => Ok(IR::Select {
-                input,
-                expr,
-                schema: schema.try_clone(alloc)?,
-                options: *options,
-            }),
-            _ => unreachable!(),
-        }
-    }
-
-    /// A copy of an addition of columns with other expressions, over another input.
-    fn hstack_over(
-        &self,
-        alloc: Global,
-        exprs: Items<ExprIR>,
-        input: Node,
-    ) -> Result<IR, AllocError>
-        requires { IsTrue (is_hstack self.now) }
-        ensures { IfOk result (λ node. node ≡ over_parts self.now exprs (input ∷ [])) }
-    {
-        match self {
-            IR::HStack {
-                schema,
-                options,
-                ..
-            } => Ok(IR::HStack {
-                input,
-                exprs,
-                schema: schema.try_clone(alloc)?,
-                options: *options,
-            }),
-            _ => unreachable!(),
-        }
-    }
-
-    /// A copy of a sort by other keys, over another input.
-    fn sort_over(
-        &self,
-        alloc: Global,
-        by_column: Items<ExprIR>,
-        input: Node,
-    ) -> Result<IR, AllocError>
-        requires { IsTrue (is_sort self.now) }
-        ensures { IfOk result (λ node. node ≡ over_parts self.now by_column (input ∷ [])) }
-    {
-        match self {
-            IR::Sort {
-                slice,
-                sort_options,
-                ..
-            } => Ok(IR::Sort {
-                input,
-                by_column,
-                slice: *slice,
-                sort_options: sort_options.try_clone(alloc)?,
-            }),
-            _ => unreachable!(),
-        }
-    }
-
-    /// A copy of a grouping with other keys and aggregates, in turn, over another input.
-    fn group_by_over(
-        &self,
-        alloc: Global,
-        exprs: Items<ExprIR>,
-        input: Node,
-    ) -> Result<IR, AllocError>
-        requires kind { IsTrue (is_group_by self.now) }
-        requires exprs_fit { length exprs ≡ length (exprs_of self.now) }
-        ensures { IfOk result (λ node. node ≡ over_parts self.now exprs (input ∷ [])) }
-    {
-        match self {
-            IR::GroupBy {
-                keys,
-                schema,
-                maintain_order,
-                options,
-                ..
-            } => {
-                let (keys, aggs) = split_at(alloc, exprs, keys.len())?;
-                Ok(IR::GroupBy {
-                    input,
-                    keys,
-                    aggs,
-                    schema: schema.try_clone(alloc)?,
-                    maintain_order: *maintain_order,
-                    options: *options,
-                })
-            }
-            _ => unreachable!(),
         }
     }
 }
@@ -398,21 +226,30 @@ fn append<'a>(list: &'a [ExprIR], exprs: &mut Items<&'a ExprIR>) -> Result<(), A
     Ok(())
 }
 
-/// The value of a list of one.
-fn only<T: Drop>(mut items: Items<T>) -> T
-    requires { length items ≡ 1 }
-    ensures { items ≡ result ∷ [] }
+/// Appends the condition of a join, if it has one.
+fn append_condition<'a>(
+    options: &'a JoinOptions,
+    exprs: &mut Items<&'a ExprIR>,
+) -> Result<(), AllocError>
+    ensures { OnOk result (map (λ e. e.now) exprs.new ≡ map (λ e. e.now) exprs.old ++ list_of (condition_of options.now)) }
 {
-    match items.pop() {
-        Some(value) => value,
-        None => unreachable!(),
+    if let Some(JoinTypeOptionsIR::Cross { predicate }) = &options.options {
+        exprs.push(predicate)?;
     }
+    Ok(())
 }
 
-/// The value of a list of at most one, if it has one.
-fn at_most_one<T: Drop>(mut items: Items<T>) -> Option<T>
-    requires { length items ≤ 1 }
-    ensures { items ≡ list_of result }
+/// These expressions, and then the condition of a join, if it has one.
+fn with_condition(
+    alloc: Global,
+    exprs: Items<ExprIR>,
+    options: &JoinOptions,
+) -> Result<Items<ExprIR>, AllocError>
+    ensures { IfOk result (λ all. all ≡ exprs ++ list_of (condition_of options.now)) }
 {
-    items.pop()
+    let mut all = exprs;
+    if let Some(JoinTypeOptionsIR::Cross { predicate }) = &options.options {
+        all.push(predicate.try_clone(alloc)?)?;
+    }
+    Ok(all)
 }

@@ -16,7 +16,8 @@ use Rattle.plan_core.specs.declared.data_type.DataType.{DataType}
 use Rattle.plan_expr.specs.Leaves.{Name, leaves}
 use Rattle.plan_expr.specs.Naming.{naming, may_be_named}
 use Rattle.plan_frame.specs.Exprs.{all_known, expr_type}
-use Rattle.plan_meaning.specs.Typing.{Check, each, each_new, columns_or, file_columns, put_out_checks, scan_name_checks, is_built_scan, scan_column_checks, scan_checks, frame_checks, is_known, is_column, is_empty, number_checks, form_checks, leaf_checks, type_checks, once_checks, stored_checks, naming_checks, made_checks, plain_checks, key_checks, is_plain_type, AllHold}
+use Rattle.plan_meaning.specs.Checks.{Check, each, each_new, is_known, is_column, is_empty, form_checks, leaf_checks, type_checks, once_checks, stored_checks, naming_checks, plain_checks, is_plain_type}
+use Rattle.plan_meaning.specs.Typing.{columns_or, file_columns, put_out_checks, scan_name_checks, is_built_scan, scan_column_checks, scan_checks, frame_checks, number_checks, made_checks, key_checks, AllHold}
 use Rattle.plan_frame.specs.Frames.{names_or}
 use Rattle.plan_frame.specs.Made.{made_schema}
 use Rattle.plan_frame.specs.ExprLists.{out_names}

@@ -4,7 +4,8 @@ use Rattle.plan_core.specs.declared.error.PolarsError.TheVariants.{SchemaFieldNo
 use Rattle.plan_core.specs.Columns.{Columns, names_of, type_of}
 use Rattle.plan_core.specs.Names.{has, with_names}
 use Rattle.plan_expr.specs.Leaves.{Name}
-use Rattle.plan_meaning.specs.Typing.{each, is_known, is_list_type, explode_checks, AllHold}
+use Rattle.plan_meaning.specs.Checks.{each, is_known}
+use Rattle.plan_meaning.specs.Typing.{is_list_type, explode_checks, AllHold}
 use Rattle.plan_frame.proofs.NameSets.{from_names, some-type_of}
 use Rattle.plan_meaning.proofs.CheckParts.{hold_front, each_pass, name_passes}
 

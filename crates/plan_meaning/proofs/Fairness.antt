@@ -8,11 +8,12 @@ use Rattle.plan_core.specs.Columns.{Columns, names_of, type_of}
 use Rattle.plan_core.specs.Names.{has, with_names, AreDistinct}
 use Rattle.plan_tree.specs.Rose.{Roses, rose, no_roses, more}
 use Rattle.plan_expr.specs.Exprs.{Named}
-use Rattle.plan_ir.specs.Plans.{Op, slice, filter, scan, frame_scan, simple_projection, select, hstack, sort, group_by, distinct, map_function, sink, union, hconcat, cache, invalid, Plan}
+use Rattle.plan_ir.specs.Plans.{Op, slice, filter, scan, frame_scan, simple_projection, select, hstack, sort, group_by, join, distinct, map_function, sink, union, hconcat, cache, invalid, Plan}
 use Rattle.plan_expr.specs.Leaves.{Name, leaves}
 use Rattle.plan_frame.specs.Exprs.{all_known, is_type}
 use Rattle.plan_frame.specs.Grouping.{gathered, group_exprs}
-use Rattle.plan_meaning.specs.Typing.{is_empty, each, is_known, is_column, has_columns, columns_or, file_columns, all_read, put_out_checks, scan_name_checks, subset_checks, first_schema, schema_by, schemas, checks, AllHold, AllValid}
+use Rattle.plan_meaning.specs.Checks.{is_empty, each, is_known, is_column}
+use Rattle.plan_meaning.specs.Typing.{has_columns, columns_or, file_columns, all_read, put_out_checks, scan_name_checks, subset_checks, first_schema, schema_by, schemas, checks, AllHold, AllValid}
 use Rattle.plan_frame.specs.Beside.{side_by_side}
 use Rattle.plan_frame.specs.Frames.{names_or}
 use Rattle.plan_frame.specs.Made.{made_schema}
@@ -201,6 +202,7 @@ fair_asks (select es stored options) a (s ∷ []) os good k f = (fair_selected e
 fair_asks (hstack es stored options) a (s ∷ []) os good k f = (fair_stacked es a s (made_good s es stored s good).known f, tt)
 fair_asks (sort keys part options) a (s ∷ []) os good k f = (fair_more (all_leaves keys) a s (λ b i. known_leaves keys s (keys_good keys s good.1).known b i) f, tt)
 fair_asks (group_by keys aggs schema ordered options) a (s ∷ []) os good k f = (fair_grouped keys aggs a s (made_schema [] (group_exprs keys aggs) s) (made_good [] (group_exprs keys aggs) schema s good.1).known f, tt)
+fair_asks (join left_on right_on schema told) a (s ∷ t ∷ []) os good k f = (tt, (tt, tt))
 fair_asks (distinct options) a (s ∷ []) os good k f = (fair_more (names_or options.subset (names_of s)) a s (λ b i. told_known options.subset s good.1 b i) f, tt)
 fair_asks (map_function function) a (s ∷ []) os good k f = (fair_function function a s good f, tt)
 fair_asks (sink payload) a (s ∷ []) os good k f = (f, tt)
@@ -280,6 +282,7 @@ site_fair (filter predicate) a ss good f = tt
 site_fair (simple_projection cols) a ss good f = tt
 site_fair (sort keys part options) a ss good f = tt
 site_fair (group_by keys aggs schema ordered options) a ss good f = tt
+site_fair (join left_on right_on schema told) a ss good f = tt
 site_fair (distinct options) a ss good f = tt
 site_fair (map_function function) a ss good f = tt
 site_fair (sink payload) a ss good f = tt

@@ -2,7 +2,7 @@
 use Rattle.std.proofs.Common.{◌≡◌, List, [], ◌∷◌, ◌++◌, map, refl, sym, ap₂, ◌∙◌, append_assoc}
 use Rattle.std.proofs.lemmas.List.{map-append}
 use Rattle.plan_tree.specs.Rose.{Roses, rose, no_roses, more}
-use Rattle.plan_ir.specs.Plans.{Op, slice, filter, scan, frame_scan, simple_projection, select, hstack, sort, group_by, distinct, map_function, sink, union, hconcat, cache, invalid, Plan}
+use Rattle.plan_ir.specs.Plans.{Op, slice, filter, scan, frame_scan, simple_projection, select, hstack, sort, group_by, join, distinct, map_function, sink, union, hconcat, cache, invalid, Plan}
 use Rattle.plan_meaning.specs.Typing.{schemas}
 use Rattle.plan_meaning.specs.Relating.{Asked}
 use Rattle.plan_meaning.specs.Counting.{stand_ins}
@@ -28,6 +28,7 @@ own_scans (select es stored options) = tt
 own_scans (hstack es stored options) = tt
 own_scans (sort keys part options) = tt
 own_scans (group_by keys aggs schema ordered options) = tt
+own_scans (join left_on right_on schema told) = tt
 own_scans (distinct options) = tt
 own_scans (map_function function) = tt
 own_scans (sink payload) = tt
@@ -78,6 +79,7 @@ own-site (select es stored options) a = refl
 own-site (hstack es stored options) a = refl
 own-site (sort keys part options) a = refl
 own-site (group_by keys aggs schema ordered options) a = refl
+own-site (join left_on right_on schema told) a = refl
 own-site (distinct options) a = refl
 own-site (map_function function) a = refl
 own-site (sink payload) a = refl

@@ -9,7 +9,8 @@ use Rattle.plan_expr.specs.Exprs.{Named}
 use Rattle.plan_expr.specs.Leaves.{Name}
 use Rattle.plan_expr.specs.Naming.{name_of}
 use Rattle.plan_expr.specs.Scalars.{is_scalar}
-use Rattle.plan_meaning.specs.Typing.{AllHold, each_new}
+use Rattle.plan_meaning.specs.Checks.{each_new}
+use Rattle.plan_meaning.specs.Typing.{AllHold}
 use Rattle.plan_frame.specs.ExprLists.{out_names, all_scalar, first_many}
 use Rattle.plan_frame.specs.Made.{made_column, made_schema, made_columns}
 use Rattle.plan_frame.specs.Frames.{Frame, Column, found, with_column, with_columns}

@@ -11,7 +11,8 @@ use Rattle.plan_expr.specs.Leaves.{Name, leaves}
 use Rattle.plan_expr.specs.Naming.{name_of}
 use Rattle.plan_expr.specs.Scalars.{is_scalar}
 use Rattle.plan_frame.specs.Exprs.{all_known}
-use Rattle.plan_meaning.specs.Typing.{AllHold, each_new}
+use Rattle.plan_meaning.specs.Checks.{each_new}
+use Rattle.plan_meaning.specs.Typing.{AllHold}
 use Rattle.plan_frame.specs.ExprLists.{out_names, all_scalar, first_many, all_leaves}
 use Rattle.plan_meaning.specs.Relating.{Asked, all}
 use Rattle.plan_meaning.specs.Asked.{is_asked, kept_exprs, selected_exprs}

@@ -3,6 +3,7 @@ pub mod NodeExprs
 pub mod SideLemmas
 pub mod CheckParts
 pub mod UnionLemmas
+pub mod JoinLemmas
 pub mod KeptColumns
 pub mod KeptExprs
 pub mod UnpivotLemmas

@@ -8,7 +8,7 @@ use Rattle.plan_core.specs.declared.error.PolarsError.TheVariants.{SchemaFieldNo
 use Rattle.plan_core.specs.Columns.{Columns, names_of, type_of}
 use Rattle.plan_tree.specs.Rose.{Roses, rose, no_roses, more}
 use Rattle.plan_expr.specs.Exprs.{Named}
-use Rattle.plan_ir.specs.Plans.{Op, slice, filter, scan, frame_scan, simple_projection, select, hstack, sort, group_by, distinct, map_function, sink, union, hconcat, cache, Plan}
+use Rattle.plan_ir.specs.Plans.{Op, slice, filter, scan, frame_scan, simple_projection, select, hstack, sort, group_by, join, distinct, map_function, sink, union, hconcat, cache, Plan}
 use Rattle.plan_expr.specs.Leaves.{Name}
 use Rattle.plan_expr.specs.Types.{is_plain}
 use Rattle.plan_frame.specs.Exprs.{expr_type}
@@ -16,7 +16,8 @@ use Rattle.plan_meaning.specs.Functions.{function_schema}
 use Rattle.plan_options.specs.declared.distinct.UniqueKeepStrategy.TheVariants.{First}
 use Rattle.plan_frame.specs.Grouping.{group_exprs}
 use Rattle.plan_meaning.specs.Mapped.{mapped}
-use Rattle.plan_meaning.specs.Typing.{each, is_known, is_column, columns_or, file_columns, has_columns, put_out_checks, is_plain_type, first_schema, schema_by, schema, schemas, checks, AllHold, AllValid}
+use Rattle.plan_meaning.specs.Checks.{each, is_known, is_column, is_plain_type}
+use Rattle.plan_meaning.specs.Typing.{columns_or, file_columns, has_columns, put_out_checks, first_schema, schema_by, schema, schemas, checks, AllHold, AllValid}
 use Rattle.plan_frame.specs.Made.{made_schema, made, selected, grouped}
 use Rattle.plan_frame.specs.Beside.{side_by_side}
 use Rattle.plan_frame.specs.Frames.{Frame, HasSchema, Holds, HoldsAll, cut, in_turn, beside, stack, rows_at}
@@ -30,6 +31,10 @@ use Rattle.plan_frame.proofs.Sound.{val_sound}
 use Rattle.plan_meaning.proofs.CheckParts.{hold_back, each_pass, scan_good, FrameGood, frame_good, made_good, keys_good}
 use Rattle.plan_frame.proofs.KeptRows.{alike_equivalence, kept_exists}
 use Rattle.plan_frame.proofs.TurnLemmas.{HaveSchemas}
+use Rattle.plan_join.specs.Naming.{join_columns}
+use Rattle.plan_join.specs.Told.{column_keys}
+use Rattle.plan_joined.proofs.JoinedLemmas.{joined-has, joins-exist}
+use Rattle.plan_meaning.proofs.JoinLemmas.{differ_distinct, join_good, key_fills}
 use Rattle.plan_meaning.proofs.UnionLemmas.{union_has}
 use Rattle.plan_frame.proofs.BesideLemmas.{beside_has}
 use Rattle.plan_meaning.proofs.FunctionLemmas.{mapped_has}
@@ -110,6 +115,11 @@ step_has c (sort keys part options) (s ∷ []) (g ∷ []) f good fit has st =
     subst (λ (x : Frame). HasSchema x s) (sym st.2) (rows_schema st.0 g s has.0)
 step_has c (group_by keys aggs schema ordered options) (s ∷ []) (g ∷ []) f good fit has st =
     subst (λ (x : Frame). HasSchema x (made_schema [] (group_exprs keys aggs) s)) (sym st.2) (grouped_has keys aggs st.0 g s has.0 (made_good [] (group_exprs keys aggs) schema s good.1).typed)
+step_has c (join left_on right_on stored told) (s ∷ t ∷ []) (g ∷ h ∷ []) f good fit has st =
+    let parts = join_good left_on right_on stored told s t good in
+    let columns = join_columns told.args (column_keys left_on) (column_keys right_on) s t in
+    subst (λ (x : Frame). HasSchema x columns) (sym st.2)
+    (joined-has told.args (column_keys left_on) (column_keys right_on) st.0 g h s t has.0 has.1.0 (key_fills left_on right_on stored told s t parts) (differ_distinct (names_of s) parts.left_differ) (differ_distinct (names_of t) parts.right_differ))
 step_has c (distinct options) (s ∷ []) (g ∷ []) f good fit has st =
     subst (λ (x : Frame). HasSchema x s) (sym st.2) (rows_schema st.0 g s has.0)
 step_has c (map_function function) (s ∷ []) (g ∷ []) f good fit has st = subst (λ (x : Frame). HasSchema x (function_schema function s)) (sym st) (mapped_has function s g good has.0)
@@ -137,6 +147,7 @@ step_runs c (sort keys part options) (s ∷ []) (g ∷ []) good fit has =
 step_runs c (group_by keys aggs schema ordered options) (s ∷ []) (g ∷ []) good fit has =
     let rows = kept_exists (are_alike (key_cells keys g)) (alike_equivalence (key_cells keys g)) g.height ordered First in
     (grouped keys aggs rows.0 g, (rows.0, rows.1, refl))
+step_runs c (join left_on right_on stored told) (s ∷ t ∷ []) (g ∷ h ∷ []) good fit has = joins-exist told left_on right_on g h
 step_runs c (distinct options) (s ∷ []) (g ∷ []) good fit has =
     let same = are_alike (told_columns options.subset g) in
     let rows = kept_exists same (alike_equivalence (told_columns options.subset g)) g.height options.maintain_order options.keep_strategy in

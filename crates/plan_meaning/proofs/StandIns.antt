@@ -8,7 +8,7 @@ use Rattle.plan_expr.specs.Exprs.{Named}
 use Rattle.plan_expr.specs.Leaves.{Name}
 use Rattle.plan_expr.specs.Naming.{name_of}
 use Rattle.plan_expr.specs.Scalars.{is_scalar}
-use Rattle.plan_ir.specs.Plans.{Op, slice, filter, scan, frame_scan, simple_projection, select, hstack, sort, group_by, distinct, map_function, sink, union, hconcat, cache, invalid}
+use Rattle.plan_ir.specs.Plans.{Op, slice, filter, scan, frame_scan, simple_projection, select, hstack, sort, group_by, join, distinct, map_function, sink, union, hconcat, cache, invalid}
 use Rattle.plan_meaning.specs.Typing.{first_schema, schema_by, schemas}
 use Rattle.plan_frame.specs.ExprLists.{out_names, first_many}
 use Rattle.plan_frame.specs.Made.{made_schema}
@@ -74,6 +74,7 @@ stand_in_known (hstack exprs stored options) ss =
     first_known exprs (last_name s) s (made_known (first_schema ss) (first_schema ss) exprs) (last_known s)
 stand_in_known (sort keys part options) ss = last_known (first_schema ss)
 stand_in_known (group_by keys aggs schema ordered options) ss = last_known (schema_by (group_by keys aggs schema ordered options) ss)
+stand_in_known (join left_on right_on stored told) ss = last_known (schema_by (join left_on right_on stored told) ss)
 stand_in_known (distinct options) ss = last_known (first_schema ss)
 stand_in_known (map_function function) ss = last_known (function_schema function (first_schema ss))
 stand_in_known (sink payload) ss = last_known (first_schema ss)

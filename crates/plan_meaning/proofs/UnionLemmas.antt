@@ -6,7 +6,8 @@ use Rattle.plan_core.specs.declared.error.PolarsError.TheVariants.{SchemaMismatc
 use Rattle.plan_core.specs.Columns.{Columns, same_columns}
 use Rattle.plan_options.specs.declared.union.UnionOptions.{UnionOptions}
 use Rattle.plan_ir.specs.Plans.{union}
-use Rattle.plan_meaning.specs.Typing.{checks, each, first_schema, is_built_union, is_empty, is_none, same_checks, AllHold}
+use Rattle.plan_meaning.specs.Checks.{each, is_empty, is_none}
+use Rattle.plan_meaning.specs.Typing.{checks, first_schema, is_built_union, same_checks, AllHold}
 use Rattle.plan_frame.specs.Frames.{Frame, HasSchema, in_turn}
 use Rattle.plan_meaning.proofs.CheckParts.{each_pass, pass_each, same_is, is_same}
 use Rattle.plan_frame.proofs.TurnLemmas.{HaveSchemas, AllAre, in_turn_has}

@@ -12,7 +12,8 @@ use Rattle.plan_ir.specs.declared.functions.UnpivotArgsIR.{UnpivotArgsIR}
 use Rattle.plan_expr.specs.Leaves.{Name}
 use Rattle.plan_meaning.specs.Functions.{value_names, variable_name, value_name, unpivoted_names, all_differ, first_type, unpivoted_columns}
 use Rattle.plan_frame.specs.Reshaped.{type_or, columns_at, repeated, names_down, values_down}
-use Rattle.plan_meaning.specs.Typing.{Check, check, each, is_column, is_empty, is_known, unpivot_name_checks, unpivot_type_checks, unpivot_checks, AllHold}
+use Rattle.plan_meaning.specs.Checks.{Check, check, each, is_column, is_empty, is_known}
+use Rattle.plan_meaning.specs.Typing.{unpivot_name_checks, unpivot_type_checks, unpivot_checks, AllHold}
 use Rattle.plan_frame.specs.Values.{text}
 use Rattle.plan_frame.specs.Frames.{Frame, column_or, table_columns, HaveTypes, HasSchema}
 use Rattle.plan_meaning.specs.Mapped.{unpivoted}

@@ -11,7 +11,8 @@ use Rattle.plan_tree.specs.Read.{trees_at}
 use Rattle.plan_tree.proofs.ReadLemmas.{trees_at-is}
 use Rattle.plan_ir.specs.Parts.{plan_shape, IsPlan}
 use Rattle.plan_ir.specs.Plans.{Op, op_at, plans_of, plans_at, bare}
-use Rattle.plan_meaning.specs.Typing.{Check, at, first_fault, or_fault, faults, schema_by, schema, schemas, first_schema, checks, AllHold, AllValid}
+use Rattle.plan_meaning.specs.Checks.{Check}
+use Rattle.plan_meaning.specs.Typing.{at, first_fault, or_fault, faults, schema_by, schema, schemas, first_schema, checks, AllHold, AllValid}
 use Rattle.plan_meaning.specs.TreeFaults.{tree_fault}
 use Rattle.plan_meaning.specs.Typed.{typed, schema_or}
 use Rattle.plan_meaning.specs.Steps.{IsValid}

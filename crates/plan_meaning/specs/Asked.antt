@@ -6,10 +6,11 @@ use Rattle.plan_core.specs.Columns.{Columns, names_of, type_of}
 use Rattle.plan_core.specs.Names.{has, with_names, AreDistinct}
 use Rattle.plan_tree.specs.Rose.{Roses, rose, no_roses, more}
 use Rattle.plan_expr.specs.Exprs.{Named}
-use Rattle.plan_ir.specs.Plans.{Op, slice, filter, scan, frame_scan, simple_projection, select, hstack, sort, group_by, distinct, map_function, sink, union, hconcat, cache, invalid, Plan}
+use Rattle.plan_ir.specs.Plans.{Op, slice, filter, scan, frame_scan, simple_projection, select, hstack, sort, group_by, join, distinct, map_function, sink, union, hconcat, cache, invalid, Plan}
 use Rattle.plan_expr.specs.Leaves.{Name, leaves}
 use Rattle.plan_expr.specs.Naming.{name_of}
-use Rattle.plan_meaning.specs.Typing.{is_empty, columns_or, file_columns, first_schema, schema_by, schemas}
+use Rattle.plan_meaning.specs.Checks.{is_empty}
+use Rattle.plan_meaning.specs.Typing.{columns_or, file_columns, first_schema, schema_by, schemas}
 use Rattle.plan_frame.specs.Frames.{names_or}
 use Rattle.plan_ir.specs.declared.functions.FunctionIR.{FunctionIR}
 use Rattle.plan_ir.specs.declared.functions.FunctionIR.TheVariants.{Rename, RowIndex, Unpivot, Explode}
@@ -119,6 +120,10 @@ asks_held all s = all
 asks_held (names wanted) s = set_of (only_where (has (names_of s)) wanted)
 asks_held cached s = cached
 
+-- everything, of each input alike, since nothing below the node is looked at
+abbrev pub asks_closed : List Columns → List Asked
+asks_closed ss = map (λ (s : Columns). cached) ss
+
 -- what a node asks of its inputs, by the columns of these and those that stand in for their rows
 abbrev pub asks : Op → Asked → List Columns → List (Option Name) → List Asked
 asks (slice offset len) a ss os = a ∷ []
@@ -130,6 +135,7 @@ asks (select exprs schema options) a ss os = asks_selected exprs (first_stand_in
 asks (hstack exprs schema options) a ss os = asks_stacked exprs a (first_schema ss) ∷ []
 asks (sort keys part options) a ss os = with_more (all_leaves keys) a ∷ []
 asks (group_by keys aggs schema ordered options) a ss os = asks_grouped keys aggs a (first_schema ss) ∷ []
+asks (join left_on right_on schema told) a ss os = asks_closed ss
 asks (distinct options) a ss os = with_more (names_or options.subset (names_of (first_schema ss))) a ∷ []
 asks (map_function function) a ss os = asks_function function a (first_schema ss) ∷ []
 asks (sink payload) a ss os = a ∷ []
@@ -164,6 +170,7 @@ own_site (select exprs schema options) a = []
 own_site (hstack exprs schema options) a = []
 own_site (sort keys part options) a = []
 own_site (group_by keys aggs schema ordered options) a = []
+own_site (join left_on right_on schema told) a = []
 own_site (distinct options) a = []
 own_site (map_function function) a = []
 own_site (sink payload) a = []
@@ -193,6 +200,7 @@ reads (select exprs schema options) = []
 reads (hstack exprs schema options) = []
 reads (sort keys part options) = []
 reads (group_by keys aggs schema ordered options) = []
+reads (join left_on right_on schema told) = []
 reads (distinct options) = []
 reads (map_function function) = []
 reads (sink payload) = []

@@ -7,7 +7,7 @@ use Rattle.plan_core.specs.Columns.{Columns}
 use Rattle.plan_tree.specs.Rose.{Roses, rose, no_roses, more}
 use Rattle.plan_ir.specs.declared.scan.ScanSources.{ScanSources}
 use Rattle.plan_ir.specs.declared.scan.ScanSources.TheVariants.{Paths}
-use Rattle.plan_ir.specs.Plans.{Op, slice, filter, scan, frame_scan, simple_projection, select, hstack, sort, group_by, distinct, map_function, sink, union, hconcat, cache, invalid, Plan}
+use Rattle.plan_ir.specs.Plans.{Op, slice, filter, scan, frame_scan, simple_projection, select, hstack, sort, group_by, join, distinct, map_function, sink, union, hconcat, cache, invalid, Plan}
 use Rattle.plan_expr.specs.Leaves.{Name}
 use Rattle.plan_frame.specs.Frames.{Frame, IsFrame, HoldsAll}
 use Rattle.plan_meaning.specs.Typing.{file_columns}
@@ -77,6 +77,7 @@ FitsAt c (select exprs schema options) = Unit {0}
 FitsAt c (hstack exprs schema options) = Unit {0}
 FitsAt c (sort keys part options) = Unit {0}
 FitsAt c (group_by keys aggs schema ordered options) = Unit {0}
+FitsAt c (join left_on right_on schema told) = Unit {0}
 FitsAt c (distinct options) = Unit {0}
 FitsAt c (map_function function) = Unit {0}
 FitsAt c (sink payload) = Unit {0}

@@ -1,5 +1,7 @@
 -- The definitions that contracts cite.
 pub mod Functions
+pub mod Checks
+pub mod JoinChecks
 pub mod Typing
 pub mod TreeFaults
 pub mod Typed

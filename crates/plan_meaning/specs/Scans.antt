@@ -2,7 +2,7 @@
 use Rattle.std.specs.Prelude.{◌≡◌, ℕ, true, List, [], ◌∷◌, ◌++◌}
 use Rattle.plan_core.specs.Names.{has}
 use Rattle.plan_tree.specs.Rose.{Roses, rose, no_roses, more, size}
-use Rattle.plan_ir.specs.Plans.{Op, slice, filter, scan, frame_scan, simple_projection, select, hstack, sort, group_by, distinct, map_function, sink, union, hconcat, cache, invalid, Plan}
+use Rattle.plan_ir.specs.Plans.{Op, slice, filter, scan, frame_scan, simple_projection, select, hstack, sort, group_by, join, distinct, map_function, sink, union, hconcat, cache, invalid, Plan}
 use Rattle.plan_expr.specs.Leaves.{Name}
 use Rattle.plan_meaning.specs.Asked.{reads}
 
@@ -17,6 +17,7 @@ own_scan (select exprs schema options) = []
 own_scan (hstack exprs schema options) = []
 own_scan (sort keys part options) = []
 own_scan (group_by keys aggs schema ordered options) = []
+own_scan (join left_on right_on schema told) = []
 own_scan (distinct options) = []
 own_scan (map_function function) = []
 own_scan (sink payload) = []

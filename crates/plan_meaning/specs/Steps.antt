@@ -2,7 +2,7 @@
 use Rattle.std.specs.Prelude.{◌≡◌, ℕ, List, [], ◌∷◌}
 use Rattle.plan_core.specs.Columns.{names_of}
 use Rattle.plan_tree.specs.Rose.{Roses, rose, no_roses, more}
-use Rattle.plan_ir.specs.Plans.{Op, slice, filter, scan, frame_scan, simple_projection, select, hstack, sort, group_by, distinct, map_function, sink, union, hconcat, cache, invalid, Plan}
+use Rattle.plan_ir.specs.Plans.{Op, slice, filter, scan, frame_scan, simple_projection, select, hstack, sort, group_by, join, distinct, map_function, sink, union, hconcat, cache, invalid, Plan}
 use Rattle.plan_frame.specs.Frames.{Frame, rows_at, cut, in_turn, beside, stack}
 use Rattle.plan_frame.specs.Meaning.{are_alike}
 use Rattle.plan_options.specs.declared.distinct.UniqueKeepStrategy.TheVariants.{First}
@@ -11,6 +11,7 @@ use Rattle.plan_meaning.specs.Contents.{Contents, frames_of, handed_in}
 use Rattle.plan_frame.specs.Orders.{AreAll, AreKept, AreSorted, key_cells, rows_cmp, told_columns}
 use Rattle.plan_meaning.specs.Typing.{file_columns, columns_or, schemas, checks, AllHold, AllValid}
 use Rattle.plan_frame.specs.Rows.{filtered, slice_rows}
+use Rattle.plan_joined.specs.Matching.{Joins}
 use Rattle.plan_frame.specs.Made.{made, selected, grouped}
 
 -- there is no input
@@ -23,7 +24,12 @@ abbrev pub OnOne : List Frame → (Frame → Type 0) → Type 0
 OnOne (f ∷ []) P = P f
 OnOne _ P = ⊥
 
--- whether a node may give this frame from its inputs' frames: a slice or a filter some of the rows, a scan its sources one after another or a frame that is handed in, a projection its columns in their order, a selection what its expressions make, an addition that beside the input's columns, a sort all rows in an order, a grouping what it makes of the first row of each group, in their order or any, distinct rows some of them, a function what it makes of the whole frame, a union the rows of its inputs in turn or in any order, a concatenation its inputs beside one another, and a sink and a cache their input
+-- there are two inputs, and this holds of them
+abbrev pub OnTwo : List Frame → (Frame → Frame → Type 0) → Type 0
+OnTwo (f ∷ g ∷ []) P = P f g
+OnTwo _ P = ⊥
+
+-- whether a node may give this frame from its inputs' frames: a slice or a filter some of the rows, a scan its sources one after another or a frame that is handed in, a projection its columns in their order, a selection what its expressions make, an addition that beside the input's columns, a sort all rows in an order, a grouping what it makes of the first row of each group, in their order or any, a join what it makes of pairs of rows that it may take, distinct rows some of them, a function what it makes of the whole frame, a union the rows of its inputs in turn or in any order, a concatenation its inputs beside one another, and a sink and a cache their input
 abbrev pub Step : Contents → Op → List Frame → Frame → Type 0
 Step c (slice offset len) fs f = OnOne fs (λ g. f ≡ rows_at (slice_rows offset len g.height) g)
 Step c (filter predicate) fs f = OnOne fs (λ g. f ≡ filtered predicate.expr g)
@@ -34,6 +40,7 @@ Step c (select exprs schema options) fs f = OnOne fs (λ g. f ≡ selected exprs
 Step c (hstack exprs schema options) fs f = OnOne fs (λ g. f ≡ made g.height g.columns exprs g)
 Step c (sort keys part options) fs f = OnOne fs (λ g. (rows : List ℕ) × AreSorted options.maintain_order (rows_cmp (key_cells keys g) options.descending options.nulls_last) g.height rows × (f ≡ rows_at rows g))
 Step c (group_by keys aggs schema ordered options) fs f = OnOne fs (λ g. (rows : List ℕ) × AreKept ordered First (are_alike (key_cells keys g)) g.height rows × (f ≡ grouped keys aggs rows g))
+Step c (join left_on right_on schema told) fs f = OnTwo fs (λ g h. Joins told left_on right_on g h f)
 Step c (distinct options) fs f = OnOne fs (λ g. (rows : List ℕ) × AreKept options.maintain_order options.keep_strategy (are_alike (told_columns options.subset g)) g.height rows × (f ≡ rows_at rows g))
 Step c (map_function function) fs f = OnOne fs (λ g. f ≡ mapped function g)
 Step c (sink payload) fs f = OnOne fs (λ g. f ≡ g)

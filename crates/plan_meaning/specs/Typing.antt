@@ -21,17 +21,20 @@ use Rattle.plan_ir.specs.declared.scan.FileInfo.{FileInfo}
 use Rattle.plan_expr.specs.Exprs.{Named}
 use Rattle.plan_expr.specs.Forms.{has_form}
 use Rattle.plan_expr.specs.Types.{is_plain}
-use Rattle.plan_ir.specs.Plans.{Op, slice, filter, scan, frame_scan, simple_projection, select, hstack, sort, group_by, distinct, map_function, sink, union, hconcat, cache, invalid}
+use Rattle.plan_ir.specs.Plans.{Op, slice, filter, scan, frame_scan, simple_projection, select, hstack, sort, group_by, join, distinct, map_function, sink, union, hconcat, cache, invalid}
 use Rattle.plan_expr.specs.Leaves.{Name, leaves}
 use Rattle.plan_expr.specs.Naming.{naming, may_be_named}
 use Rattle.plan_meaning.specs.Functions.{renamed, stay_apart, value_names, unpivoted_names, all_differ, first_type, function_schema}
 use Rattle.plan_frame.specs.Exprs.{all_known, expr_type, is_type}
 use Rattle.plan_frame.specs.Grouping.{group_exprs}
 use Rattle.plan_core.specs.declared.data_type.DataType.TheVariants as types
-use Rattle.plan_frame.specs.ExprLists.{out_names}
 use Rattle.plan_frame.specs.Made.{made_schema}
 use Rattle.plan_frame.specs.Beside.{side_by_side, are_apart}
 use Rattle.plan_frame.specs.Frames.{names_or}
+use Rattle.plan_join.specs.Naming.{join_columns}
+use Rattle.plan_join.specs.Told.{column_keys}
+use Rattle.plan_meaning.specs.Checks.{Check, check, is_empty, is_none, each, is_known, is_column, each_new, stored_checks, form_checks, leaf_checks, type_checks, once_checks, naming_checks, plain_checks}
+use Rattle.plan_meaning.specs.JoinChecks.{join_checks}
 
 -- Schemas
 
@@ -49,6 +52,11 @@ abbrev pub first_schema : List Columns → Columns
 first_schema [] = []
 first_schema (s ∷ ss) = s
 
+-- the columns of the inputs after the first
+abbrev pub rest_schemas : List Columns → List Columns
+rest_schemas [] = []
+rest_schemas (s ∷ ss) = ss
+
 -- the columns of a node, from those of its inputs
 abbrev pub schema_by : Op → List Columns → Columns
 schema_by (slice offset len) ss = first_schema ss
@@ -60,6 +68,7 @@ schema_by (select exprs schema options) ss = made_schema [] exprs (first_schema 
 schema_by (hstack exprs schema options) ss = made_schema (first_schema ss) exprs (first_schema ss)
 schema_by (sort keys part options) ss = first_schema ss
 schema_by (group_by keys aggs schema ordered options) ss = made_schema [] (group_exprs keys aggs) (first_schema ss)
+schema_by (join left_on right_on schema told) ss = join_columns told.args (column_keys left_on) (column_keys right_on) (first_schema ss) (first_schema (rest_schemas ss))
 schema_by (distinct options) ss = first_schema ss
 schema_by (map_function function) ss = function_schema function (first_schema ss)
 schema_by (sink payload) ss = first_schema ss
@@ -78,43 +87,6 @@ abbrev pub schema : {N : Type 0} → Rose N Op → Columns
 schema (rose n op ts) = schema_by op (schemas ts)
 
 -- Checks
-
--- what must hold at a node, the fault where it doesn't, and the fault's place
-pub record Check : Type 0 where
-  pub fault : At → PolarsError
-  pub place : ℕ
-  pub holds : Bool
-
--- a check from its fault, its place, and whether it holds
-abbrev pub check : (At → PolarsError) → ℕ → Bool → Check
-check fault place holds = record { fault = fault; place = place; holds = holds }
-
--- a list of nothing
-abbrev pub is_empty : {A : Type 0} → List A → Bool
-is_empty [] = true
-is_empty (x ∷ xs) = false
-
--- a value that is missing
-abbrev pub is_none : {A : Type 0} → Option A → Bool
-is_none o = not (is_some o)
-
--- a check for each item, the first at this place
-abbrev pub each : {A : Type 0} → (At → PolarsError) → ℕ → (A → Bool) → List A → List Check
-each fault k holds [] = []
-each fault k holds (x ∷ xs) = check fault k (holds x) ∷ each fault (suc k) holds xs
-
--- a name is one of the columns
-abbrev pub is_known : Columns → Name → Bool
-is_known s a = is_some (type_of s a)
-
--- a column is one of the columns, with that type
-abbrev pub is_column : Columns → Name × DataType → Bool
-is_column s c = is_type (type_of s c.0) c.1
-
--- no name of the list is one before it
-abbrev pub each_new : ℕ → List Name → List Name → List Check
-each_new k before [] = []
-each_new k before (a ∷ names) = check Duplicate k (not (has before a)) ∷ each_new (suc k) (before ++ a ∷ []) names
 
 -- a name is among those told; where none are told, each is
 abbrev pub has_columns : Option (List Name) → Name → Bool
@@ -141,10 +113,6 @@ projection_checks cs s =
 abbrev pub all_read : Option (List Name) → Columns → Bool
 all_read reads [] = true
 all_read reads (c ∷ cs) = has_columns reads c.0 && all_read reads cs
-
--- the stored columns are those that are computed
-unfoldable pub stored_checks : Columns → Columns → List Check
-stored_checks stored computed = check SchemaMismatch 0 (same_columns stored computed) ∷ []
 
 -- what a scan puts out has the files' types and is read; a scan that puts out everything reads everything
 unfoldable pub put_out_checks : Option Columns → Option (List Name) → Columns → List Check
@@ -187,26 +155,6 @@ frame_checks df schema outs =
     ++ (number_checks df schema
     ++ each SchemaMismatch 1 (is_column schema) outs)
 
--- each expression has a form
-unfoldable pub form_checks : List Named → List Check
-form_checks es = each InvalidOperation 1 (λ (e : Named). has_form e.expr) es
-
--- each expression reads columns that there are
-unfoldable pub leaf_checks : List Named → Columns → List Check
-leaf_checks es s = each SchemaFieldNotFound 1 (λ (e : Named). all_known (leaves e.expr) s) es
-
--- each expression has a type
-unfoldable pub type_checks : List Named → Columns → List Check
-type_checks es s = each SchemaMismatch 1 (λ (e : Named). is_some (expr_type e.expr s)) es
-
--- no two expressions are put out under one name
-unfoldable pub once_checks : List Named → List Check
-once_checks es = each_new 1 [] (out_names es)
-
--- each expression is named as it may be
-unfoldable pub naming_checks : List Named → List Check
-naming_checks es = each SchemaMismatch 1 (λ (e : Named). may_be_named e.name (naming e.expr)) es
-
 -- expressions have forms, read some columns and have types there, no two have one name, the stored columns are those that they make beside others, and each is named as it may be
 unfoldable pub made_checks : Columns → List Named → Columns → Columns → List Check
 made_checks base es stored s =
@@ -216,15 +164,6 @@ made_checks base es stored s =
     ++ (once_checks es
     ++ (stored_checks stored (made_schema base es s)
     ++ naming_checks es))))
-
--- there is a type, and it is plain
-abbrev pub is_plain_type : Option DataType → Bool
-is_plain_type None = false
-is_plain_type (Some t) = is_plain t
-
--- each expression has a plain type
-unfoldable pub plain_checks : List Named → Columns → List Check
-plain_checks es s = each SchemaMismatch 1 (λ (e : Named). is_plain_type (expr_type e.expr s)) es
 
 -- one mark for each of so many keys, or one for all
 abbrev pub are_marks : List Bool → ℕ → Bool
@@ -329,6 +268,11 @@ abbrev pub with_one : List Columns → (Columns → List Check) → List Check
 with_one (s ∷ []) cs = cs s
 with_one _ cs = check ComputeError 0 false ∷ []
 
+-- the checks on the columns of the two inputs; else one that fails
+abbrev pub with_two : List Columns → (Columns → Columns → List Check) → List Check
+with_two (s ∷ t ∷ []) cs = cs s t
+with_two _ cs = check ComputeError 0 false ∷ []
+
 -- the checks on a node over the columns of its inputs
 abbrev pub checks : Op → List Columns → List Check
 checks (slice offset len) ss = with_one ss (λ s. [])
@@ -340,6 +284,7 @@ checks (select exprs schema options) ss = with_one ss (λ s. check InvalidOperat
 checks (hstack exprs schema options) ss = with_one ss (λ s. made_checks s exprs schema s)
 checks (sort keys part options) ss = with_one ss (λ s. check InvalidOperation 0 (is_built_sort (length keys) part options) ∷ key_checks keys s)
 checks (group_by keys aggs schema ordered options) ss = with_one ss (λ s. check InvalidOperation 0 (is_built_group keys options) ∷ made_checks [] (group_exprs keys aggs) schema s)
+checks (join left_on right_on schema told) ss = with_two ss (join_checks left_on right_on schema told)
 checks (distinct options) ss = with_one ss (λ s. check InvalidOperation 0 (is_built_distinct options) ∷ subset_checks options.subset s)
 checks (map_function function) ss = with_one ss (function_checks function)
 checks (sink payload) ss = with_one ss (λ s. [])

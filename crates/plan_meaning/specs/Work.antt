@@ -3,7 +3,7 @@ use Rattle.std.specs.Prelude.{ℕ, ◌+◌, Bool, true, false, not, List, [], �
 use Rattle.std.specs.List.{filter as only_where}
 use Rattle.plan_tree.specs.Rose.{Roses, rose, no_roses, more}
 use Rattle.plan_expr.specs.Exprs.{ExprOp, column, literal, alias, binary, ternary, aggregate, call, window, len as row_count, Expr, Named}
-use Rattle.plan_ir.specs.Plans.{Op, slice, filter, scan, frame_scan, simple_projection, select, hstack, sort, group_by, distinct, map_function, sink, union, hconcat, cache, invalid, Plan}
+use Rattle.plan_ir.specs.Plans.{Op, slice, filter, scan, frame_scan, simple_projection, select, hstack, sort, group_by, join, distinct, map_function, sink, union, hconcat, cache, invalid, Plan}
 use Rattle.plan_meaning.specs.Typing.{schemas}
 use Rattle.plan_meaning.specs.Relating.{Asked, all}
 use Rattle.plan_meaning.specs.Counting.{stand_ins}
@@ -40,6 +40,7 @@ own_made (frame_scan df schema output) = 0
 own_made (simple_projection columns) = 0
 own_made (sort keys part options) = 0
 own_made (group_by keys aggs schema ordered options) = length aggs
+own_made (join left_on right_on schema told) = 0
 own_made (distinct options) = 0
 own_made (map_function function) = 0
 own_made (sink payload) = 0
@@ -68,6 +69,7 @@ own_kept (frame_scan df schema output) a = 0
 own_kept (simple_projection columns) a = 0
 own_kept (sort keys part options) a = 0
 own_kept (group_by keys aggs schema ordered options) a = length (kept_exprs a aggs)
+own_kept (join left_on right_on schema told) a = 0
 own_kept (distinct options) a = 0
 own_kept (map_function function) a = 0
 own_kept (sink payload) a = 0

@@ -9,7 +9,8 @@ use Rattle.plan_expr.specs.Leaves.{Name}
 use Rattle.plan_ir.specs.Plans.{Op, hconcat}
 use Rattle.plan_options.specs.declared.union.HConcatOptions.{HConcatOptions}
 use Rattle.plan_frame.specs.Beside.{are_apart, in_a_row, share_no_name, side_by_side}
-use Rattle.plan_meaning.specs.Typing.{is_empty, schemas, stored_checks, checks, AllHold, AllValid}
+use Rattle.plan_meaning.specs.Checks.{is_empty, stored_checks}
+use Rattle.plan_meaning.specs.Typing.{schemas, checks, AllHold, AllValid}
 use Rattle.plan_frame.specs.Frames.{Frame, HasSchema, found, highest, levelled, beside, picked, picked_columns, Agree}
 use Rattle.plan_meaning.specs.Steps.{IsValid}
 use Rattle.plan_meaning.specs.Relating.{Asked, all, names, NarrowColumns, AgreeOn, Narrows}

@@ -9,7 +9,8 @@ use Rattle.plan_expr.specs.Leaves.{Name}
 use Rattle.plan_ir.specs.Plans.{simple_projection, Plan}
 use Rattle.plan_frame.specs.Exprs.{is_type}
 use Rattle.plan_frame.specs.Values.{Value, null}
-use Rattle.plan_meaning.specs.Typing.{is_column, is_empty, first_schema, schema, checks, AllHold}
+use Rattle.plan_meaning.specs.Checks.{is_column, is_empty}
+use Rattle.plan_meaning.specs.Typing.{first_schema, schema, checks, AllHold}
 use Rattle.plan_frame.specs.Frames.{Frame, HasSchema, column_or, cut, Agree}
 use Rattle.plan_meaning.specs.Steps.{IsValid}
 use Rattle.plan_meaning.specs.Relating.{Asked, all, names, Holding, NarrowColumns, AgreeOn, Narrows, Relates}

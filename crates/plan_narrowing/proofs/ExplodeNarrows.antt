@@ -12,7 +12,8 @@ use Rattle.plan_ir.specs.declared.functions.FunctionIR.TheVariants.{Explode}
 use Rattle.plan_expr.specs.Leaves.{Name}
 use Rattle.plan_frame.specs.Reshaped.{item_type, exploded_columns, items, rows_given, exploded_rows, exploded_values}
 use Rattle.plan_meaning.specs.Mapped.{mapped}
-use Rattle.plan_meaning.specs.Typing.{Check, is_known, is_list_type, explode_checks, function_checks, AllHold}
+use Rattle.plan_meaning.specs.Checks.{Check, is_known}
+use Rattle.plan_meaning.specs.Typing.{is_list_type, explode_checks, function_checks, AllHold}
 use Rattle.plan_frame.specs.Values.{Value}
 use Rattle.plan_frame.specs.Frames.{Frame, Column, HasSchema, found, row, column_or, Agree}
 use Rattle.plan_meaning.specs.Relating.{Holding}

@@ -7,7 +7,8 @@ use Rattle.plan_core.specs.Names.{has}
 use Rattle.plan_ir.specs.Plans.{frame_scan}
 use Rattle.plan_expr.specs.Leaves.{Name}
 use Rattle.plan_frame.specs.Exprs.{is_type}
-use Rattle.plan_meaning.specs.Typing.{is_known, is_column, columns_or, checks, AllHold}
+use Rattle.plan_meaning.specs.Checks.{is_known, is_column}
+use Rattle.plan_meaning.specs.Typing.{columns_or, checks, AllHold}
 use Rattle.plan_frame.specs.Frames.{Frame, cut, column_or, Agree}
 use Rattle.plan_meaning.specs.Contents.{Contents, handed_in}
 use Rattle.plan_meaning.specs.Steps.{Step}

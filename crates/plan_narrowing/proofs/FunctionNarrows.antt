@@ -8,7 +8,8 @@ use Rattle.plan_ir.specs.Plans.{map_function}
 use Rattle.plan_expr.specs.Leaves.{Name}
 use Rattle.plan_meaning.specs.Functions.{function_schema}
 use Rattle.plan_meaning.specs.Mapped.{mapped}
-use Rattle.plan_meaning.specs.Typing.{is_empty, function_checks, AllHold}
+use Rattle.plan_meaning.specs.Checks.{is_empty}
+use Rattle.plan_meaning.specs.Typing.{function_checks, AllHold}
 use Rattle.plan_frame.specs.Frames.{Frame, Agree}
 use Rattle.plan_meaning.specs.Relating.{Asked, all, names as these, cached, Holding, NarrowColumns}
 use Rattle.plan_meaning.specs.Asked.{set_of, function_names, asks_function, Fair, IsFair}

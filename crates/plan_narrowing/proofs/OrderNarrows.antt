@@ -13,7 +13,8 @@ use Rattle.plan_expr.specs.Exprs.{Named}
 use Rattle.plan_ir.specs.Plans.{sort, distinct, sink}
 use Rattle.plan_expr.specs.Leaves.{Name, leaves}
 use Rattle.plan_frame.specs.Exprs.{expr_type}
-use Rattle.plan_meaning.specs.Typing.{checks, is_known, is_plain_type, subset_checks, AllHold}
+use Rattle.plan_meaning.specs.Checks.{is_known, is_plain_type}
+use Rattle.plan_meaning.specs.Typing.{checks, subset_checks, AllHold}
 use Rattle.plan_frame.specs.Frames.{names_or, Frame, HasSchema, column, column_names, column_or, row, rows_at, Agree}
 use Rattle.plan_frame.specs.Values.{Value, null, same_value}
 use Rattle.plan_frame.specs.Meaning.{Cell, many, are_alike}

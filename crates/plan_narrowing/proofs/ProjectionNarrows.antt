@@ -9,7 +9,8 @@ use Rattle.plan_core.specs.Columns.{Columns, names_of, type_of}
 use Rattle.plan_core.specs.Names.{has, with_names}
 use Rattle.plan_ir.specs.Plans.{simple_projection}
 use Rattle.plan_frame.specs.Exprs.{is_type}
-use Rattle.plan_meaning.specs.Typing.{is_empty, is_known, is_column, each, checks, AllHold}
+use Rattle.plan_meaning.specs.Checks.{is_empty, is_known, is_column, each}
+use Rattle.plan_meaning.specs.Typing.{checks, AllHold}
 use Rattle.plan_frame.specs.Frames.{Frame, cut, column_or, Agree}
 use Rattle.plan_meaning.specs.Relating.{Asked, all, names, cached, Holding, NarrowColumns, AgreeOn}
 use Rattle.plan_meaning.specs.Asked.{is_asked, kept, IsFair}

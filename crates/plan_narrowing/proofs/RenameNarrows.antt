@@ -11,7 +11,8 @@ use Rattle.plan_expr.specs.Leaves.{Name}
 use Rattle.plan_meaning.specs.Functions.{renamed, former, stay_apart, function_schema}
 use Rattle.plan_frame.specs.Reshaped.{renamed_columns}
 use Rattle.plan_meaning.specs.Mapped.{mapped}
-use Rattle.plan_meaning.specs.Typing.{Check, check, each_new, function_checks, rename_checks, AllHold}
+use Rattle.plan_meaning.specs.Checks.{Check, check, each_new}
+use Rattle.plan_meaning.specs.Typing.{function_checks, rename_checks, AllHold}
 use Rattle.plan_frame.specs.Frames.{Column, Frame, HasSchema, found, column_names, Agree}
 use Rattle.plan_meaning.specs.Relating.{Holding}
 use Rattle.plan_meaning.specs.Asked.{function_names, Fair}

@@ -17,7 +17,8 @@ use Rattle.plan_expr.specs.Exprs.{Named}
 use Rattle.plan_ir.specs.Plans.{scan, simple_projection}
 use Rattle.plan_frame.specs.Exprs.{is_type}
 use Rattle.plan_frame.specs.Values.{Value, null}
-use Rattle.plan_meaning.specs.Typing.{is_empty, is_known, is_column, each, each_new, columns_or, file_columns, has_columns, put_out_checks, scan_name_checks, is_built_scan, checks, AllHold}
+use Rattle.plan_meaning.specs.Checks.{is_empty, is_known, is_column, each, each_new}
+use Rattle.plan_meaning.specs.Typing.{columns_or, file_columns, has_columns, put_out_checks, scan_name_checks, is_built_scan, checks, AllHold}
 use Rattle.plan_frame.specs.Frames.{Frame, HasSchema, cut, column_or, Agree, total_height, stacked, stack}
 use Rattle.plan_meaning.specs.Contents.{Contents, frames_of}
 use Rattle.plan_meaning.specs.Steps.{Step}

@@ -7,7 +7,8 @@ use Rattle.plan_core.specs.Names.{has, AreDistinct}
 use Rattle.plan_expr.specs.Exprs.{Named}
 use Rattle.plan_ir.specs.Plans.{select}
 use Rattle.plan_expr.specs.Leaves.{Name}
-use Rattle.plan_meaning.specs.Typing.{is_empty, checks, AllHold}
+use Rattle.plan_meaning.specs.Checks.{is_empty}
+use Rattle.plan_meaning.specs.Typing.{checks, AllHold}
 use Rattle.plan_frame.specs.ExprLists.{out_names, all_scalar, all_leaves}
 use Rattle.plan_frame.specs.Made.{made_schema, made_columns, selected}
 use Rattle.plan_frame.specs.Frames.{Frame, Column, found, with_columns, Agree}

@@ -15,7 +15,8 @@ use Rattle.plan_meaning.specs.Functions.{told_names, value_names, first_type, va
 use Rattle.plan_frame.specs.Reshaped.{type_or, repeated, names_down, values_down}
 use Rattle.plan_frame.specs.Exprs.{is_type}
 use Rattle.plan_meaning.specs.Mapped.{mapped}
-use Rattle.plan_meaning.specs.Typing.{Check, check, each, is_empty, is_known, is_column, unpivot_name_checks, unpivot_type_checks, unpivot_checks, function_checks, AllHold}
+use Rattle.plan_meaning.specs.Checks.{Check, check, each, is_empty, is_known, is_column}
+use Rattle.plan_meaning.specs.Typing.{unpivot_name_checks, unpivot_type_checks, unpivot_checks, function_checks, AllHold}
 use Rattle.plan_frame.specs.Values.{Value, text}
 use Rattle.plan_frame.specs.Frames.{Frame, Column, column_names, column_or, table_columns, Agree}
 use Rattle.plan_meaning.specs.Relating.{Holding}

@@ -13,7 +13,8 @@ use Rattle.plan_meaning.specs.PlanAt.{one_plan, plan_at}
 use Rattle.plan_meaning.specs.Steps.{IsValid}
 use Rattle.plan_meaning.specs.Functions.{function_schema}
 use Rattle.plan_frame.specs.Grouping.{group_exprs}
-use Rattle.plan_meaning.specs.Typing.{Check, stored_checks, at as at_node, columns_or, file_columns, first_fault, first_schema, function_checks, schema, schema_by, schemas, checks, Says, AllHold, AllValid}
+use Rattle.plan_meaning.specs.Checks.{Check, stored_checks}
+use Rattle.plan_meaning.specs.Typing.{at as at_node, columns_or, file_columns, first_fault, first_schema, function_checks, schema, schema_by, schemas, checks, Says, AllHold, AllValid}
 use Rattle.plan_frame.specs.Beside.{side_by_side}
 use Rattle.plan_meaning.proofs.Validity.{all_hold_unless, one_stands}
 pub use Rattle.plan_meaning.proofs.CheckParts.{same_is, is_same}

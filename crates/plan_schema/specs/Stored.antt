@@ -7,7 +7,8 @@ use Rattle.plan_tree.specs.Rose.{Roses, rose, no_roses, more}
 use Rattle.plan_ir.specs.Plans.{Op, slice, filter, scan, frame_scan, simple_projection, select, hstack, sort, group_by, distinct, map_function, sink, union, hconcat, cache, invalid}
 use Rattle.plan_ir.specs.declared.functions.FunctionIR.{FunctionIR}
 use Rattle.plan_meaning.specs.Functions.{function_schema}
-use Rattle.plan_meaning.specs.Typing.{Check, columns_or, first_schema, function_checks}
+use Rattle.plan_meaning.specs.Checks.{Check}
+use Rattle.plan_meaning.specs.Typing.{columns_or, first_schema, function_checks}
 use Rattle.plan_schema.specs.declared.stored.StoredSchema.{StoredSchema}
 use Rattle.plan_schema.specs.declared.stored.StoredSchema.TheVariants.{Stored, Given}
 

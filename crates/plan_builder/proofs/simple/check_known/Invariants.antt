@@ -1,5 +1,5 @@
 use Rattle.plan_core.specs.declared.error.PolarsError.TheVariants.{SchemaFieldNotFound}
-use Rattle.plan_meaning.specs.Typing.{is_known}
+use Rattle.plan_meaning.specs.Checks.{is_known}
 use Rattle.plan_builder.proofs.Faults.{Left}
 use Rattle.plan_builder.proofs.simple.check_known.Given as goal
 

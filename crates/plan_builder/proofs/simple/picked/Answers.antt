@@ -3,7 +3,7 @@ use Rattle.plan_core.specs.declared.error.At.{At}
 use Rattle.plan_core.specs.declared.error.PolarsError.TheVariants.{Duplicate, SchemaFieldNotFound}
 use Rattle.plan_core.specs.Columns.{Columns, type_of, with_type}
 use Rattle.plan_expr.specs.Leaves.{Name}
-use Rattle.plan_meaning.specs.Typing.{is_known}
+use Rattle.plan_meaning.specs.Checks.{is_known}
 use Rattle.plan_frame.proofs.ScalarExprs.{item_here}
 use Rattle.plan_builder.proofs.Faults.{each-holds}
 use Rattle.plan_builder.proofs.PickLemmas.{Picking, picking-bad, picking-next}

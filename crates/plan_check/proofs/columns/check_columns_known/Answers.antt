@@ -1,6 +1,6 @@
 use Rattle.std.proofs.Common.{◌≡◌, arith, true, false, rules}
 use Rattle.plan_core.specs.declared.error.PolarsError.TheVariants.{SchemaFieldNotFound}
-use Rattle.plan_meaning.specs.Typing.{is_known}
+use Rattle.plan_meaning.specs.Checks.{is_known}
 use Rattle.plan_function.proofs.CheckLemmas.{left-next, left-bad, past}
 use Rattle.plan_check.proofs.columns.check_columns_known.Goals.{in-Some+else-is_none, in_default}
 use Rattle.plan_check.proofs.columns.check_columns_known.Goals as goal

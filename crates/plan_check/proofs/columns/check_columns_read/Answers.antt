@@ -1,7 +1,8 @@
 use Rattle.std.proofs.Common.{◌≡◌, ◌∙◌, ◌&&◌, sym, arith, true, false, rules, ℕ, List, Bool}
 use Rattle.plan_core.specs.declared.data_type.DataType.{DataType}
 use Rattle.plan_core.specs.declared.error.PolarsError.TheVariants.{SchemaMismatch}
-use Rattle.plan_meaning.specs.Typing.{is_column, has_columns}
+use Rattle.plan_meaning.specs.Checks.{is_column}
+use Rattle.plan_meaning.specs.Typing.{has_columns}
 use Rattle.plan_function.proofs.CheckLemmas.{left-next, left-bad, past}
 use Rattle.plan_check.proofs.columns.check_columns_read.Goals.{in-Some+else-not-is_put_out, in_default}
 use Rattle.plan_check.proofs.columns.check_columns_read.Goals as goal

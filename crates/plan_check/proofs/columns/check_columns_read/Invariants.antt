@@ -1,6 +1,7 @@
 use Rattle.std.proofs.Common.{◌&&◌}
 use Rattle.plan_core.specs.declared.error.PolarsError.TheVariants.{SchemaMismatch}
-use Rattle.plan_meaning.specs.Typing.{is_column, has_columns}
+use Rattle.plan_meaning.specs.Checks.{is_column}
+use Rattle.plan_meaning.specs.Typing.{has_columns}
 use Rattle.plan_function.proofs.CheckLemmas.{Left}
 use Rattle.plan_check.proofs.columns.check_columns_read.Given as goal
 

@@ -1,6 +1,6 @@
 use Rattle.std.proofs.Common.{◌≡◌, arith, true, false, rules}
 use Rattle.plan_core.specs.declared.error.PolarsError.TheVariants.{SchemaMismatch}
-use Rattle.plan_meaning.specs.Typing.{is_column}
+use Rattle.plan_meaning.specs.Checks.{is_column}
 use Rattle.plan_function.proofs.CheckLemmas.{left-next, left-bad, past}
 use Rattle.plan_check.proofs.columns.check_columns_typed.Goals.{in-Some+else-not-is_column, in_default}
 use Rattle.plan_check.proofs.columns.check_columns_typed.Goals as goal

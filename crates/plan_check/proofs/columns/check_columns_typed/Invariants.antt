@@ -1,5 +1,5 @@
 use Rattle.plan_core.specs.declared.error.PolarsError.TheVariants.{SchemaMismatch}
-use Rattle.plan_meaning.specs.Typing.{is_column}
+use Rattle.plan_meaning.specs.Checks.{is_column}
 use Rattle.plan_function.proofs.CheckLemmas.{Left}
 use Rattle.plan_check.proofs.columns.check_columns_typed.Given as goal
 

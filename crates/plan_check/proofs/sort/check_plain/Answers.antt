@@ -3,7 +3,8 @@ use Rattle.plan_core.specs.declared.error.At.{At}
 use Rattle.plan_core.specs.declared.error.PolarsError.TheVariants.{SchemaMismatch}
 use Rattle.plan_expr.specs.Exprs.{expr_at}
 use Rattle.plan_frame.specs.Exprs.{expr_type}
-use Rattle.plan_meaning.specs.Typing.{first_fault, is_plain_type}
+use Rattle.plan_meaning.specs.Checks.{is_plain_type}
+use Rattle.plan_meaning.specs.Typing.{first_fault}
 use Rattle.plan_function.proofs.CheckLemmas.{left-next, left-bad, left-end}
 use Rattle.plan_check.proofs.MadeLemmas.{plain-at, stands_here, item_here}
 use Rattle.plan_check.proofs.sort.check_plain.Goals as goal

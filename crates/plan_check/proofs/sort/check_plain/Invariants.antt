@@ -1,7 +1,7 @@
 use Rattle.plan_core.specs.declared.error.PolarsError.TheVariants.{SchemaMismatch}
 use Rattle.plan_expr.specs.Exprs.{expr_at}
 use Rattle.plan_frame.specs.Exprs.{expr_type}
-use Rattle.plan_meaning.specs.Typing.{is_plain_type}
+use Rattle.plan_meaning.specs.Checks.{is_plain_type}
 use Rattle.plan_function.proofs.CheckLemmas.{Left}
 use Rattle.plan_check.proofs.sort.check_plain.Given as goal
 

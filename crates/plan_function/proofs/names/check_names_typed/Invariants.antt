@@ -1,5 +1,5 @@
 use Rattle.plan_core.specs.declared.error.PolarsError.TheVariants.{SchemaMismatch}
-use Rattle.plan_meaning.specs.Typing.{is_column}
+use Rattle.plan_meaning.specs.Checks.{is_column}
 use Rattle.plan_function.proofs.CheckLemmas.{Left}
 use Rattle.plan_function.proofs.names.check_names_typed.Given as goal
 
