@@ -8,7 +8,7 @@ use Rattle.plan_tree.specs.Rose.{Roses, rose, no_roses, more}
 use Rattle.plan_expr.specs.declared.aexpr.AExpr.{AExpr}
 use Rattle.plan_ir.specs.declared.ir.IR.{IR}
 use Rattle.plan_ir.specs.Parts.{IsPlan}
-use Rattle.plan_ir.specs.Plans.{Op, slice, filter, scan, frame_scan, simple_projection, select, hstack, sort, group_by, distinct, map_function, sink, union, hconcat, cache, invalid, bare, plans_at}
+use Rattle.plan_ir.specs.Plans.{Op, slice, filter, scan, frame_scan, simple_projection, select, hstack, sort, group_by, join, distinct, map_function, sink, union, hconcat, cache, invalid, bare, plans_at}
 use Rattle.plan_meaning.specs.PlanAt.{one_plan, plan_at}
 use Rattle.plan_meaning.specs.Steps.{IsValid}
 use Rattle.plan_meaning.specs.Functions.{function_schema}
@@ -17,6 +17,7 @@ use Rattle.plan_meaning.specs.Checks.{Check, stored_checks}
 use Rattle.plan_meaning.specs.Typing.{at as at_node, columns_or, file_columns, first_fault, first_schema, function_checks, schema, schema_by, schemas, checks, Says, AllHold, AllValid}
 use Rattle.plan_frame.specs.Beside.{side_by_side}
 use Rattle.plan_meaning.proofs.Validity.{all_hold_unless, one_stands}
+use Rattle.plan_meaning.proofs.JoinLemmas.{join_good}
 pub use Rattle.plan_meaning.proofs.CheckParts.{same_is, is_same}
 use Rattle.plan_meaning.proofs.CheckParts.{scan_good, made_good}
 use Rattle.plan_schema.specs.Stored.{all_hold, wants_memory, stored_by, stored_all}
@@ -75,6 +76,10 @@ stored-by (sort keys part options) ss good = refl
 stored-by (group_by keys aggs schema ordered options) (s ∷ []) good = same_is schema _ (made_good [] (group_exprs keys aggs) schema s good.1).same
 stored-by (group_by keys aggs schema ordered options) [] good = cc
 stored-by (group_by keys aggs schema ordered options) (s ∷ t ∷ ss) good = cc
+stored-by (join left_on right_on schema told) (s ∷ t ∷ []) good = same_is schema _ (join_good left_on right_on schema told s t good).same
+stored-by (join left_on right_on schema told) [] good = cc
+stored-by (join left_on right_on schema told) (s ∷ []) good = cc
+stored-by (join left_on right_on schema told) (s ∷ t ∷ u ∷ ss) good = cc
 stored-by (distinct options) ss good = refl
 stored-by (map_function function) (s ∷ []) good = ap (λ (b : Bool). cond b (function_schema function s) []) (all-hold (function_checks function s) good)
 stored-by (map_function function) [] good = cc

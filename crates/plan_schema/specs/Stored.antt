@@ -4,7 +4,7 @@ use Rattle.plan_core.specs.declared.error.PolarsError.{PolarsError}
 use Rattle.plan_core.specs.declared.error.PolarsError.TheVariants.{SchemaFieldNotFound, Duplicate, SchemaMismatch, InvalidOperation, ComputeError, OutOfMemory}
 use Rattle.plan_core.specs.Columns.{Columns}
 use Rattle.plan_tree.specs.Rose.{Roses, rose, no_roses, more}
-use Rattle.plan_ir.specs.Plans.{Op, slice, filter, scan, frame_scan, simple_projection, select, hstack, sort, group_by, distinct, map_function, sink, union, hconcat, cache, invalid}
+use Rattle.plan_ir.specs.Plans.{Op, slice, filter, scan, frame_scan, simple_projection, select, hstack, sort, group_by, join, distinct, map_function, sink, union, hconcat, cache, invalid}
 use Rattle.plan_ir.specs.declared.functions.FunctionIR.{FunctionIR}
 use Rattle.plan_meaning.specs.Functions.{function_schema}
 use Rattle.plan_meaning.specs.Checks.{Check}
@@ -46,6 +46,7 @@ stored_by (select exprs schema options) ss = schema
 stored_by (hstack exprs schema options) ss = schema
 stored_by (sort keys part options) ss = first_schema ss
 stored_by (group_by keys aggs schema ordered options) ss = schema
+stored_by (join left_on right_on schema told) ss = schema
 stored_by (distinct options) ss = first_schema ss
 stored_by (map_function function) ss = given_by function (first_schema ss)
 stored_by (sink payload) ss = first_schema ss

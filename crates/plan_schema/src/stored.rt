@@ -115,6 +115,7 @@ fn stored<'a>(alloc: Global, node: Node, lp: &'a Arena<IR>) -> Result<StoredSche
         IR::Select { schema, .. } => Ok(StoredSchema::Stored(schema)),
         IR::HStack { schema, .. } => Ok(StoredSchema::Stored(schema)),
         IR::GroupBy { schema, .. } => Ok(StoredSchema::Stored(schema)),
+        IR::Join { schema, .. } => Ok(StoredSchema::Stored(schema)),
         IR::HConcat { schema, .. } => Ok(StoredSchema::Stored(schema)),
         IR::Invalid => unreachable!(),
     }

@@ -1,7 +1,7 @@
 use Rattle.std.proofs.Common.{◌∙◌, List, ap, sym, refl, arith, Some}
 use Rattle.std.specs.List.{slice_get}
 use Rattle.plan_core.specs.declared.arena.Node.{Node}
-use Rattle.plan_ir.specs.declared.ir.IR.TheVariants.{Slice, Filter, Scan, DataFrameScan, SimpleProjection, Select, HStack, Sort, GroupBy, Distinct, MapFunction, Sink, Union, HConcat, Cache}
+use Rattle.plan_ir.specs.declared.ir.IR.TheVariants.{Slice, Filter, Scan, DataFrameScan, SimpleProjection, Select, HStack, Sort, GroupBy, Join, Distinct, MapFunction, Sink, Union, HConcat, Cache}
 use Rattle.plan_ir.specs.Parts.{plan_shape}
 use Rattle.plan_tree.proofs.TreeLemmas.{height-falls, StandsOnce-input}
 use Rattle.plan_schema.specs.Stored.{given_by}
@@ -43,6 +43,9 @@ returns-in-HStack t c = λ ex. stored_open c.args.lp.now ex c.args.node (HStack 
 
 pub returns-in-GroupBy : goal.returns-in-GroupBy
 returns-in-GroupBy t c = λ ex. stored_open c.args.lp.now ex c.args.node (GroupBy c.in-GroupBy.input c.in-GroupBy.keys c.in-GroupBy.aggs c.in-GroupBy.schema c.in-GroupBy.maintain_order c.in-GroupBy.options) c.requires (c.get.ensures.entry ∙ ap Some c.in-GroupBy.is)
+
+pub returns-in-Join : goal.returns-in-Join
+returns-in-Join t c = λ ex. stored_open c.args.lp.now ex c.args.node (Join c.in-Join.input_left c.in-Join.input_right c.in-Join.schema c.in-Join.left_on c.in-Join.right_on c.in-Join.options) c.requires (c.get.ensures.entry ∙ ap Some c.in-Join.is)
 
 pub returns-in-HConcat : goal.returns-in-HConcat
 returns-in-HConcat t c = λ ex. stored_open c.args.lp.now ex c.args.node (HConcat c.in-HConcat.inputs c.in-HConcat.schema c.in-HConcat.options) c.requires (c.get.ensures.entry ∙ ap Some c.in-HConcat.is)
