@@ -5,7 +5,7 @@ use Rattle.plan_core.specs.Names.{with_names}
 use Rattle.plan_tree.specs.Rose.{Roses, rose, no_roses, more}
 use Rattle.plan_expr.specs.Exprs.{Named}
 use Rattle.plan_ir.specs.declared.functions.FunctionIR.{FunctionIR}
-use Rattle.plan_ir.specs.Plans.{Op, slice, filter, scan, frame_scan, simple_projection, select, hstack, sort, group_by, distinct, map_function, sink, union, hconcat, cache, invalid}
+use Rattle.plan_ir.specs.Plans.{Op, slice, filter, scan, frame_scan, simple_projection, select, hstack, sort, group_by, join, distinct, map_function, sink, union, hconcat, cache, invalid}
 use Rattle.plan_meaning.specs.Checks.{is_empty}
 use Rattle.plan_meaning.specs.Typing.{first_schema, schema_by, schemas, checks, AllHold, AllValid}
 use Rattle.plan_frame.specs.Frames.{names_or}
@@ -129,6 +129,7 @@ asks-each l (hstack es schema options) ts opens v =
 asks-each l (sort keys part options) ts opens v = one_asked (more-is l (all_leaves keys))
 asks-each l (group_by keys aggs schema ordered options) ts opens v =
     one_asked (grouped_asks keys aggs l (first_schema (schemas ts)) ∙ ap (λ (ss : List Columns). set_of (grouping_names keys (kept_exprs (set_of l) aggs) l (first_schema ss))) (sym (stored-schemas ts v)))
+asks-each l (join left_on right_on schema told) ts opens v = cc
 asks-each l (distinct options) ts opens v =
     one_asked (more-is l (names_or options.subset (names_of (first_schema (schemas ts)))) ∙ ap (λ (ss : List Columns). set_of (asked_with l (names_or options.subset (names_of (first_schema ss))))) (sym (stored-schemas ts v)))
 asks-each l (map_function function) ts opens v =

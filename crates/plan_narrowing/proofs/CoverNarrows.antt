@@ -14,7 +14,7 @@ use Rattle.plan_meaning.specs.Typing.{first_schema, schema, checks, AllHold}
 use Rattle.plan_frame.specs.Frames.{Frame, HasSchema, column_or, cut, Agree}
 use Rattle.plan_meaning.specs.Steps.{IsValid}
 use Rattle.plan_meaning.specs.Relating.{Asked, all, names, Holding, NarrowColumns, AgreeOn, Narrows, Relates}
-use Rattle.plan_meaning.specs.Asked.{Fair}
+use Rattle.plan_meaning.specs.Asked.{set_of, Fair, IsFair}
 use Rattle.plan_frame.proofs.NameSets.{has_first, has_later, some-type_of}
 use Rattle.plan_frame.proofs.FrameLemmas.{cut_same, found-table, schema_holds, some_type_is}
 use Rattle.plan_meaning.proofs.Runs.{valid_runs}
@@ -99,6 +99,10 @@ module _ (wanted : List Name) (s : Columns) (fair : Fair wanted s) where
         (each_column (λ (c : Name × DataType). is_column r c ≡ true) s wanted (λ a i.
         ap (λ (o : Option DataType). is_type o (type_or s a)) (holding_same wanted r s h a i ∙ some_or (type_of s a) (fair.known a i)) ∙ some_type_is (type_or s a)))))
 
+-- columns narrow themselves at names that can be asked of them
+own_holds : (wanted : List Name) (s : Columns) → Fair wanted s → Holding wanted s s
+own_holds wanted s fair = record { held = λ b i. let t = some_is (type_of s b) (fair.known b i) in (t.0, t.1, t.1); within = λ b e. e }
+
 -- the columns that a valid plan says it has
 stored_is : (r : Plan) → IsValid r → first_schema (stored_all (more r no_roses)) ≡ schema r
 stored_is (rose m o us) v = ap first_schema (stored-schemas (more (rose m o us) no_roses) (v.0, v.1, tt))
@@ -123,7 +127,7 @@ module _ (a : Name) (l : List Name) (p : Plan) (v : IsValid p) (fair : Fair (a �
   covered_narrows =
       let s = schema p in
       let cs = typed_names s wanted in
-      let own : Holding wanted s s = record { held = λ b i. let t = some_is (type_of s b) (fair.known b i) in (t.0, t.1, t.1); within = λ b e. e } in
+      let own : Holding wanted s s = own_holds wanted s fair in
       subst (λ (x : Columns). Narrows (rose tt (simple_projection (typed_names x wanted)) (more p no_roses)) p (names wanted)) (sym (stored_is p v))
       (relates_top View SeeColumns SeeFrames (simple_projection cs) (seen all) (seen (names wanted)) p p (typed_good wanted s fair s own) (typed_holds wanted s fair) (λ c. tt)
       (λ c f g x has' ag st. subst (λ (y : Frame). Agree wanted y g) (sym (st ∙ ap (λ (n : List Name). cut n f) (names-are wanted s fair) ∙ ap (cut wanted) ag)) (cut_agrees wanted s fair g has'.0)) v
@@ -132,3 +136,14 @@ module _ (a : Name) (l : List Name) (p : Plan) (v : IsValid p) (fair : Fair (a �
 -- a plan narrows itself where everything is asked
 pub narrows_self : (p : Plan) → IsValid p → Narrows p p all
 narrows_self p v = record { valid = v; schema = refl; fits = λ c k. k; run = λ c k. valid_runs c p v k; may = λ c f k m. (f, m, refl) }
+
+-- a plan narrows itself at what can be asked of it
+pub narrows_fair : (l : List Name) (p : Plan) → IsValid p → IsFair (set_of l) (schema p) → Narrows p p (set_of l)
+narrows_fair [] p v fair = narrows_self p v
+narrows_fair (a ∷ l) p v fair = record {
+  valid = v;
+  schema = own_holds (a ∷ l) (schema p) fair;
+  fits = λ c k. k;
+  run = λ c k. valid_runs c p v k;
+  may = λ c f k m. (f, m, record { height = refl; same = λ b i. refl });
+}

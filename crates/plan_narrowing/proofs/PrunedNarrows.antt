@@ -14,7 +14,7 @@ use Rattle.plan_ir.specs.declared.scan.FileScan.{FileScan}
 use Rattle.plan_ir.specs.declared.scan.ScanSources.{ScanSources}
 use Rattle.plan_expr.specs.Exprs.{Named}
 use Rattle.plan_ir.specs.declared.functions.FunctionIR.{FunctionIR}
-use Rattle.plan_ir.specs.Plans.{Op, slice, filter, scan, frame_scan, simple_projection, select, hstack, sort, group_by, distinct, map_function, sink, union, hconcat, cache, invalid, Plan}
+use Rattle.plan_ir.specs.Plans.{Op, slice, filter, scan, frame_scan, simple_projection, select, hstack, sort, group_by, join, distinct, map_function, sink, union, hconcat, cache, invalid, Plan}
 use Rattle.plan_meaning.specs.Typing.{columns_or, file_columns, first_schema, schema_by, schema, schemas, checks, AllHold, AllValid}
 use Rattle.plan_frame.specs.Frames.{names_or, Agree}
 use Rattle.plan_frame.specs.ExprLists.{out_names, all_leaves}
@@ -36,7 +36,7 @@ use Rattle.plan_schema.specs.Stored.{stored_all}
 use Rattle.plan_narrowing.proofs.AskedNames.{set_some, kept-is, more-is, stacked_asks, function_asks, sets_of, stored_each, fair_each}
 use Rattle.plan_narrowing.proofs.NarrowLemmas.{Local, same_one, same_none, local_filter, local_slice}
 use Rattle.plan_narrowing.proofs.MadeNarrows.{SameLeaves, none_selected, needed_types, needed_frames}
-use Rattle.plan_narrowing.proofs.CoverNarrows.{narrows_self, covered_narrows}
+use Rattle.plan_narrowing.proofs.CoverNarrows.{narrows_self, narrows_fair, covered_narrows}
 use Rattle.plan_narrowing.proofs.UnionNarrows.{union_narrows}
 use Rattle.plan_narrowing.proofs.GroupNarrows.{local_grouped, whole_grouped}
 use Rattle.plan_narrowing.proofs.BesideNarrows.{hconcat_narrows}
@@ -275,6 +275,7 @@ rebuilt_narrows top l (hstack es stored options) rs no_roses opens v fair h = cc
 rebuilt_narrows top l (sort keys part options) rs (more (rose n o us) no_roses) opens v fair h = sort_narrows keys part options l rs (rose n o us) (schema_by o (schemas us)) refl v h
 rebuilt_narrows top l (sort keys part options) rs (more (rose n o us) (more (rose m o' us') rest)) opens v fair h = cc
 rebuilt_narrows top l (sort keys part options) rs no_roses opens v fair h = cc
+rebuilt_narrows top l (join left_on right_on schema told) rs ts opens v fair h = cc
 rebuilt_narrows top l (distinct options) rs (more (rose n o us) no_roses) opens v fair h =
     distinct_narrows options l rs (rose n o us) (schema_by o (schemas us)) refl v
     (subst (λ (ss : List Columns). AllNarrow (set_of (asked_with l (names_or options.subset (names_of (first_schema ss)))) ∷ []) rs (more (rose n o us) no_roses)) (stored-schemas (more (rose n o us) no_roses) v.1) h)
@@ -303,6 +304,7 @@ rebuilt_narrows top l invalid rs ts opens v fair h = cc
 closed_narrows : (top : Bool) (l : List Name) (op : Op) (ts : Roses (Unit {0}) Op) → is_closed op ≡ true → IsValid (rose tt op ts) → IsFair (set_of l) (schema_by op (schemas ts)) → Narrows (rebuilt top l op ts) (rose tt op ts) (set_of l)
 closed_narrows top [] (cache id hits) ts closed v fair = narrows_self (rose tt (cache id hits) ts) v
 closed_narrows top (a ∷ l) (cache id hits) ts closed v fair = covered_narrows a l (rose tt (cache id hits) ts) v fair
+closed_narrows top l (join left_on right_on schema told) ts closed v fair = narrows_fair l (rose tt (join left_on right_on schema told) ts) v fair
 closed_narrows top l op ts closed v fair = absurd (cc)
 
 -- a node over inputs that are left as they are below it

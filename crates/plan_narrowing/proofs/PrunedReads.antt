@@ -8,12 +8,12 @@ use Rattle.plan_core.specs.declared.options.ProjectionOptions.{ProjectionOptions
 use Rattle.plan_frame.proofs.NameSets.{has_cons, has_first, has_later}
 use Rattle.plan_tree.specs.Rose.{Roses, rose, no_roses, more, size}
 use Rattle.plan_expr.specs.Exprs.{Named}
-use Rattle.plan_ir.specs.Plans.{Op, slice, filter, scan, frame_scan, simple_projection, select, hstack, sort, group_by, distinct, map_function, sink, union, hconcat, cache, invalid, Plan}
+use Rattle.plan_ir.specs.Plans.{Op, slice, filter, scan, frame_scan, simple_projection, select, hstack, sort, group_by, join, distinct, map_function, sink, union, hconcat, cache, invalid, Plan}
 use Rattle.plan_meaning.specs.Typing.{schemas, checks, AllHold, AllValid}
 use Rattle.plan_meaning.specs.PlanAt.{one_plan}
 use Rattle.plan_meaning.specs.Steps.{IsValid}
 use Rattle.plan_meaning.specs.Relating.{Asked, all, names, cached}
-use Rattle.plan_meaning.specs.Asked.{set_of, kept_exprs, asks as asks_of, Site, SiteFair, own_site, sites, sites_of}
+use Rattle.plan_meaning.specs.Asked.{set_of, kept_exprs, asks_closed, asks as asks_of, Site, SiteFair, own_site, sites, sites_of}
 use Rattle.plan_meaning.specs.Counting.{is_closed, stand_ins}
 use Rattle.plan_meaning.specs.Scans.{scans, scans_in, KeepScans, Keeps, nodes}
 use Rattle.plan_meaning.proofs.Fairness.{plan_sites_fair}
@@ -57,6 +57,7 @@ few_for top lists (simple_projection cs) ts good = tt
 few_for top lists (select es schema options) ts good = tt
 few_for top lists (sort keys part options) ts good = tt
 few_for top lists (group_by keys aggs schema ordered options) ts good = tt
+few_for top lists (join left_on right_on schema told) ts good = tt
 few_for top lists (distinct options) ts good = tt
 few_for top lists (map_function function) ts good = tt
 few_for top lists (sink payload) ts good = tt
@@ -101,6 +102,7 @@ rebuilt_reads top l (simple_projection cs) rs zs few h = h
 rebuilt_reads top l (sort keys part options) rs zs few h = h
 rebuilt_reads top [] (group_by keys aggs schema ordered options) rs zs few h = h
 rebuilt_reads top (b ∷ l) (group_by keys aggs schema ordered options) rs zs few h = h
+rebuilt_reads top l (join left_on right_on schema told) rs zs few h = h
 rebuilt_reads top l (distinct options) rs zs few h = h
 rebuilt_reads top l (map_function function) rs zs few h = h
 rebuilt_reads top l (sink payload) rs zs few h = h
@@ -123,6 +125,7 @@ left_reads top l op rs ts good v few h = at (is_closed op) refl
 
     closed : (o : Op) → is_closed o ≡ true → AllHold (checks o (schemas ts)) → ReadWithin (scans (rebuilt top l o ts)) (own_site o (set_of l) ++ sites ts (asks_of o (set_of l) (schemas ts) (stand_ins ts (schemas ts))))
     closed (cache id hits) e g = rebuilt_reads top l (cache id hits) ts (sites ts (cached ∷ [])) tt (subst (λ (x : List Asked). ReadWithin (scans_in ts) (sites ts x)) (sym (asks-cached (cache id hits) ts g)) (cached_reads ts v))
+    closed (join left_on right_on schema told) e g = rebuilt_reads top l (join left_on right_on schema told) ts (sites ts (asks_closed (schemas ts))) tt (subst (λ (x : List Asked). ReadWithin (scans_in ts) (sites ts x)) (sym (asks-cached (join left_on right_on schema told) ts g)) (cached_reads ts v))
     closed o e g = absurd (cc)
 
     at : (b : Bool) → is_closed op ≡ b → ReadWithin (scans (rebuilt top l op (left_below b ts rs))) (own_site op (set_of l) ++ below)
@@ -225,6 +228,7 @@ rebuilt_nodes top l (simple_projection cs) ss rs w = omega arith
 rebuilt_nodes top l (sort keys part options) ss rs w = omega arith
 rebuilt_nodes top [] (group_by keys aggs schema ordered options) ss rs w = omega arith
 rebuilt_nodes top (b ∷ l) (group_by keys aggs schema ordered options) ss rs w = omega arith
+rebuilt_nodes top l (join left_on right_on schema told) ss rs w = omega arith
 rebuilt_nodes top l (distinct options) ss rs w = omega arith
 rebuilt_nodes top l (map_function function) ss rs w = omega arith
 rebuilt_nodes top l (sink payload) ss rs w = omega arith

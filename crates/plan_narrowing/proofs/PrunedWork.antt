@@ -4,13 +4,13 @@ use Rattle.plan_core.specs.declared.options.ProjectionOptions.{ProjectionOptions
 use Rattle.plan_core.specs.Columns.{Columns}
 use Rattle.plan_tree.specs.Rose.{Roses, rose, no_roses, more}
 use Rattle.plan_expr.specs.Exprs.{Named}
-use Rattle.plan_ir.specs.Plans.{Op, slice, filter, scan, frame_scan, simple_projection, select, hstack, sort, group_by, distinct, map_function, sink, union, hconcat, cache, invalid, Plan}
+use Rattle.plan_ir.specs.Plans.{Op, slice, filter, scan, frame_scan, simple_projection, select, hstack, sort, group_by, join, distinct, map_function, sink, union, hconcat, cache, invalid, Plan}
 use Rattle.plan_expr.specs.Leaves.{Name}
 use Rattle.plan_meaning.specs.Typing.{schemas, checks, AllHold, AllValid}
 use Rattle.plan_meaning.specs.PlanAt.{one_plan}
 use Rattle.plan_meaning.specs.Steps.{IsValid}
 use Rattle.plan_meaning.specs.Relating.{Asked, all, names, cached}
-use Rattle.plan_meaning.specs.Asked.{set_of, kept_exprs, asks as asks_of}
+use Rattle.plan_meaning.specs.Asked.{set_of, kept_exprs, asks_closed, asks as asks_of}
 use Rattle.plan_meaning.specs.Counting.{is_closed, stand_ins}
 use Rattle.plan_meaning.specs.Work.{reckoned_exprs, made_in, made, own_kept, kept_in, kept}
 use Rattle.plan_meaning.proofs.KeptExprs.{kept-all, selected-all}
@@ -60,6 +60,7 @@ rebuilt_made top l (simple_projection cs) rs = omega arith
 rebuilt_made top l (sort keys part options) rs = omega arith
 rebuilt_made top [] (group_by keys aggs schema ordered options) rs = let e : length (kept_exprs all aggs) ≡ length aggs = ap length (kept-all aggs) in omega arith
 rebuilt_made top (b ∷ l) (group_by keys aggs schema ordered options) rs = omega arith
+rebuilt_made top l (join left_on right_on schema told) rs = omega arith
 rebuilt_made top l (distinct options) rs = omega arith
 rebuilt_made top l (map_function function) rs = omega arith
 rebuilt_made top l (sink payload) rs = omega arith
@@ -80,6 +81,10 @@ left_made top l op rs ts good v h = at (is_closed op) refl
     closed (cache id hits) e g =
         let k = rebuilt_made top l (cache id hits) ts in
         let under : made_in ts ≤ kept_in ts (cached ∷ []) = subst (λ (x : List Asked). made_in ts ≤ kept_in ts x) (sym (asks-cached (cache id hits) ts g)) (cached_made ts v) in
+        omega (arith, k, under)
+    closed (join left_on right_on schema told) e g =
+        let k = rebuilt_made top l (join left_on right_on schema told) ts in
+        let under : made_in ts ≤ kept_in ts (asks_closed (schemas ts)) = subst (λ (x : List Asked). made_in ts ≤ kept_in ts x) (sym (asks-cached (join left_on right_on schema told) ts g)) (cached_made ts v) in
         omega (arith, k, under)
     closed o e g = absurd (cc)
 

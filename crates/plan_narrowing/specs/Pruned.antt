@@ -10,7 +10,7 @@ use Rattle.plan_ir.specs.declared.scan.FileInfo.{FileInfo}
 use Rattle.plan_ir.specs.declared.scan.FileScan.{FileScan}
 use Rattle.plan_ir.specs.declared.scan.ScanSources.{ScanSources}
 use Rattle.plan_expr.specs.Exprs.{Named}
-use Rattle.plan_ir.specs.Plans.{Op, slice, filter, scan, frame_scan, simple_projection, select, hstack, sort, group_by, distinct, map_function, sink, union, hconcat, cache, invalid, Plan}
+use Rattle.plan_ir.specs.Plans.{Op, slice, filter, scan, frame_scan, simple_projection, select, hstack, sort, group_by, join, distinct, map_function, sink, union, hconcat, cache, invalid, Plan}
 use Rattle.plan_core.specs.declared.options.ProjectionOptions.{ProjectionOptions}
 use Rattle.plan_options.specs.declared.group.GroupbyOptions.{GroupbyOptions}
 use Rattle.plan_options.specs.declared.union.HConcatOptions.{HConcatOptions}
@@ -171,6 +171,7 @@ asks asked (hstack exprs schema options) ss os = stacked_names asked exprs (firs
 asks asked (simple_projection columns) ss os = with_names [] (names_of (kept asked columns)) ∷ []
 asks asked (sort keys part options) ss os = asked_with asked (all_leaves keys) ∷ []
 asks asked (group_by keys aggs schema ordered options) ss os = grouping_names keys (kept_exprs (set_of asked) aggs) asked (first_schema ss) ∷ []
+asks asked (join left_on right_on schema told) ss os = names_alike [] ss
 asks asked (distinct options) ss os = asked_with asked (names_or options.subset (names_of (first_schema ss))) ∷ []
 asks asked (map_function function) ss os = mapped_names asked function (first_schema ss) ∷ []
 asks asked (sink payload) ss os = asked ∷ []
@@ -190,6 +191,7 @@ rebuilt top asked (hstack exprs schema options) inputs = pruned_hstack asked exp
 rebuilt top asked (simple_projection columns) inputs = rose tt (simple_projection (kept asked columns)) inputs
 rebuilt top asked (sort keys part options) inputs = rose tt (sort keys part options) inputs
 rebuilt top asked (group_by keys aggs schema ordered options) inputs = pruned_group_by asked keys aggs schema ordered options inputs
+rebuilt top asked (join left_on right_on schema told) inputs = rose tt (join left_on right_on schema told) inputs
 rebuilt top asked (distinct options) inputs = rose tt (distinct options) inputs
 rebuilt top asked (map_function function) inputs = rose tt (map_function function) inputs
 rebuilt top asked (sink payload) inputs = rose tt (sink payload) inputs

@@ -3,7 +3,7 @@ use Rattle.std.specs.Prelude.{◌≡◌, ℕ, ◌+◌, true, List, [], ◌∷◌
 use Rattle.plan_core.specs.Columns.{Columns}
 use Rattle.plan_core.specs.Names.{has}
 use Rattle.plan_tree.specs.Rose.{Roses, rose, no_roses, more}
-use Rattle.plan_ir.specs.Plans.{Op, slice, filter, scan, frame_scan, simple_projection, select, hstack, sort, group_by, distinct, map_function, sink, union, hconcat, cache, invalid, Plan}
+use Rattle.plan_ir.specs.Plans.{Op, slice, filter, scan, frame_scan, simple_projection, select, hstack, sort, group_by, join, distinct, map_function, sink, union, hconcat, cache, invalid, Plan}
 use Rattle.plan_expr.specs.Leaves.{Name}
 use Rattle.plan_meaning.specs.Typing.{schemas}
 use Rattle.plan_meaning.specs.Relating.{Asked, all, names, cached}
@@ -42,6 +42,7 @@ own_tops (hstack exprs schema options) a ss = 0
 own_tops (simple_projection columns) a ss = 0
 own_tops (sort keys part options) a ss = 0
 own_tops (group_by keys aggs schema ordered options) a ss = 0
+own_tops (join left_on right_on schema told) a ss = 0
 own_tops (distinct options) a ss = 0
 own_tops (map_function function) a ss = 0
 own_tops (sink payload) a ss = 0
