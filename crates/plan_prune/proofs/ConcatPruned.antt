@@ -24,10 +24,9 @@ use Rattle.plan_schema.specs.Stored.{stored_all}
 use Rattle.plan_narrowing.specs.Pruned.{asks_plans, held_names, pruned_all, pruned_hconcat, rebuilt, top_below}
 use Rattle.plan_narrowing.proofs.ListSteps.{take-next}
 use Rattle.plan_prune.specs.Kept.{beside_after, is_some_name}
-use Rattle.plan_prune.specs.Prunes.{Prunes}
+use Rattle.plan_prune.specs.Prunes.{Prunes, PrunesEach, covered_by}
 use Rattle.plan_prune.specs.Steps.{columns_at, held_at}
-use Rattle.plan_prune.proofs.JoinPruned.{covered_by}
-use Rattle.plan_prune.proofs.EachLemmas.{PrunesEach, each_finish}
+use Rattle.plan_prune.proofs.EachLemmas.{each_finish}
 
 -- there are as many lists as inputs
 pub length-held : (lp : List IR) (ex : List AExpr) (asked : List Name) (ns : List Node) → length (held_at lp ex asked ns) ≡ length ns

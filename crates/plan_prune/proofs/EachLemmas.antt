@@ -1,4 +1,4 @@
--- The inputs of a node, pruned one after another, each under a projection to the asked names or none; and a closed node.
+-- The inputs of a node, pruned one after another, each under a projection to the asked names or none.
 use Rattle.std.proofs.Common.{◌≡◌, ℕ, ◌+◌, ◌<◌, ◌≤◌, ◌&&◌, ◌||◌, Bool, true, false, not, List, [], ◌∷◌, ◌++◌, length, take, get_or, Some, None, Option, unwrap_or, refl, sym, ap, ap₂, ◌∙◌, arith, subst, append-nil, add-one}
 use Rattle.std.specs.List.{slice_get, slice_set}
 use Rattle.std.proofs.lemmas.List.{take_all}
@@ -24,19 +24,12 @@ use Rattle.plan_narrowing.specs.Pruned.{are_several, asked_columns, asks_plans, 
 use Rattle.plan_schema.specs.Stored.{stored_all}
 use Rattle.plan_narrowing.proofs.ListSteps.{take-next}
 use Rattle.plan_narrowing.proofs.UnionNarrows.{covered_none}
-use Rattle.plan_prune.specs.Prunes.{TakePlace, Prunes, MarksAt}
-use Rattle.plan_prune.specs.Scans.{covered_at, with_columns_on, with_top}
+use Rattle.plan_prune.specs.Prunes.{TakePlace, Prunes, PrunesEach, PrunesUnder, MarksAt, covered_by}
+use Rattle.plan_prune.specs.Scans.{covered_at, with_top}
 use Rattle.plan_prune.specs.Steps.{columns_at, covering}
 use Rattle.plan_prune.proofs.PlaceLemmas.{place_equal, place_both, place_before, place_trans}
 use Rattle.plan_prune.proofs.PruneLemmas.{Asks, goes_under, left_open, under}
-use Rattle.plan_prune.proofs.JoinPruned.{or_assoc, plans-join, roots-join, meet-join, covered_by, covered_by-join, lists_after, names_after, one_pruned, pruned-join, several_pruned}
-
--- trees over numbers became others, in place and over expressions of their own: pruned each to a list of names, and under projections to names or none
-pub record PrunesEach (top : Bool) (covers : Option (List Name)) (lists : List (List Name)) (old new : List IR) (ex : List AExpr) (ns : List Node) (f : Trees IR) : Type 0 where
-  pub trees : Trees IR
-  pub rewrites : Rewrites plan_shape old new ns f trees
-  pub exprs : TakePlace ex (roots_in trees) (roots_in f)
-  pub pruned : bare (plans_of ex trees) ≡ covered_by covers (pruned_all top lists (bare (plans_of ex f)))
+use Rattle.plan_prune.proofs.JoinPruned.{or_assoc, plans-join, roots-join, meet-join, covered_by-join, lists_after, names_after, one_pruned, pruned-join, several_pruned}
 
 -- nothing pruned yet
 
@@ -206,48 +199,6 @@ each_marks before mid after lp b ex n inputs p d e taken own opens is below t h 
     let k : Bool = meet_count (bare (plans_of ex o.kids)) in
     below o.kids at_inputs ∙ ap (λ (m : Bool). m || k) is ∙ marked_twice before (is_count (op_at ex p)) k (is_closed (op_at ex p)) opens ∙ ap (λ (u : Trees IR). before || meet_count (bare (plans_of ex u))) (sym o.is)
 
--- a cache
-
-module _ (a b : List IR) (ex : List AExpr) (n i : Node) (id hits : ℕ) (d : IR) (t : Trees IR) (h : StandsOnce plan_shape a (n ∷ []) t) (e : slice_get a n.0 ≡ Some (nodes.Cache i id hits)) (taken : b ≡ slice_set a n.0 d) where
-  abbrev p : IR
-  p = nodes.Cache i id hits
-
-  closed_put : (top : Bool) (asked : List Name) → Prunes top asked a (with_columns_on (asked_columns asked (columns_at b ex i)) b n (nodes.Cache i id hits)) ex n t
-  closed_put top [] =
-      let o = opened plan_shape a n p t h e in
-      let under : StandsOnce plan_shape b (i ∷ []) o.kids = rw taken (StandsOnce-set plan_shape a (i ∷ []) o.kids n.0 d o.inputs o.above) in
-      rw o.is (record {
-        trees = more (rose n p o.kids) no_roses;
-        rewrites = Rewrites-back plan_shape a b b n p p d o.kids o.kids (rw o.is at h) taken (Rewrites-refl plan_shape b (i ∷ []) o.kids under) refl refl;
-        exprs = λ before after x. x;
-        pruned = refl;
-      })
-  closed_put top (x ∷ asked) =
-      let o = opened plan_shape a n p t h e in
-      let under_it : StandsOnce plan_shape b (i ∷ []) o.kids = rw taken (StandsOnce-set plan_shape a (i ∷ []) o.kids n.0 d o.inputs o.above) in
-      let cs : Columns = typed_names (columns_at b ex i) (x ∷ asked) in
-      let m : Node = record { 0 = length b } in
-      let kids : Roses (Unit {0}) Op = bare (plans_of ex o.kids) in
-      let columns : columns_at b ex i ≡ first_schema (stored_all kids) = ap (λ (u : Trees IR). first_schema (stored_all (bare (plans_of ex u)))) (trees_at-is plan_shape b (i ∷ []) o.kids under_it) in
-      rw o.is (record {
-        trees = under n m cs p o.kids;
-        rewrites = goes_under a b n p p d o.kids cs (rw o.is at h) taken refl refl;
-        exprs = place_equal ex (roots_in (under n m cs p o.kids)) (roots_in (more (rose n p o.kids) no_roses)) (append-nil (roots_in (more (rose n p o.kids) no_roses)));
-        pruned = ap (λ (s : Columns). covered_with s kids) columns;
-      })
-    where
-      covered_with : Columns → Roses (Unit {0}) Op → Roses (Unit {0}) Op
-      covered_with s kids = more (rose tt (op_at ex (nodes.SimpleProjection n (typed_names s (x ∷ asked)))) (more (rose tt (op_at ex (nodes.Cache i id hits)) kids) no_roses)) no_roses
-
-  pub closed_pruned : (top : Bool) (asked : List Name) (z : List IR) → z ≡ with_columns_on (asked_columns asked (columns_at b ex i)) b n (nodes.Cache i id hits) → Prunes top asked a z ex n t
-  closed_pruned top asked z is = rw is (closed_put top asked)
-
-  -- it counts no rows
-  pub closed_marks : (before mid : Bool) → mid ≡ (before || is_count (op_at ex (nodes.Cache i id hits))) → mid ≡ (before || meet_count (bare (plans_of ex t)))
-  closed_marks before mid is =
-      let o = opened plan_shape a n p t h e in
-      is ∙ ap (λ (u : Trees IR). before || meet_count (bare (plans_of ex u))) (sym o.is)
-
 -- a projection that was put on top of what stood at a number
 pub cover_placed : (z lp b : List IR) (n : Node) (p d : IR) (cs : Columns) (columns : Option Columns) → z ≡ with_top cs b n p → b ≡ slice_set lp n.0 d → d ≡ nodes.Invalid → slice_get lp n.0 ≡ Some p → columns ≡ Some cs → z ≡ covered_at columns lp n
 cover_placed z lp b n p d cs columns is taken none e some =
@@ -284,7 +235,7 @@ marked_so true m = refl
 marked_so false m = refl
 
 -- with the next input
-pub so_far_next : (before mid after : Bool) (covers : Option (List Name)) (lists : List (List Name)) (names : List Name) (a b c : List IR) (ex : List AExpr) (ns : List Node) (n : Node) (j : ℕ) → slice_get ns j ≡ Some n → slice_get lists j ≡ Some names → SoFar before mid covers lists a b ex ns j → ((t : Trees IR) → StandsOnce plan_shape b (n ∷ []) t → PrunesEach (not mid) covers (names ∷ []) b c ex (n ∷ []) t) → MarksAt mid after b ex n → (mid ≡ true → after ≡ true) → length b ≤ length c → SoFar before after covers lists a c ex ns (j + 1)
+pub so_far_next : (before mid after : Bool) (covers : Option (List Name)) (lists : List (List Name)) (names : List Name) (a b c : List IR) (ex : List AExpr) (ns : List Node) (n : Node) (j : ℕ) → slice_get ns j ≡ Some n → slice_get lists j ≡ Some names → SoFar before mid covers lists a b ex ns j → PrunesUnder (not mid) covers names b c ex n → MarksAt mid after b ex n → (mid ≡ true → after ≡ true) → length b ≤ length c → SoFar before after covers lists a c ex ns (j + 1)
 so_far_next before mid after covers lists names a b c ex ns n j e at x one marks stays grows = record {
   prunes = λ f h.
       let before_it = x.prunes f h in

@@ -11,6 +11,7 @@ use Rattle.plan_ir.specs.Parts.{plan_shape, roots_of, roots_in}
 use Rattle.plan_ir.specs.Plans.{Op, op_at, plans_of, bare}
 use Rattle.plan_expr.specs.Leaves.{Name}
 use Rattle.plan_meaning.specs.Counting.{is_closed, is_count, meet_count}
+use Rattle.plan_prune.specs.Prunes.{covered_by}
 use Rattle.plan_narrowing.specs.Pruned.{are_several, covered, covered_each, first_names, pruned, pruned_all, rest_names, top_after}
 
 -- the plans that trees side by side are
@@ -80,11 +81,6 @@ pub one_pruned : (top : Bool) (lists : List (List Name)) (names : List Name) (lp
 one_pruned top lists names lp ex n (more (rose m p kids) no_roses) s e = ap (λ (l : List Name). more (pruned top l (rose tt (op_at ex p) (bare (plans_of ex kids)))) no_roses) (sym e)
 one_pruned top lists names lp ex n no_roses s e = absurd s
 one_pruned top lists names lp ex n (more (rose m p kids) (more (rose k q below) rest)) s e = absurd s.4
-
--- each of some plans under a projection to names, where there are names
-abbrev pub covered_by : Option (List Name) → Roses (Unit {0}) Op → Roses (Unit {0}) Op
-covered_by None plans = plans
-covered_by (Some names) plans = covered_each names plans
 
 -- plans side by side are covered one after another
 covered-join : (asked : List Name) (x y : Roses (Unit {0}) Op) → covered_each asked (join x y) ≡ join (covered_each asked x) (covered_each asked y)

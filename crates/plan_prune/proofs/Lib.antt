@@ -10,5 +10,6 @@ mod JoinPruned
 mod EachLemmas
 mod GroupPruned
 mod ConcatPruned
+mod ClosedPruned
 mod StepLemmas
 pub mod PlanPruned

@@ -16,7 +16,7 @@ use Rattle.plan_expr.specs.Leaves.{Name}
 use Rattle.plan_expr.specs.Naming.{name_of}
 use Rattle.plan_expr.specs.Operands.{IsExpr}
 use Rattle.plan_ir.specs.declared.ir.IR.{IR}
-use Rattle.plan_ir.specs.declared.ir.IR.TheVariants.{Slice, Filter, Scan, DataFrameScan, SimpleProjection, Select, HStack, Sort, GroupBy, Distinct, MapFunction, Sink, Union, HConcat, Cache, Invalid}
+use Rattle.plan_ir.specs.declared.ir.IR.TheVariants.{Slice, Filter, Scan, DataFrameScan, SimpleProjection, Select, HStack, Sort, GroupBy, Join, Distinct, MapFunction, Sink, Union, HConcat, Cache, Invalid}
 use Rattle.plan_ir.specs.Parts.{plan_shape, IsPlan}
 use Rattle.plan_ir.specs.Plans.{op_at, plans_of, plans_at, bare}
 use Rattle.plan_meaning.specs.Typing.{first_schema}
@@ -53,6 +53,7 @@ stand_in_by ex (Select i es schema options) s = refl
 stand_in_by ex (HStack i es schema options) s = refl
 stand_in_by ex (Sort i keys part options) s = refl
 stand_in_by ex (GroupBy i keys aggs schema ordered options) s = refl
+stand_in_by ex (Join left right schema left_on right_on options) s = refl
 stand_in_by ex (Distinct i options) s = refl
 stand_in_by ex (MapFunction i function) s = refl
 stand_in_by ex (Sink i payload) s = refl
@@ -76,6 +77,7 @@ module _ (lp : List IR) (ex : List AExpr) (n : Node) (h : IsPlan lp ex n) where
   made_stand (SimpleProjection i columns) e = none_stand (λ (x : ExprIR). IsExpr ex x.node)
   made_stand (Sort i keys part options) e = none_stand (λ (x : ExprIR). IsExpr ex x.node)
   made_stand (GroupBy i keys aggs schema ordered options) e = none_stand (λ (x : ExprIR). IsExpr ex x.node)
+  made_stand (Join left right schema left_on right_on options) e = none_stand (λ (x : ExprIR). IsExpr ex x.node)
   made_stand (Distinct i options) e = none_stand (λ (x : ExprIR). IsExpr ex x.node)
   made_stand (MapFunction i function) e = none_stand (λ (x : ExprIR). IsExpr ex x.node)
   made_stand (Sink i payload) e = none_stand (λ (x : ExprIR). IsExpr ex x.node)

@@ -1,5 +1,5 @@
 -- A node that was taken is pruned by its step.
-use Rattle.std.proofs.Common.{◌≡◌, ℕ, ◌+◌, ◌<◌, ◌≤◌, Bool, true, false, not, List, [], ◌∷◌, ◌++◌, ◌&&◌, ◌||◌, length, min, take, Option, Some, None, unwrap_or, refl, sym, ap, ◌∙◌, arith, subst}
+use Rattle.std.proofs.Common.{◌≡◌, ℕ, ◌<◌, ◌≤◌, Bool, true, false, not, List, [], ◌∷◌, ◌++◌, ◌&&◌, ◌||◌, length, min, take, Option, Some, None, unwrap_or, refl, sym, ap, ◌∙◌, arith, subst}
 use Rattle.std.specs.List.{slice_get, slice_set}
 use Rattle.plan_core.specs.declared.arena.Node.{Node}
 use Rattle.plan_tree.specs.Rose.{no_roses}
@@ -8,28 +8,28 @@ use Rattle.plan_tree.proofs.Frames.{front}
 use Rattle.plan_tree.proofs.TreeLemmas.{opened}
 use Rattle.plan_expr.specs.declared.aexpr.AExpr.{AExpr}
 use Rattle.plan_ir.specs.declared.ir.IR.{IR}
-use Rattle.plan_ir.specs.declared.ir.IR.TheVariants.{Slice, Filter, Scan, DataFrameScan, SimpleProjection, Select, HStack, Sort, GroupBy, Distinct, MapFunction, Sink, Union, HConcat, Cache, Invalid}
+use Rattle.plan_ir.specs.declared.ir.IR.TheVariants.{Slice, Filter, Scan, DataFrameScan, SimpleProjection, Select, HStack, Sort, GroupBy, Join, Distinct, MapFunction, Sink, Union, HConcat, Cache, Invalid}
 use Rattle.plan_ir.specs.Parts.{plan_shape, inputs_of, IsPlan}
 use Rattle.plan_expr.specs.Exprs.{Named, all_named_at}
 use Rattle.plan_ir.specs.Plans.{bare, op_at, plans_at, plans_of}
 use Rattle.plan_expr.specs.Leaves.{Name}
-use Rattle.plan_core.specs.Columns.{Columns, names_of}
+use Rattle.plan_core.specs.Columns.{names_of}
 use Rattle.plan_frame.specs.Frames.{names_or}
 use Rattle.plan_meaning.specs.Counting.{is_closed, is_count, meet_count}
 use Rattle.plan_meaning.specs.Asked.{grouping_names, kept_exprs, needed_names, selected_exprs, set_of}
 use Rattle.plan_narrowing.specs.Pruned.{asked_columns, asked_with, kept, mapped_names, pruned_output, top_below}
-use Rattle.plan_prune.specs.declared.push_down.step.Step.TheVariants.{Leaf, Over, Closed, Each}
+use Rattle.plan_prune.specs.declared.push_down.step.Step.TheVariants.{Leaf, Over, Each}
 use Rattle.plan_prune.specs.Kept.{is_some_name, names_at, selected_at, stacked_at, stored_after}
-use Rattle.plan_prune.specs.Prunes.{MarksAt, Prunes, PrunesAt}
-use Rattle.plan_prune.specs.Scans.{covered_at, kept_scan, with_columns_on, with_node}
+use Rattle.plan_prune.specs.Prunes.{MarksAt, Prunes, PrunesAt, PrunesEach, PrunesUnder}
+use Rattle.plan_prune.specs.Scans.{covered_at, kept_scan, with_node}
 use Rattle.plan_prune.specs.Steps.{columns_at, stand_in_at, step_of, put_back}
-use Rattle.plan_prune.proofs.PruneLemmas.{Asks, alone, finish, one_list, is_entry, stays, scan_pruned, inputs_taken, stands_taken, stands_after}
+use Rattle.plan_prune.proofs.PruneLemmas.{Asks, alone, finish, one_list, stays, scan_pruned, inputs_taken, stands_taken, stands_after}
 use Rattle.plan_prune.proofs.AlikeLemmas.{length-alike}
 use Rattle.plan_prune.proofs.KeptLemmas.{selected_named, selected_place, select_built, hstack_asks}
 use Rattle.plan_prune.proofs.HStackPruned.{hstack_pruned, found as there}
 use Rattle.plan_prune.proofs.GroupPruned.{grouped_asks, grouped_built, grouped_place}
 use Rattle.plan_prune.proofs.ConcatPruned.{concat_pruned, length-held}
-use Rattle.plan_prune.proofs.EachLemmas.{PrunesEach, SoFar, closed_marks, closed_pruned, each_asks, each_marks, one_covered, one_plain, so_far_all, so_far_next, union_pruned}
+use Rattle.plan_prune.proofs.EachLemmas.{SoFar, each_asks, each_marks, one_covered, one_plain, so_far_all, union_pruned}
 
 -- equal steps have equal parts
 over_parts : (i j : Node) (names others : List Name) (p q : IR) → Over i names p ≡ Over j others q → (i ≡ j) × (names ≡ others) × (p ≡ q)
@@ -61,6 +61,7 @@ is_over lp ex asked names (Select j es schema options) q i e = made_over i j nam
 is_over lp ex asked names (HStack j es schema options) q i e = made_over i j names _ (HStack j es schema options) q _ (λ ex. refl) refl refl e
 is_over lp ex asked names (Sort j keys part options) q i e = made_over i j names _ (Sort j keys part options) q _ (λ ex. refl) refl refl e
 is_over lp ex asked names (GroupBy j keys aggs schema ordered options) q i e = made_over i j names _ (GroupBy j keys aggs schema ordered options) q _ (λ ex. refl) refl refl e
+is_over lp ex asked names (Join left right schema left_on right_on options) q i e = cc
 is_over lp ex asked names (Distinct j options) q i e = made_over i j names _ (Distinct j options) q _ (λ ex. refl) refl refl e
 is_over lp ex asked names (MapFunction j function) q i e = made_over i j names _ (MapFunction j function) q _ (λ ex. refl) refl refl e
 is_over lp ex asked names (Sink j payload) q i e = made_over i j names _ (Sink j payload) q _ (λ ex. refl) refl refl e
@@ -81,6 +82,7 @@ kept_alone (a ∷ asked) (Select j es schema options) e = e
 kept_alone (a ∷ asked) (HStack j es schema options) e = e
 kept_alone (a ∷ asked) (Sort j keys part options) e = e
 kept_alone (a ∷ asked) (GroupBy j keys aggs schema ordered options) e = e
+kept_alone (a ∷ asked) (Join left right schema left_on right_on options) e = e
 kept_alone (a ∷ asked) (Distinct j options) e = e
 kept_alone (a ∷ asked) (MapFunction j function) e = e
 kept_alone (a ∷ asked) (Sink j payload) e = e
@@ -99,6 +101,7 @@ is_leaf lp ex asked (Select j es schema options) q e = cc
 is_leaf lp ex asked (HStack j es schema options) q e = cc
 is_leaf lp ex asked (Sort j keys part options) q e = cc
 is_leaf lp ex asked (GroupBy j keys aggs schema ordered options) q e = cc
+is_leaf lp ex asked (Join left right schema left_on right_on options) q e = cc
 is_leaf lp ex asked (Distinct j options) q e = cc
 is_leaf lp ex asked (MapFunction j function) q e = cc
 is_leaf lp ex asked (Sink j payload) q e = cc
@@ -118,6 +121,7 @@ leaf_alone lp ex asked (Select j es schema options) q e = cc
 leaf_alone lp ex asked (HStack j es schema options) q e = cc
 leaf_alone lp ex asked (Sort j keys part options) q e = cc
 leaf_alone lp ex asked (GroupBy j keys aggs schema ordered options) q e = cc
+leaf_alone lp ex asked (Join left right schema left_on right_on options) q e = cc
 leaf_alone lp ex asked (Distinct j options) q e = cc
 leaf_alone lp ex asked (MapFunction j function) q e = cc
 leaf_alone lp ex asked (Sink j payload) q e = cc
@@ -157,6 +161,7 @@ module _ (top : Bool) (asked : List Name) (a b z : List IR) (ex : List AExpr) (n
   leaf_pruned (HStack j es schema options) e is = cc
   leaf_pruned (Sort j keys part options) e is = cc
   leaf_pruned (GroupBy j keys aggs schema ordered options) e is = cc
+  leaf_pruned (Join left right schema left_on right_on options) e is = cc
   leaf_pruned (Distinct j options) e is = cc
   leaf_pruned (MapFunction j function) e is = cc
   leaf_pruned (Sink j payload) e is = cc
@@ -221,6 +226,7 @@ module _ (top low : Bool) (asked names : List Name) (a b c z : List IR) (ex : Li
       (one_list (named _ _ _ is ∙ ap (λ (k : Node). mapped_names asked function (columns_at b ex k)) (sym (over_parts i j names _ q _ is).0))) refl below)
   over_pruned (Sink j payload) e low_is is =
       rw (put_over _ _ _ is) (finish top low asked names a b c ex n i (Sink j payload) (Sink j payload) d t h e taken (one _ _ _ is) refl refl (λ before after x. x) refl low_is (one_list (named _ _ _ is)) refl below)
+  over_pruned (Join left right schema left_on right_on options) e low_is is = cc
   over_pruned (Scan sources info predicate output kind options) e low_is is = cc
   over_pruned (Union inputs options) e low_is is = cc
   over_pruned (HConcat inputs schema options) e low_is is = cc
@@ -254,36 +260,6 @@ pub marks_leaf : (before mid : Bool) (lp b : List IR) (ex : List AExpr) (asked :
 marks_leaf before mid lp b ex asked n p q e leaf is t h =
     is ∙ marked_once before (is_count (op_at ex p)) (is_closed (op_at ex p)) ∙ ap (λ (u : Trees IR). before || meet_count (bare (plans_of ex u))) (sym (alone lp (slice_set lp n.0 p) ex n p p t h (leaf_alone b ex asked p q leaf) e refl))
 
--- a closed step is that of a cache
-pub record IsClosed (b : List IR) (ex : List AExpr) (asked : List Name) (p q : IR) (columns : Option Columns) : Type 0 where
-  pub input : Node
-  pub id : ℕ
-  pub hits : ℕ
-  pub is : p ≡ Cache input id hits
-  pub same : q ≡ Cache input id hits
-  pub are : columns ≡ asked_columns asked (columns_at b ex input)
-
-closed_parts : (o u : Option Columns) (p q : IR) → Closed o p ≡ Closed u q → (o ≡ u) × (p ≡ q)
-closed_parts o u p q e = (cc, cc)
-
-pub is_closed_step : (b : List IR) (ex : List AExpr) (asked : List Name) (p q : IR) (columns : Option Columns) → Closed columns q ≡ step_of b ex asked p → IsClosed b ex asked p q columns
-is_closed_step b ex asked (Cache i id hits) q columns e = let x = closed_parts columns _ q _ e in record { input = i; id = id; hits = hits; is = refl; same = x.1; are = x.0 }
-is_closed_step b ex asked (Slice j offset len) q columns e = cc
-is_closed_step b ex asked (Filter j predicate) q columns e = cc
-is_closed_step b ex asked (Scan sources info predicate output kind options) q columns e = cc
-is_closed_step b ex asked (DataFrameScan df schema output) q columns e = cc
-is_closed_step b ex asked (SimpleProjection j cs) q columns e = cc
-is_closed_step b ex asked (Select j es schema options) q columns e = cc
-is_closed_step b ex asked (HStack j es schema options) q columns e = cc
-is_closed_step b ex asked (Sort j keys part options) q columns e = cc
-is_closed_step b ex asked (GroupBy j keys aggs schema ordered options) q columns e = cc
-is_closed_step b ex asked (Distinct j options) q columns e = cc
-is_closed_step b ex asked (MapFunction j function) q columns e = cc
-is_closed_step b ex asked (Sink j payload) q columns e = cc
-is_closed_step b ex asked (Union inputs options) q columns e = cc
-is_closed_step b ex asked (HConcat inputs schema options) q columns e = cc
-is_closed_step b ex asked Invalid q columns e = cc
-
 -- names that are there are the same, or aren't there
 pub some_same : (o : Option (List Name)) (x y : List Name) → o ≡ Some x → o ≡ Some y → x ≡ y
 some_same None x y e f = cc
@@ -294,7 +270,7 @@ none_some None x e f = cc
 none_some (Some z) x e f = cc
 
 -- one input, pruned and then under a projection or not
-pub one_more : (top : Bool) (covers : Option (List Name)) (asked : List Name) (b c z : List IR) (ex : List AExpr) (n : Node) → PrunesAt top asked b c ex n → ((names : List Name) → covers ≡ Some names → z ≡ covered_at (asked_columns names (columns_at c ex n)) c n) → (covers ≡ None → z ≡ c) → n.0 < length c → (t : Trees IR) → StandsOnce plan_shape b (n ∷ []) t → PrunesEach top covers (asked ∷ []) b z ex (n ∷ []) t
+pub one_more : (top : Bool) (covers : Option (List Name)) (asked : List Name) (b c z : List IR) (ex : List AExpr) (n : Node) → PrunesAt top asked b c ex n → ((names : List Name) → covers ≡ Some names → z ≡ covered_at (asked_columns names (columns_at c ex n)) c n) → (covers ≡ None → z ≡ c) → n.0 < length c → PrunesUnder top covers asked b z ex n
 one_more top (Some names) asked b c z ex n x on off low t h = one_covered top asked names b c z ex n (unwrap_or (slice_get c n.0) Invalid) t (there c n.0 low) (on names refl) (x t h)
 one_more top None asked b c z ex n x on off low t h = rw (off refl) (one_plain top asked b c ex n t (x t h))
 
@@ -325,24 +301,12 @@ is_each b ex asked inputs lists covers (Select j es schema options) q e = cc
 is_each b ex asked inputs lists covers (HStack j es schema options) q e = cc
 is_each b ex asked inputs lists covers (Sort j keys part options) q e = cc
 is_each b ex asked inputs lists covers (GroupBy j keys aggs schema ordered options) q e = cc
+is_each b ex asked inputs lists covers (Join left right schema left_on right_on options) q e = cc
 is_each b ex asked inputs lists covers (Distinct j options) q e = cc
 is_each b ex asked inputs lists covers (MapFunction j function) q e = cc
 is_each b ex asked inputs lists covers (Sink j payload) q e = cc
 is_each b ex asked inputs lists covers (Cache j id hits) q e = cc
 is_each b ex asked inputs lists covers Invalid q e = cc
-
--- a cache is pruned by its step, and counts no rows
-module _ (asked : List Name) (a b : List IR) (ex : List AExpr) (n : Node) (p q d : IR) (columns : Option Columns) (e : slice_get a n.0 ≡ Some p) (taken : b ≡ slice_set a n.0 d) (step : Closed columns q ≡ step_of b ex asked p) where
-  pub closed_step : (top : Bool) (z : List IR) → z ≡ with_columns_on columns b n q → PrunesAt top asked a z ex n
-  closed_step top z back t h =
-      let o = is_closed_step b ex asked p q columns step in
-      closed_pruned a b ex n o.input o.id o.hits d t h (e ∙ ap Some o.is) taken top asked z
-      (back ∙ ap (λ (u : Option Columns). with_columns_on u b n q) o.are ∙ ap (with_columns_on (asked_columns asked (columns_at b ex o.input)) b n) o.same)
-
-  pub closed_mark : (before mid : Bool) → mid ≡ (before || is_count (op_at ex p)) → MarksAt before mid a ex n
-  closed_mark before mid is t h =
-      let o = is_closed_step b ex asked p q columns step in
-      closed_marks a b ex n o.input o.id o.hits d t h (e ∙ ap Some o.is) taken before mid (is ∙ ap (λ (r : IR). before || is_count (op_at ex r)) o.is)
 
 -- a node over inputs is pruned by its step, once these are pruned
 module _ (top low : Bool) (asked : List Name) (lists : List (List Name)) (covers : Option (List Name)) (a b c z : List IR) (ex : List AExpr) (n : Node) (inputs : List Node) (q d : IR) (t : Trees IR) (h : StandsOnce plan_shape a (n ∷ []) t) (taken : b ≡ slice_set a n.0 d) (back : z ≡ put_back top (is_some_name asked) c ex n q) (below : (kids : Trees IR) → StandsOnce plan_shape b inputs kids → PrunesEach low covers lists b c ex inputs kids) where
@@ -368,6 +332,7 @@ module _ (top low : Bool) (asked : List Name) (lists : List (List Name)) (covers
   each_pruned (HStack j es schema options) e low_is is = cc
   each_pruned (Sort j keys part options) e low_is is = cc
   each_pruned (GroupBy j keys aggs schema ordered options) e low_is is = cc
+  each_pruned (Join left right schema left_on right_on options) e low_is is = cc
   each_pruned (Distinct j options) e low_is is = cc
   each_pruned (MapFunction j function) e low_is is = cc
   each_pruned (Sink j payload) e low_is is = cc
@@ -383,15 +348,6 @@ module _ (asked : List Name) (a b : List IR) (ex : List AExpr) (n : Node) (input
   each_call before mid c i j h at x =
       each_asks a b c ex n i p d j h e taken (ap (λ (l : List Node). slice_get l j) each_is.own ∙ at)
       (λ kids s. let y = x.prunes kids (subst (λ (l : List Node). StandsOnce plan_shape b l kids) each_is.own s) in (y.trees, subst (λ (l : List Node). Rewrites plan_shape b c (take j l) (front plan_shape kids j) y.trees) (sym each_is.own) y.rewrites))
-
-  -- with the next input
-  module _ (before mid after : Bool) (c u : List IR) (i : Node) (names : List Name) (j : ℕ) (h : IsPlan a ex n) (at : slice_get inputs j ≡ Some i) (x : SoFar before mid covers lists b c ex inputs j) (below : PrunesAt (not mid) names c u ex i) where
-    pub each_stands : (t : Trees IR) × StandsOnce plan_shape u (i ∷ []) t
-    each_stands = let k = each_call before mid c i j h at x in stands_after (not mid) names c u ex i (k.plan.nodes, k.plan.stands.nodes) below
-
-    pub each_more : (z : List IR) → slice_get lists j ≡ Some names → ((l : List Name) → covers ≡ Some l → z ≡ covered_at (asked_columns l (columns_at u ex i)) u i) → (covers ≡ None → z ≡ u) → MarksAt mid after c ex i → (mid ≡ true → after ≡ true) → length c ≤ length z → SoFar before after covers lists b z ex inputs (j + 1)
-    each_more z named on off marks stays grows =
-        so_far_next before mid after covers lists names b c z ex inputs i j at named x (one_more (not mid) covers names c u z ex i below on off (is_entry u i each_stands)) marks stays grows
 
   -- all inputs and lists were passed
   past : (j : ℕ) → j ≡ min (length inputs) (length lists) → length inputs ≤ j

@@ -1,15 +1,16 @@
 -- That the plan at a number was pruned in place.
-use Rattle.std.specs.Prelude.{◌≡◌, ◌||◌, Bool, List, [], ◌∷◌, ◌++◌}
+use Rattle.std.specs.Prelude.{◌≡◌, ◌||◌, Bool, List, [], ◌∷◌, ◌++◌, Option, None, Some}
 use Rattle.plan_core.specs.declared.arena.Node.{Node}
+use Rattle.plan_tree.specs.Rose.{Roses}
 use Rattle.plan_tree.specs.Stands.{Trees, StandsOnce, Rewrites}
 use Rattle.plan_expr.specs.declared.aexpr.AExpr.{AExpr}
 use Rattle.plan_ir.specs.declared.ir.IR.{IR}
 use Rattle.plan_expr.specs.Operands.{expr_shape}
 use Rattle.plan_ir.specs.Parts.{plan_shape, roots_in}
-use Rattle.plan_ir.specs.Plans.{bare, plans_of}
+use Rattle.plan_ir.specs.Plans.{Op, bare, plans_of}
 use Rattle.plan_expr.specs.Leaves.{Name}
 use Rattle.plan_meaning.specs.Counting.{meet_count}
-use Rattle.plan_narrowing.specs.Pruned.{pruned_all}
+use Rattle.plan_narrowing.specs.Pruned.{covered_each, pruned_all}
 
 -- expressions stand over these numbers, no number twice
 abbrev pub StandExprs : List AExpr → List Node → Type 0
@@ -29,6 +30,22 @@ pub record Prunes (top : Bool) (asked : List Name) (old new : List IR) (ex : Lis
 -- what stands at a number is pruned in place to the asked names
 abbrev pub PrunesAt : Bool → List Name → List IR → List IR → List AExpr → Node → Type 0
 PrunesAt top asked old new ex n = (t : Trees IR) → StandsOnce plan_shape old (n ∷ []) t → Prunes top asked old new ex n t
+
+-- each of some plans under a projection to names, where there are names
+abbrev pub covered_by : Option (List Name) → Roses (Unit {0}) Op → Roses (Unit {0}) Op
+covered_by None plans = plans
+covered_by (Some names) plans = covered_each names plans
+
+-- trees over numbers became others, in place and over expressions of their own: pruned each to a list of names, and under projections to names or none
+pub record PrunesEach (top : Bool) (covers : Option (List Name)) (lists : List (List Name)) (old new : List IR) (ex : List AExpr) (ns : List Node) (f : Trees IR) : Type 0 where
+  pub trees : Trees IR
+  pub rewrites : Rewrites plan_shape old new ns f trees
+  pub exprs : TakePlace ex (roots_in trees) (roots_in f)
+  pub pruned : bare (plans_of ex trees) ≡ covered_by covers (pruned_all top lists (bare (plans_of ex f)))
+
+-- what stands at a number is pruned in place so, to the asked names
+abbrev pub PrunesUnder : Bool → Option (List Name) → List Name → List IR → List IR → List AExpr → Node → Type 0
+PrunesUnder top covers asked old new ex n = (t : Trees IR) → StandsOnce plan_shape old (n ∷ []) t → PrunesEach top covers (asked ∷ []) old new ex (n ∷ []) t
 
 -- the mark before became the one after: it is set where it was, or where what stands at a number counts rows
 abbrev pub MarksAt : Bool → Bool → List IR → List AExpr → Node → Type 0

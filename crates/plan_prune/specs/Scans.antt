@@ -3,7 +3,7 @@ use Rattle.std.specs.Prelude.{Bool, true, false, List, [], ◌∷◌, ◌++◌, 
 use Rattle.plan_core.specs.declared.arena.Node.{Node}
 use Rattle.plan_core.specs.Columns.{Columns}
 use Rattle.plan_ir.specs.declared.ir.IR.{IR}
-use Rattle.plan_ir.specs.declared.ir.IR.TheVariants.{Slice, Filter, Scan, DataFrameScan, SimpleProjection, Select, HStack, Sort, GroupBy, Distinct, MapFunction, Sink, Union, HConcat, Cache, Invalid}
+use Rattle.plan_ir.specs.declared.ir.IR.TheVariants.{Slice, Filter, Scan, DataFrameScan, SimpleProjection, Select, HStack, Sort, GroupBy, Join, Distinct, MapFunction, Sink, Union, HConcat, Cache, Invalid}
 use Rattle.plan_expr.specs.Leaves.{Name}
 use Rattle.plan_narrowing.specs.Pruned.{typed_names, reading}
 
@@ -19,6 +19,7 @@ narrowed names (HStack input exprs schema options) = HStack input exprs schema o
 narrowed names (SimpleProjection input columns) = SimpleProjection input columns
 narrowed names (Sort input keys part options) = Sort input keys part options
 narrowed names (GroupBy input keys aggs schema ordered options) = GroupBy input keys aggs schema ordered options
+narrowed names (Join input_left input_right schema left_on right_on options) = Join input_left input_right schema left_on right_on options
 narrowed names (Distinct input options) = Distinct input options
 narrowed names (MapFunction input function) = MapFunction input function
 narrowed names (Sink input payload) = Sink input payload
@@ -48,6 +49,7 @@ output_of (HStack input exprs schema options) = []
 output_of (SimpleProjection input columns) = []
 output_of (Sort input keys part options) = []
 output_of (GroupBy input keys aggs schema ordered options) = []
+output_of (Join input_left input_right schema left_on right_on options) = []
 output_of (Distinct input options) = []
 output_of (MapFunction input function) = []
 output_of (Sink input payload) = []

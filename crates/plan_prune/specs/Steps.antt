@@ -1,5 +1,5 @@
 -- What is done at a node that was taken: before its input is pruned, and after.
-use Rattle.std.specs.Prelude.{Bool, ◌&&◌, List, [], ◌∷◌, ◌++◌, map, Option, None, Some, slice_set}
+use Rattle.std.specs.Prelude.{Bool, true, false, ◌&&◌, List, [], ◌∷◌, ◌++◌, map, Option, None, Some, slice_set}
 use Rattle.plan_core.specs.declared.arena.Node.{Node}
 use Rattle.plan_core.specs.declared.options.ProjectionOptions.{ProjectionOptions}
 use Rattle.plan_core.specs.Columns.{Columns, names_of}
@@ -8,7 +8,7 @@ use Rattle.plan_core.specs.Names.{with_names}
 use Rattle.plan_expr.specs.declared.aexpr.AExpr.{AExpr}
 use Rattle.plan_expr.specs.declared.expr_ir.ExprIR.{ExprIR}
 use Rattle.plan_ir.specs.declared.ir.IR.{IR}
-use Rattle.plan_ir.specs.declared.ir.IR.TheVariants.{Slice, Filter, Scan, DataFrameScan, SimpleProjection, Select, HStack, Sort, GroupBy, Distinct, MapFunction, Sink, Union, HConcat, Cache, Invalid}
+use Rattle.plan_ir.specs.declared.ir.IR.TheVariants.{Slice, Filter, Scan, DataFrameScan, SimpleProjection, Select, HStack, Sort, GroupBy, Join, Distinct, MapFunction, Sink, Union, HConcat, Cache, Invalid}
 use Rattle.plan_expr.specs.Exprs.{expr_at, all_named_at}
 use Rattle.plan_ir.specs.Plans.{bare, plans_at}
 use Rattle.plan_expr.specs.Leaves.{Name, leaves}
@@ -60,6 +60,16 @@ covering [] asked = None
 covering (n ∷ []) asked = None
 covering (n ∷ m ∷ ns) asked = Some asked
 
+-- a concatenation
+abbrev pub is_hconcat : IR → Bool
+is_hconcat (HConcat inputs schema options) = true
+is_hconcat other = false
+
+-- a cache
+abbrev pub is_cache : IR → Bool
+is_cache (Cache input id cache_hits) = true
+is_cache other = false
+
 -- the step of a node that is asked names
 abbrev pub step_of : List IR → List AExpr → List Name → IR → Step
 step_of lp ex asked (Slice i offset len) = Over i asked (Slice i offset len)
@@ -71,6 +81,7 @@ step_of lp ex asked (Select i es schema options) = selected_step ex asked i es s
 step_of lp ex asked (HStack i es schema options) = stacked_step ex asked i es schema options (columns_at lp ex i)
 step_of lp ex asked (Sort i keys part options) = Over i (asked_with asked (all_leaves (all_named_at ex keys))) (Sort i keys part options)
 step_of lp ex asked (GroupBy i keys aggs schema ordered options) = grouped_step ex asked i keys aggs schema ordered options (columns_at lp ex i)
+step_of lp ex asked (Join left right schema left_on right_on options) = Closed None (Join left right schema left_on right_on options)
 step_of lp ex asked (Distinct i options) = Over i (asked_with asked (names_or options.subset (names_of (columns_at lp ex i)))) (Distinct i options)
 step_of lp ex asked (MapFunction i function) = Over i (mapped_names asked function (columns_at lp ex i)) (MapFunction i function)
 step_of lp ex asked (Sink i payload) = Over i asked (Sink i payload)
@@ -90,6 +101,7 @@ put_back top some lp ex n (SimpleProjection i columns) = slice_set lp n.0 (Simpl
 put_back top some lp ex n (Select i es schema options) = slice_set lp n.0 (Select i es schema options)
 put_back top some lp ex n (Sort i keys part options) = slice_set lp n.0 (Sort i keys part options)
 put_back top some lp ex n (GroupBy i keys aggs schema ordered options) = slice_set lp n.0 (GroupBy i keys aggs schema ordered options)
+put_back top some lp ex n (Join left right schema left_on right_on options) = slice_set lp n.0 (Join left right schema left_on right_on options)
 put_back top some lp ex n (Distinct i options) = slice_set lp n.0 (Distinct i options)
 put_back top some lp ex n (MapFunction i function) = slice_set lp n.0 (MapFunction i function)
 put_back top some lp ex n (Sink i payload) = slice_set lp n.0 (Sink i payload)

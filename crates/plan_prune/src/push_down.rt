@@ -13,7 +13,7 @@ ghost use Rattle.plan_meaning.specs.Scans.{nodes, scans};
 ghost use Rattle.plan_meaning.specs.Work.{made, kept};
 ghost use Rattle.plan_narrowing.specs.Pruned.{pruned_all};
 ghost use Rattle.plan_narrowing.specs.Reads.{ReadWithin, tops};
-ghost use Rattle.plan_prune.specs.Prunes.{MarksAt, PrunesAt};
+ghost use Rattle.plan_prune.specs.Prunes.{MarksAt, PrunesAt, PrunesUnder};
 
 mod cache;
 mod cover;
@@ -25,6 +25,7 @@ mod function;
 mod group_by;
 mod hconcat;
 mod hstack;
+mod join;
 mod projection;
 mod scan;
 mod select;
@@ -62,8 +63,8 @@ impl ProjectionPushDown {
 
     /// Prunes the plan at `root`, of which every column is asked, and marks whether it counts rows. A projection goes on top of
     /// each narrowed scan, and on none from the first count of rows on; and on top of each cache that is asked names, and each of
-    /// several inputs of a union that is. What is below a cache stays as it is. Refuses for want of memory alone, and then nothing is
-    /// known of what stands at `root`, and of the mark only that it isn't set back.
+    /// several inputs of a union that is. What is below a cache stays as it is, and so does a join with what is below it. Refuses
+    /// for want of memory alone, and then nothing is known of what stands at `root`, and of the mark only that it isn't set back.
     pub fn optimize(
         &mut self,
         alloc: Global,
@@ -91,6 +92,7 @@ impl ProjectionPushDown {
     }
 
     /// Prunes the plan at `node` to the asked names, and marks whether it counts rows; no names stand for every column.
+    #[cycle(push)]
     fn push_down(
         &mut self,
         alloc: Global,
@@ -129,13 +131,35 @@ impl ProjectionPushDown {
                 entry,
             } => {
                 for (input, asked) in inputs.as_slice().iter().zip(asked.as_slice()) {
-                    self.push_down(alloc, *input, copied_names(alloc, asked)?, lp, ex)?;
-                    if let Some(names) = &covered {
-                        cover(alloc, *input, names, lp)?;
-                    }
+                    self.push_input(alloc, *input, asked, &covered, lp, ex)?;
                 }
                 step::put(alloc, node, entry, is_asked, on_top, lp)
             }
+        }
+    }
+
+    /// Prunes the plan at `input` to the asked names, and marks whether it counts rows; no names stand for every column. Then a
+    /// projection to the names that cover it goes on top, where there are such.
+    #[cycle(push)]
+    fn push_input(
+        &mut self,
+        alloc: Global,
+        input: Node,
+        asked: &Names,
+        covered: &Option<Names>,
+        lp: &mut Arena<IR>,
+        ex: &Arena<AExpr>,
+    ) -> Result<(), AllocError>
+        requires { IsPlan lp.old ex.now input }
+        ensures prunes { OnOk result (PrunesUnder (not self.old.is_count_star) covered.now asked.now lp.old lp.new ex.now input) }
+        ensures marks { OnOk result (MarksAt self.old.is_count_star self.new.is_count_star lp.old ex.now input) }
+        ensures stays { self.old.is_count_star ≡ true → self.new.is_count_star ≡ true }
+        ensures grows { length lp.old ≤ length lp.new }
+    {
+        self.push_down(alloc, input, copied_names(alloc, asked)?, lp, ex)?;
+        match covered {
+            Some(names) => cover(alloc, input, names, lp),
+            None => Ok(()),
         }
     }
 }

@@ -1,24 +1,23 @@
 //! A grouping keeps its keys, and of its aggregates those that are asked, in its own order. It stores the columns of these.
 //! It asks its input the asked names that this has, and then the names that the kept aggregates read, and the keys.
 //! Asked nothing, it stays as it is, and asks the names that its aggregates and its keys read.
-ghost use Rattle.std.specs.Prelude.{◌≡◌, ◌++◌, All, List, [], ◌∷◌, IfOk, map};
+ghost use Rattle.std.specs.Prelude.{◌≡◌, ◌++◌, All, [], IfOk, IsTrue};
 ghost use Rattle.plan_tree.specs.Stands.{Trees, StandsOnce};
 ghost use Rattle.plan_ir.specs.declared.ir.IR.{IR};
 ghost use Rattle.plan_expr.specs.Operands.{IsExpr};
 ghost use Rattle.plan_expr.specs.Exprs.{all_named_at};
-ghost use Rattle.plan_ir.specs.Parts.{plan_shape};
+ghost use Rattle.plan_ir.specs.Parts.{inputs_of, is_group_by, plan_shape, roots_of};
 ghost use Rattle.plan_meaning.specs.Asked.{grouping_names};
 ghost use Rattle.plan_prune.specs.Kept.{is_some_name, names_at, stored_after};
 ghost use Rattle.plan_prune.specs.Prunes.{StandExprs};
-ghost use Rattle.plan_prune.specs.Steps.{columns_at, grouped_step};
+ghost use Rattle.plan_prune.specs.Steps.{step_of};
 
 use crate::push_down::exprs::{add_all_names, kept_exprs, with_typed};
 use crate::push_down::step::Step;
-use plan_core::{Arena, Items, Names, Node, Schema};
+use plan_core::{Arena, Names, Schema};
 use plan_expr::{AExpr, ExprIR};
 use plan_ir::IR;
 use plan_narrowing::known_names;
-use plan_options::GroupbyOptions;
 use plan_schema::stored_schema;
 use std::alloc::{AllocError, Global};
 
@@ -61,41 +60,43 @@ fn asks(
 /// The step of a grouping.
 pub fn prepare(
     alloc: Global,
-    input: Node,
-    keys: Items<ExprIR>,
-    aggs: Items<ExprIR>,
-    schema: Schema,
-    maintain_order: bool,
-    options: GroupbyOptions,
+    grouping: IR,
     asked: &Names,
     lp: &Arena<IR>,
     ex: &Arena<AExpr>,
 ) -> Result<Step, AllocError>
-    requires exprs { StandExprs ex.now (map (λ e. e.node) (keys ++ aggs)) }
-    requires input { (t : Trees IR) × StandsOnce plan_shape lp.now (input ∷ []) t }
-    ensures { IfOk result (λ step. step ≡ grouped_step ex.now asked.now input keys aggs schema maintain_order options (columns_at lp.now ex.now input)) }
+    requires kind { IsTrue (is_group_by grouping) }
+    requires exprs { StandExprs ex.now (roots_of grouping) }
+    requires inputs { (t : Trees IR) × StandsOnce plan_shape lp.now (inputs_of grouping) t }
+    ensures { IfOk result (λ step. step ≡ step_of lp.now ex.now asked.now grouping) }
 {
-    let aggs = kept_exprs(alloc, aggs, asked)?;
-    let schema = columns(alloc, schema, keys.as_slice(), aggs.as_slice(), asked)?;
-    let stored = stored_schema(alloc, input, lp)?;
-    let asked = asks(
-        alloc,
-        asked,
-        keys.as_slice(),
-        aggs.as_slice(),
-        stored.columns(),
-        ex,
-    )?;
-    Ok(Step::Over {
-        input,
-        asked,
-        entry: IR::GroupBy {
+    match grouping {
+        IR::GroupBy {
             input,
             keys,
             aggs,
             schema,
             maintain_order,
             options,
-        },
-    })
+        } => {
+            let aggs = kept_exprs(alloc, aggs, asked)?;
+            let schema = columns(alloc, schema, keys.as_slice(), aggs.as_slice(), asked)?;
+            let stored = stored_schema(alloc, input, lp)?;
+            let read = stored.columns();
+            let asked = asks(alloc, asked, keys.as_slice(), aggs.as_slice(), read, ex)?;
+            Ok(Step::Over {
+                input,
+                asked,
+                entry: IR::GroupBy {
+                    input,
+                    keys,
+                    aggs,
+                    schema,
+                    maintain_order,
+                    options,
+                },
+            })
+        }
+        _ => unreachable!(),
+    }
 }

@@ -1,16 +1,15 @@
 //! A concatenation asks each of its inputs the asked names that it has, and goes back over the pruned inputs.
 //! Asked something, it stores the columns that these say they have, those of one after those of another, of each name the
 //! first. Asked nothing, it stays as it is and asks nothing.
-ghost use Rattle.std.specs.Prelude.{◌≡◌, ◌<◌, ◌≤◌, List, None, IfOk, OnOk, fold, length, map, slice_set};
+ghost use Rattle.std.specs.Prelude.{◌≡◌, ◌<◌, ◌≤◌, List, IfOk, IsTrue, OnOk, fold, length, map, slice_set};
 ghost use Rattle.plan_tree.specs.Stands.{Trees, StandsOnce};
 ghost use Rattle.plan_expr.specs.declared.aexpr.AExpr.{AExpr};
 ghost use Rattle.plan_ir.specs.declared.ir.IR.{IR};
 ghost use Rattle.plan_ir.specs.declared.ir.IR.TheVariants.{HConcat};
-ghost use Rattle.plan_ir.specs.Parts.{plan_shape};
+ghost use Rattle.plan_ir.specs.Parts.{inputs_of, plan_shape};
 ghost use Rattle.plan_frame.specs.Beside.{side_by_side, with_new};
-ghost use Rattle.plan_prune.specs.declared.push_down.step.Step.TheVariants.{Each};
 ghost use Rattle.plan_prune.specs.Kept.{beside_after};
-ghost use Rattle.plan_prune.specs.Steps.{columns_at, held_at};
+ghost use Rattle.plan_prune.specs.Steps.{columns_at, held_at, is_hconcat, step_of};
 
 use crate::push_down::step::Step;
 use plan_core::{Arena, Items, Names, Node, PlSmallStr, Schema, TryClone};
@@ -41,26 +40,31 @@ fn asks(
 /// The step of a concatenation.
 pub fn prepare(
     alloc: Global,
-    inputs: Items<Node>,
-    schema: Schema,
-    options: HConcatOptions,
+    concatenation: IR,
     asked: &Names,
     lp: &Arena<IR>,
 ) -> Result<Step, AllocError>
-    requires { (t : Trees IR) × StandsOnce plan_shape lp.now inputs t }
-    ensures { IfOk result (λ step. (ex : List AExpr) → step ≡ Each inputs (held_at lp.now ex asked.now inputs) None (HConcat inputs schema options)) }
+    requires kind { IsTrue (is_hconcat concatenation) }
+    requires inputs { (t : Trees IR) × StandsOnce plan_shape lp.now (inputs_of concatenation) t }
+    ensures { IfOk result (λ step. (ex : List AExpr) → step ≡ step_of lp.now ex asked.now concatenation) }
 {
-    let asked = asks(alloc, inputs.as_slice(), asked, lp)?;
-    Ok(Step::Each {
-        inputs: inputs.try_clone(alloc)?,
-        asked,
-        covered: None,
-        entry: IR::HConcat {
+    match concatenation {
+        IR::HConcat {
             inputs,
             schema,
             options,
-        },
-    })
+        } => Ok(Step::Each {
+            asked: asks(alloc, inputs.as_slice(), asked, lp)?,
+            inputs: inputs.try_clone(alloc)?,
+            covered: None,
+            entry: IR::HConcat {
+                inputs,
+                schema,
+                options,
+            },
+        }),
+        _ => unreachable!(),
+    }
 }
 
 /// Adds of more columns each whose name no column has, last. Refuses for want of memory alone.

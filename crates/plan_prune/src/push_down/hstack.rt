@@ -2,19 +2,19 @@
 //! It stores the columns of its pruned input, and those of the kept expressions beside them.
 //! It asks its input the asked names that this has, and then the names that the kept expressions read; keeping none it asks
 //! what it is asked. Asked nothing, it stays as it is and asks nothing.
-ghost use Rattle.std.specs.Prelude.{◌≡◌, ◌<◌, ◌≤◌, All, List, [], ◌∷◌, IfOk, OnOk, length, map};
+ghost use Rattle.std.specs.Prelude.{◌≡◌, ◌<◌, ◌≤◌, All, List, [], ◌∷◌, IfOk, IsTrue, OnOk, length};
 ghost use Rattle.plan_tree.specs.Stands.{Trees, StandsOnce};
 ghost use Rattle.plan_expr.specs.declared.aexpr.AExpr.{AExpr};
 ghost use Rattle.plan_ir.specs.declared.ir.IR.{IR};
 ghost use Rattle.plan_expr.specs.Operands.{IsExpr};
-ghost use Rattle.plan_ir.specs.Parts.{plan_shape};
+ghost use Rattle.plan_ir.specs.Parts.{inputs_of, is_hstack, plan_shape, roots_of};
 ghost use Rattle.plan_expr.specs.Exprs.{all_named_at};
 ghost use Rattle.plan_ir.specs.Plans.{bare, plans_at};
 ghost use Rattle.plan_meaning.specs.Typing.{first_schema};
 ghost use Rattle.plan_schema.specs.Stored.{stored_all};
 ghost use Rattle.plan_prune.specs.Kept.{asks_after, with_stacked};
 ghost use Rattle.plan_prune.specs.Prunes.{StandExprs};
-ghost use Rattle.plan_prune.specs.Steps.{stacked_step};
+ghost use Rattle.plan_prune.specs.Steps.{step_of};
 
 use crate::push_down::exprs::{add_all_names, kept_exprs, with_typed};
 use crate::push_down::step::Step;
@@ -50,31 +50,39 @@ fn asks(
 /// The step of an addition.
 pub fn prepare(
     alloc: Global,
-    input: Node,
-    exprs: Items<ExprIR>,
-    schema: Schema,
-    options: ProjectionOptions,
+    addition: IR,
     asked: Names,
     lp: &Arena<IR>,
     ex: &Arena<AExpr>,
 ) -> Result<Step, AllocError>
-    requires exprs { StandExprs ex.now (map (λ e. e.node) exprs) }
-    requires input { (t : Trees IR) × StandsOnce plan_shape lp.now (input ∷ []) t }
-    ensures { IfOk result (λ step. step ≡ stacked_step ex.now asked input exprs schema options (first_schema (stored_all (bare (plans_at lp.now ex.now (input ∷ [])))))) }
+    requires kind { IsTrue (is_hstack addition) }
+    requires exprs { StandExprs ex.now (roots_of addition) }
+    requires inputs { (t : Trees IR) × StandsOnce plan_shape lp.now (inputs_of addition) t }
+    ensures { IfOk result (λ step. step ≡ step_of lp.now ex.now asked addition) }
 {
-    let exprs = kept_exprs(alloc, exprs, &asked)?;
-    let stored = stored_schema(alloc, input, lp)?;
-    let asked = asks(alloc, asked, exprs.as_slice(), stored.columns(), ex)?;
-    Ok(Step::Over {
-        input,
-        asked,
-        entry: IR::HStack {
+    match addition {
+        IR::HStack {
             input,
             exprs,
             schema,
             options,
-        },
-    })
+        } => {
+            let exprs = kept_exprs(alloc, exprs, &asked)?;
+            let stored = stored_schema(alloc, input, lp)?;
+            let asked = asks(alloc, asked, exprs.as_slice(), stored.columns(), ex)?;
+            Ok(Step::Over {
+                input,
+                asked,
+                entry: IR::HStack {
+                    input,
+                    exprs,
+                    schema,
+                    options,
+                },
+            })
+        }
+        _ => unreachable!(),
+    }
 }
 
 /// Puts an addition of these expressions at `node`, over the pruned input; where names are asked, over its columns, and

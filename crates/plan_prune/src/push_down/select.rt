@@ -2,22 +2,23 @@
 //! such one too, last, since the height is its. It stores the columns of those that it keeps.
 //! Asked nothing, it stays as it is. It asks its input the names that its kept expressions read, each once.
 //! A selection of the number of rows alone asks the column that stands in for them, and nothing where there is none.
-ghost use Rattle.std.specs.Prelude.{◌≡◌, [], All, IfOk, if◌then◌else◌, map};
+ghost use Rattle.std.specs.Prelude.{◌≡◌, ℕ, [], All, IfOk, IsTrue, if◌then◌else◌, slice_get};
 ghost use Rattle.plan_core.specs.Names.{with_names};
+ghost use Rattle.plan_core.specs.declared.arena.Node.{Node as NodeType};
 ghost use Rattle.plan_expr.specs.Operands.{IsExpr};
 ghost use Rattle.plan_expr.specs.Exprs.{all_named_at};
-ghost use Rattle.plan_ir.specs.Parts.{IsPlan, roots_of};
+ghost use Rattle.plan_ir.specs.Parts.{IsPlan, inputs_of, is_select, roots_of};
 ghost use Rattle.plan_ir.specs.Plans.{op_at};
 ghost use Rattle.plan_frame.specs.ExprLists.{all_leaves};
 ghost use Rattle.plan_meaning.specs.Counting.{is_count as is_count_op, stand_in_names};
 ghost use Rattle.plan_prune.specs.Prunes.{StandExprs};
-ghost use Rattle.plan_prune.specs.Steps.{selected_step, stand_in_at};
+ghost use Rattle.plan_prune.specs.Steps.{stand_in_at, step_of};
 ghost use Rattle.plan_prune.specs.Kept.{selected_at, names_at, is_some_name, stored_after};
 
 use crate::push_down::exprs::{add_all_names, asked_exprs, with_typed};
 use crate::push_down::stand_in::{first_many, stand_in};
 use crate::push_down::step::Step;
-use plan_core::{Arena, Items, Names, Node, ProjectionOptions, Schema, TryClone};
+use plan_core::{Arena, Items, Names, Node, Schema, TryClone};
 use plan_expr::{AExpr, ExprIR};
 use plan_frame::{all_scalar, counts_rows};
 use plan_ir::IR;
@@ -98,30 +99,38 @@ fn asks(
 /// The step of a selection.
 pub fn prepare(
     alloc: Global,
-    input: Node,
-    expr: Items<ExprIR>,
-    schema: Schema,
-    options: ProjectionOptions,
+    selection: IR,
     asked: &Names,
     lp: &Arena<IR>,
     ex: &Arena<AExpr>,
 ) -> Result<Step, AllocError>
-    requires exprs { StandExprs ex.now (map (λ e. e.node) expr) }
-    requires input { IsPlan lp.now ex.now input }
-    ensures { IfOk result (λ step. step ≡ selected_step ex.now asked.now input expr schema options (stand_in_at lp.now ex.now input)) }
+    requires kind { IsTrue (is_select selection) }
+    requires exprs { StandExprs ex.now (roots_of selection) }
+    requires inputs { (j : ℕ) (i : NodeType) → slice_get (inputs_of selection) j ≡ Some i → IsPlan lp.now ex.now i }
+    ensures { IfOk result (λ step. step ≡ step_of lp.now ex.now asked.now selection) }
 {
-    let is_count = counts_rows(expr.as_slice(), ex);
-    let expr = keep(alloc, expr, asked, ex)?;
-    let schema = columns(alloc, schema, expr.as_slice(), asked)?;
-    let asked = asks(alloc, is_count, input, expr.as_slice(), lp, ex)?;
-    Ok(Step::Over {
-        input,
-        asked,
-        entry: IR::Select {
+    match selection {
+        IR::Select {
             input,
             expr,
             schema,
             options,
-        },
-    })
+        } => {
+            let is_count = counts_rows(expr.as_slice(), ex);
+            let expr = keep(alloc, expr, asked, ex)?;
+            let schema = columns(alloc, schema, expr.as_slice(), asked)?;
+            let asked = asks(alloc, is_count, input, expr.as_slice(), lp, ex)?;
+            Ok(Step::Over {
+                input,
+                asked,
+                entry: IR::Select {
+                    input,
+                    expr,
+                    schema,
+                    options,
+                },
+            })
+        }
+        _ => unreachable!(),
+    }
 }

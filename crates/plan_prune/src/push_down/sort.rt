@@ -1,21 +1,21 @@
 //! A sort stays as it is.
 //! Asked something, it asks its input that, and the columns of its keys, each last unless it is asked already.
 //! Asked nothing, it asks nothing.
-ghost use Rattle.std.specs.Prelude.{◌≡◌, All, IfOk, map};
+ghost use Rattle.std.specs.Prelude.{◌≡◌, All, IfOk, IsTrue, List};
 ghost use Rattle.plan_expr.specs.Operands.{IsExpr};
-ghost use Rattle.plan_ir.specs.declared.ir.IR.TheVariants.{Sort};
+ghost use Rattle.plan_ir.specs.declared.ir.IR.{IR};
+ghost use Rattle.plan_ir.specs.Parts.{is_sort, roots_of};
 ghost use Rattle.plan_expr.specs.Exprs.{all_named_at};
 ghost use Rattle.plan_frame.specs.ExprLists.{all_leaves};
 ghost use Rattle.plan_narrowing.specs.Pruned.{asked_with};
-ghost use Rattle.plan_prune.specs.declared.push_down.step.Step.TheVariants.{Over};
 ghost use Rattle.plan_prune.specs.Prunes.{StandExprs};
+ghost use Rattle.plan_prune.specs.Steps.{step_of};
 
 use crate::push_down::exprs::add_all_names;
 use crate::push_down::step::Step;
-use plan_core::{Arena, Items, Names, Node};
+use plan_core::{Arena, Names};
 use plan_expr::{AExpr, ExprIR};
 use plan_ir::IR;
-use plan_options::SortMultipleOptions;
 use std::alloc::AllocError;
 
 /// What a sort asks its input: the asked names, and then the other names that the keys read; no names stand for every
@@ -32,26 +32,30 @@ fn asks(asked: Names, keys: &[ExprIR], ex: &Arena<AExpr>) -> Result<Names, Alloc
 }
 
 /// The step of a sort.
-pub fn prepare(
-    input: Node,
-    by_column: Items<ExprIR>,
-    slice: Option<(i64, usize)>,
-    sort_options: SortMultipleOptions,
-    asked: Names,
-    ex: &Arena<AExpr>,
-) -> Result<Step, AllocError>
-    requires { StandExprs ex.now (map (λ e. e.node) by_column) }
-    ensures { IfOk result (λ step. step ≡ Over input (asked_with asked (all_leaves (all_named_at ex.now by_column))) (Sort input by_column slice sort_options)) }
+pub fn prepare(sort: IR, asked: Names, ex: &Arena<AExpr>) -> Result<Step, AllocError>
+    requires kind { IsTrue (is_sort sort) }
+    requires exprs { StandExprs ex.now (roots_of sort) }
+    ensures { IfOk result (λ step. (lp : List IR) → step ≡ step_of lp ex.now asked sort) }
 {
-    let asked = asks(asked, by_column.as_slice(), ex)?;
-    Ok(Step::Over {
-        input,
-        asked,
-        entry: IR::Sort {
+    match sort {
+        IR::Sort {
             input,
             by_column,
             slice,
             sort_options,
-        },
-    })
+        } => {
+            let asked = asks(asked, by_column.as_slice(), ex)?;
+            Ok(Step::Over {
+                input,
+                asked,
+                entry: IR::Sort {
+                    input,
+                    by_column,
+                    slice,
+                    sort_options,
+                },
+            })
+        }
+        _ => unreachable!(),
+    }
 }

@@ -9,8 +9,8 @@ ghost use Rattle.plan_prune.specs.Prunes.{StandExprs};
 ghost use Rattle.plan_prune.specs.Steps.{put_back, step_of};
 
 use crate::push_down::{
-    cache, distinct, filter, frame_scan, function, group_by, hconcat, hstack, projection, scan,
-    select, sink, slice, sort, union,
+    cache, distinct, filter, frame_scan, function, group_by, hconcat, hstack, join, projection,
+    scan, select, sink, slice, sort, union,
 };
 use plan_core::{Arena, Items, Names, Node, Schema};
 use plan_expr::AExpr;
@@ -74,62 +74,18 @@ pub fn prepare(
             projection::prepare(alloc, input, columns, &asked)
         }
         scan @ IR::Scan { .. } => scan::prepare(alloc, scan, &asked),
-        IR::DataFrameScan {
-            df,
-            schema,
-            output_schema,
-        } => frame_scan::prepare(alloc, df, schema, output_schema, &asked),
-        IR::Select {
-            input,
-            expr,
-            schema,
-            options,
-        } => select::prepare(alloc, input, expr, schema, options, &asked, lp, ex),
-        IR::HStack {
-            input,
-            exprs,
-            schema,
-            options,
-        } => hstack::prepare(alloc, input, exprs, schema, options, asked, lp, ex),
-        IR::Sort {
-            input,
-            by_column,
-            slice,
-            sort_options,
-        } => sort::prepare(input, by_column, slice, sort_options, asked, ex),
-        IR::GroupBy {
-            input,
-            keys,
-            aggs,
-            schema,
-            maintain_order,
-            options,
-        } => group_by::prepare(
-            alloc,
-            input,
-            keys,
-            aggs,
-            schema,
-            maintain_order,
-            options,
-            &asked,
-            lp,
-            ex,
-        ),
+        scan @ IR::DataFrameScan { .. } => frame_scan::prepare(alloc, scan, &asked),
+        selection @ IR::Select { .. } => select::prepare(alloc, selection, &asked, lp, ex),
+        addition @ IR::HStack { .. } => hstack::prepare(alloc, addition, asked, lp, ex),
+        sort @ IR::Sort { .. } => sort::prepare(sort, asked, ex),
+        grouping @ IR::GroupBy { .. } => group_by::prepare(alloc, grouping, &asked, lp, ex),
+        join @ IR::Join { .. } => Ok(join::prepare(join)),
         IR::Distinct { input, options } => distinct::prepare(alloc, input, options, asked, lp),
         IR::MapFunction { input, function } => function::prepare(alloc, input, function, asked, lp),
         IR::Sink { input, payload } => Ok(sink::prepare(input, payload, asked)),
         IR::Union { inputs, options } => union::prepare(alloc, inputs, options, asked),
-        IR::HConcat {
-            inputs,
-            schema,
-            options,
-        } => hconcat::prepare(alloc, inputs, schema, options, &asked, lp),
-        IR::Cache {
-            input,
-            id,
-            cache_hits,
-        } => cache::prepare(alloc, input, id, cache_hits, &asked, lp),
+        concatenation @ IR::HConcat { .. } => hconcat::prepare(alloc, concatenation, &asked, lp),
+        cache @ IR::Cache { .. } => cache::prepare(alloc, cache, &asked, lp),
         IR::Invalid => Ok(Step::Leaf { entry: IR::Invalid }),
     }
 }
