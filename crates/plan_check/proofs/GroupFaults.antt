@@ -72,7 +72,7 @@ gathered-type e s = at (is_scalar e)
 
 -- checks on keys and on gathered aggregates
 
-each-append : {A : Type 0} (fault : At → PolarsError) (k : ℕ) (holds : A → Bool) (xs ys : List A) → each fault k holds (xs ++ ys) ≡ each fault k holds xs ++ each fault (k + length xs) holds ys
+pub each-append : {A : Type 0} (fault : At → PolarsError) (k : ℕ) (holds : A → Bool) (xs ys : List A) → each fault k holds (xs ++ ys) ≡ each fault k holds xs ++ each fault (k + length xs) holds ys
 each-append fault k holds [] ys = ap (λ (j : ℕ). each fault j holds ys) (sym (add-zero k))
 each-append fault k holds (x ∷ xs) ys =
     let here : suc k + length xs ≡ k + length (x ∷ xs) = omega arith in

@@ -6,4 +6,8 @@ mod ReadLemmas
 pub mod TreeFaultLemmas
 mod TypedLemmas
 mod InputLemmas
+mod JoinLemmas
+mod PairFaults
+mod FirstColumns
+mod JoinFaults
 mod UnionFaults

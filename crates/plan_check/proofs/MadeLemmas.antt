@@ -1,33 +1,34 @@
 -- Checks on the expressions of a node, said of their numbers.
-use Rattle.std.proofs.Common.{◌≡◌, ◌<◌, ◌≤◌, ◌+◌, arith, option_map, ℕ, zero, suc, All, take, unwrap_or, add-one, List, [], ◌∷◌, length, map, get_or, Some, is_some, sym, ap, ◌∙◌, subst}
+use Rattle.std.proofs.Common.{◌≡◌, ◌<◌, ◌≤◌, ◌+◌, arith, option_map, ℕ, zero, suc, Bool, All, take, unwrap_or, add-one, List, [], ◌∷◌, length, map, get_or, Some, is_some, sym, ap, ◌∙◌, subst}
 use Rattle.std.specs.List.{slice_get}
 use Rattle.std.proofs.lemmas.List.Elements.{All-get_or}
 use Rattle.std.proofs.lemmas.Option.{slice_get-get_or, slice_get-map}
 use Rattle.std.proofs.lemmas.List.{length-map}
 use Rattle.plan_core.specs.Columns.{Columns, with_type}
 use Rattle.plan_core.specs.declared.data_type.DataType.TheVariants.{Int64}
-use Rattle.plan_core.specs.declared.error.PolarsError.TheVariants.{InvalidOperation, SchemaFieldNotFound, SchemaMismatch}
+use Rattle.plan_core.specs.declared.error.At.{At}
+use Rattle.plan_core.specs.declared.error.PolarsError.{PolarsError}
+use Rattle.plan_core.specs.declared.error.PolarsError.TheVariants.{InvalidOperation, SchemaMismatch}
 use Rattle.plan_expr.specs.declared.aexpr.AExpr.{AExpr}
 use Rattle.plan_expr.specs.declared.expr_ir.ExprIR.{ExprIR}
 use Rattle.plan_expr.specs.Operands.{IsExpr}
 use Rattle.plan_expr.specs.Exprs.{Named, named_at, all_named_at, expr_at}
 use Rattle.plan_ir.proofs.MovedLemmas.{map_twice}
 use Rattle.plan_expr.specs.Forms.{has_form}
-use Rattle.plan_expr.specs.Leaves.{leaves}
-use Rattle.plan_expr.specs.Naming.{naming, may_be_named, name_of}
-use Rattle.plan_frame.specs.Exprs.{all_known, expr_type}
-use Rattle.plan_meaning.specs.Checks.{each, each_new, form_checks, leaf_checks, type_checks, plain_checks, is_plain_type, once_checks, naming_checks}
+use Rattle.plan_expr.specs.Naming.{name_of}
+use Rattle.plan_frame.specs.Exprs.{expr_type}
+use Rattle.plan_meaning.specs.Checks.{each, each_new, form_checks, type_checks, plain_checks, is_plain_type, once_checks}
 use Rattle.plan_frame.specs.Made.{made_schema}
 use Rattle.plan_function.proofs.CheckLemmas.{each-map}
 
 module _ (ex : List AExpr) (es : List ExprIR) where
+  -- a check on each expression
+  pub named-each : (fault : At → PolarsError) (k : ℕ) (holds : Named → Bool) → each fault k holds (all_named_at ex es) ≡ each fault k (λ (e : ExprIR). holds (named_at ex e)) es
+  named-each fault k holds = sym (each-map fault k holds (named_at ex) es)
+
   pub form-at : form_checks (all_named_at ex es) ≡ each InvalidOperation 1 (λ (e : ExprIR). has_form (expr_at ex e.node)) es
   unfolding form_checks
   form-at = sym (each-map InvalidOperation 1 (λ (n : Named). has_form n.expr) (named_at ex) es)
-
-  pub leaf-at : (s : Columns) → leaf_checks (all_named_at ex es) s ≡ each SchemaFieldNotFound 1 (λ (e : ExprIR). all_known (leaves (expr_at ex e.node)) s) es
-  unfolding leaf_checks
-  leaf-at s = sym (each-map SchemaFieldNotFound 1 (λ (n : Named). all_known (leaves n.expr) s) (named_at ex) es)
 
   pub type-at : (s : Columns) → type_checks (all_named_at ex es) s ≡ each SchemaMismatch 1 (λ (e : ExprIR). is_some (expr_type (expr_at ex e.node) s)) es
   unfolding type_checks
@@ -36,10 +37,6 @@ module _ (ex : List AExpr) (es : List ExprIR) where
   pub plain-at : (s : Columns) → plain_checks (all_named_at ex es) s ≡ each SchemaMismatch 1 (λ (e : ExprIR). is_plain_type (expr_type (expr_at ex e.node) s)) es
   unfolding plain_checks
   plain-at s = sym (each-map SchemaMismatch 1 (λ (n : Named). is_plain_type (expr_type n.expr s)) (named_at ex) es)
-
-  pub naming-at : naming_checks (all_named_at ex es) ≡ each SchemaMismatch 1 (λ (e : ExprIR). may_be_named e.output_name (naming (expr_at ex e.node))) es
-  unfolding naming_checks
-  naming-at = sym (each-map SchemaMismatch 1 (λ (n : Named). may_be_named n.name (naming n.expr)) (named_at ex) es)
 
   pub once-at : once_checks (all_named_at ex es) ≡ each_new 1 [] (map (λ (e : ExprIR). name_of e.output_name) es)
   unfolding once_checks

@@ -53,7 +53,8 @@ all-same : (reads : Option (List Name)) (cs : Columns) → all_read (as_set read
 all-same reads [] = refl
 all-same reads (c ∷ cs) = ap₂ (λ (a b : Bool). a && b) (reads-same reads c.0) (all-same reads cs)
 
-each-same : {A : Type 0} (fault : At → PolarsError) (k : ℕ) (f g : A → Bool) (xs : List A) → ((x : A) → f x ≡ g x) → each fault k f xs ≡ each fault k g xs
+-- tests that say the same of each item are checked alike
+pub each-same : {A : Type 0} (fault : At → PolarsError) (k : ℕ) (f g : A → Bool) (xs : List A) → ((x : A) → f x ≡ g x) → each fault k f xs ≡ each fault k g xs
 each-same fault k f g [] h = refl
 each-same fault k f g (x ∷ xs) h = ap₂ (λ (b : Bool) (cs : List Check). check fault k b ∷ cs) (h x) (each-same fault (suc k) f g xs h)
 

@@ -1,8 +1,8 @@
 -- The numbers of expressions with their places, and that walks without a fault find a plan.
-use Rattle.std.proofs.Common.{◌≡◌, ℕ, zero, suc, ◌+◌, ◌<◌, ◌≤◌, List, [], ◌∷◌, ◌++◌, map, length, take, get_or, Option, refl, sym, ap, ap₂, ◌∙◌, subst, arith, append-nil, append_assoc, add-zero}
+use Rattle.std.proofs.Common.{◌≡◌, Bor, ℕ, zero, suc, ◌+◌, ◌<◌, ◌≤◌, List, [], ◌∷◌, ◌++◌, map, length, take, get_or, Option, refl, sym, ap, ap₂, ◌∙◌, subst, arith, append-nil, append_assoc, add-zero}
 use Rattle.std.specs.List.{slice_get}
 use Rattle.std.specs.Option.{option_map_or}
-use Rattle.std.proofs.lemmas.List.{map-append, take_more}
+use Rattle.std.proofs.lemmas.List.{length-map, map-append, take_more}
 use Rattle.std.proofs.lemmas.Option.{slice_get_past}
 use Rattle.plan_core.specs.declared.arena.Node.{Node}
 use Rattle.plan_core.specs.declared.error.At.{At}
@@ -30,11 +30,23 @@ length-take (x ∷ xs) zero h = refl
 length-take (x ∷ xs) (suc i) h = ap suc (length-take xs i (omega arith))
 
 -- one expression more
-pub marked-more : (n : Node) (es : List ExprIR) (i : ℕ) (e : ExprIR) → i < length es → e ≡ get_or es i e → marked n 1 (take (i + 1) es) ≡ marked n 1 (take i es) ++ record { node = e.node; mark = at n (1 + i) } ∷ []
+marked-more : (n : Node) (es : List ExprIR) (i : ℕ) (e : ExprIR) → i < length es → e ≡ get_or es i e → marked n 1 (take (i + 1) es) ≡ marked n 1 (take i es) ++ record { node = e.node; mark = at n (1 + i) } ∷ []
 marked-more n es i e lt is =
     ap (marked n 1) (take_more es i e lt ∙ ap (λ (x : ExprIR). take i es ++ x ∷ []) (sym is))
     ∙ marked-append n 1 (take i es) (e ∷ [])
     ∙ ap (λ (j : ℕ). marked n 1 (take i es) ++ record { node = e.node; mark = at n (1 + j) } ∷ []) (length-take es i lt)
+
+map_here : {A B : Type 0} (f : A → B) (xs : List A) (i : ℕ) (x : A) → i < length xs → x ≡ get_or xs i x → f x ≡ get_or (map f xs) i (f x)
+map_here f [] i x lt is = absurd (omega arith)
+map_here f (y ∷ xs) zero x lt is = ap f is
+map_here f (y ∷ xs) (suc i) x lt is = map_here f xs i x (omega arith) is
+
+-- and where expressions are lent
+pub lent-more : (n : Node) (es : List (Bor ExprIR)) (i : ℕ) (e : Bor ExprIR) → i < length es → e ≡ get_or es i e
+    → marked n 1 (take (i + 1) (map (λ (x : Bor ExprIR). x.now) es)) ≡ marked n 1 (take i (map (λ (x : Bor ExprIR). x.now) es)) ++ record { node = e.now.node; mark = at n (1 + i) } ∷ []
+lent-more n es i e lt is =
+    let long = length-map es (λ (x : Bor ExprIR). x.now) in
+    marked-more n (map (λ (x : Bor ExprIR). x.now) es) i e.now (omega (arith, long, lt)) (map_here (λ (x : Bor ExprIR). x.now) es i e lt is)
 
 exprs-append : (lp : List IR) (ns ms : List Node) → marked_exprs lp (ns ++ ms) ≡ marked_exprs lp ns ++ marked_exprs lp ms
 exprs-append lp [] ms = refl

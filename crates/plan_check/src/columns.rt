@@ -87,7 +87,7 @@ pub fn all_read(schema: &Schema, reads: &Option<Names>) -> bool
 }
 
 /// The stored columns are those that are computed; else a `SchemaMismatch` at place 0.
-#[tactic(auto, unfolding(plan_meaning::specs::Typing::stored_checks))]
+#[tactic(auto, unfolding(plan_meaning::specs::Checks::stored_checks))]
 pub fn check_stored(node: Node, stored: &Schema, computed: &Schema) -> PolarsResult<()>
     ensures { Says result (first_fault node (stored_checks stored.now computed.now)) }
 {

@@ -14,7 +14,7 @@ use plan_frame::{expr_type, reads_only};
 use plan_function::at;
 
 /// Whether the type is Boolean.
-fn is_boolean(dtype: Option<DataType>) -> bool
+pub fn is_boolean(dtype: Option<DataType>) -> bool
     ensures { result ≡ is_type dtype Boolean }
 {
     matches!(dtype, Some(DataType::Boolean))

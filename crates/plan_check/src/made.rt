@@ -3,10 +3,14 @@
 //! as it may be.
 ghost use Rattle.std.specs.Prelude.{◌≡◌, [], ◌∷◌, All, IfOk};
 ghost use Rattle.plan_core.specs.declared.options.ProjectionOptions.{ProjectionOptions};
+ghost use Rattle.plan_core.specs.declared.error.PolarsError.TheVariants.{SchemaFieldNotFound, SchemaMismatch};
 ghost use Rattle.plan_expr.specs.Operands.{IsExpr};
 ghost use Rattle.plan_expr.specs.Exprs.{all_named_at};
+ghost use Rattle.plan_expr.specs.Leaves.{leaves};
+ghost use Rattle.plan_expr.specs.Naming.{may_be_named as is_named, naming};
+ghost use Rattle.plan_frame.specs.Exprs.{all_known};
 ghost use Rattle.plan_ir.specs.Plans.{hstack, select};
-ghost use Rattle.plan_meaning.specs.Checks.{form_checks, leaf_checks, type_checks, once_checks, naming_checks};
+ghost use Rattle.plan_meaning.specs.Checks.{each, form_checks, leaf_checks, type_checks, once_checks, naming_checks};
 ghost use Rattle.plan_meaning.specs.Typing.{first_fault, Says, IsMade};
 ghost use Rattle.plan_frame.specs.Made.{made_schema as schema_made};
 ghost use Rattle.plan_meaning.specs.Typed.{IsNodeTyped};
@@ -33,7 +37,27 @@ pub fn check_forms(node: Node, exprs: &[ExprIR], ex: &Arena<AExpr>) -> PolarsRes
     Ok(())
 }
 
+/// Each expression reads columns of the schema; the first expression stands at `place`.
+pub fn check_leaves_from(
+    node: Node,
+    place: usize,
+    exprs: &[ExprIR],
+    ex: &Arena<AExpr>,
+    schema: &Schema,
+) -> PolarsResult<()>
+    requires { All (λ e. IsExpr ex.now e.node) exprs.now }
+    ensures { Says result (first_fault node (each SchemaFieldNotFound place (λ e. all_known (leaves e.expr) schema.now) (all_named_at ex.now exprs.now))) }
+{
+    for (i, expr) in exprs.iter().enumerate() {
+        if !reads_only(expr.node, ex, schema) {
+            return Err(PolarsError::SchemaFieldNotFound(at(node, place.saturating_add(i))));
+        }
+    }
+    Ok(())
+}
+
 /// Each expression reads columns of the schema; the first expression stands at place 1.
+#[tactic(auto, unfolding(plan_meaning::specs::Checks::leaf_checks))]
 pub fn check_leaves(
     node: Node,
     exprs: &[ExprIR],
@@ -43,12 +67,7 @@ pub fn check_leaves(
     requires { All (λ e. IsExpr ex.now e.node) exprs.now }
     ensures { Says result (first_fault node (leaf_checks (all_named_at ex.now exprs.now) schema.now)) }
 {
-    for (i, expr) in exprs.iter().enumerate() {
-        if !reads_only(expr.node, ex, schema) {
-            return Err(PolarsError::SchemaFieldNotFound(at(node, 1 + i)));
-        }
-    }
-    Ok(())
+    check_leaves_from(node, 1, exprs, ex, schema)
 }
 
 /// Each expression has a type; the first expression stands at place 1.
@@ -87,17 +106,31 @@ pub fn check_outputs(
     Ok(())
 }
 
+/// Each expression is named as it may be; the first expression stands at `place`.
+pub fn check_namings_from(
+    node: Node,
+    place: usize,
+    exprs: &[ExprIR],
+    ex: &Arena<AExpr>,
+) -> PolarsResult<()>
+    requires { All (λ e. IsExpr ex.now e.node) exprs.now }
+    ensures { Says result (first_fault node (each SchemaMismatch place (λ e. is_named e.name (naming e.expr)) (all_named_at ex.now exprs.now))) }
+{
+    for (i, expr) in exprs.iter().enumerate() {
+        if !may_be_named(&expr.output_name, expr.node, ex) {
+            return Err(PolarsError::SchemaMismatch(at(node, place.saturating_add(i))));
+        }
+    }
+    Ok(())
+}
+
 /// Each expression is named as it may be; the first expression stands at place 1.
+#[tactic(auto, unfolding(plan_meaning::specs::Checks::naming_checks))]
 pub fn check_namings(node: Node, exprs: &[ExprIR], ex: &Arena<AExpr>) -> PolarsResult<()>
     requires { All (λ e. IsExpr ex.now e.node) exprs.now }
     ensures { Says result (first_fault node (naming_checks (all_named_at ex.now exprs.now))) }
 {
-    for (i, expr) in exprs.iter().enumerate() {
-        if !may_be_named(&expr.output_name, expr.node, ex) {
-            return Err(PolarsError::SchemaMismatch(at(node, 1 + i)));
-        }
-    }
-    Ok(())
+    check_namings_from(node, 1, exprs, ex)
 }
 
 /// The columns, and those that the expressions make over the schema: each in the place of the one of its name, or last. An

@@ -1,7 +1,7 @@
 //! The schema of a plan, or its first fault.
 ghost use Rattle.std.specs.Prelude.{◌≡◌, ◌||◌, true, [], ◌∷◌, All, IfOk, IsTrue, None, length};
 ghost use Rattle.plan_expr.specs.Operands.{IsExpr};
-ghost use Rattle.plan_ir.specs.Parts.{exprs_of, inputs_of, is_group_by, is_sort, IsPlan};
+ghost use Rattle.plan_ir.specs.Parts.{exprs_of, inputs_of, is_group_by, is_join, is_sort, IsPlan};
 ghost use Rattle.plan_ir.specs.Plans.{op_at, plans_at};
 ghost use Rattle.plan_ir.specs.Reads.{is_scan};
 ghost use Rattle.plan_meaning.specs.PlanAt.{plan_at};
@@ -14,6 +14,7 @@ use crate::filter::filter_schema;
 use crate::frame_scan::frame_scan_schema;
 use crate::group_by::group_by_schema;
 use crate::hconcat::hconcat_schema;
+use crate::join::joined_schema;
 use crate::made::{hstack_schema, select_schema};
 use crate::projection::projection_schema;
 use crate::scan::scan_schema;
@@ -107,6 +108,44 @@ fn keyed_schema(
     }
 }
 
+/// The columns of a join over those of its two inputs, or its first fault.
+fn paired_schema(
+    alloc: Global,
+    node: Node,
+    entry: &IR,
+    ex: &Arena<AExpr>,
+    schemas: &[Schema],
+) -> PolarsResult<Schema>
+    requires kind { is_join entry.now ≡ true }
+    requires exprs { All (λ e. IsExpr ex.now e.node) (exprs_of entry.now) }
+    requires inputs { length schemas.now ≡ 2 }
+    ensures { IsNodeTyped result node (op_at ex.now entry.now) schemas.now }
+{
+    match (entry, schemas) {
+        (
+            IR::Join {
+                schema,
+                left_on,
+                right_on,
+                options,
+                ..
+            },
+            [left, right],
+        ) => joined_schema(
+            alloc,
+            node,
+            left_on.as_slice(),
+            right_on.as_slice(),
+            schema,
+            options,
+            ex,
+            left,
+            right,
+        ),
+        _ => unreachable!(),
+    }
+}
+
 /// The columns of a node over those of its inputs, in order, or its first fault.
 fn node_schema(
     alloc: Global,
@@ -133,6 +172,7 @@ fn node_schema(
             hstack_schema(alloc, node, exprs.as_slice(), schema, ex, &only(schemas))
         }
         IR::Sort { .. } | IR::GroupBy { .. } => keyed_schema(alloc, node, entry, ex, only(schemas)),
+        IR::Join { .. } => paired_schema(alloc, node, entry, ex, schemas.as_slice()),
         IR::Distinct { options, .. } => distinct_schema(node, options, only(schemas)),
         IR::MapFunction { function, .. } => {
             function_schema(alloc, node, function, &only(schemas))

@@ -35,7 +35,7 @@ fn is_built(keys: usize, slice: &Option<(i64, usize)>, options: &SortMultipleOpt
 }
 
 /// Whether there is a type, and it is plain.
-fn is_plain(dtype: Option<DataType>) -> bool
+pub fn is_plain(dtype: Option<DataType>) -> bool
     ensures { result ≡ is_plain_type dtype }
 {
     match dtype {

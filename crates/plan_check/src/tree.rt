@@ -1,5 +1,5 @@
 //! Whether numbers lead to a plan: each to an entry, none twice. The walks keep stacks of their own.
-ghost use Rattle.std.specs.Prelude.{◌≡◌, ◌++◌, IfOk, OnOk};
+ghost use Rattle.std.specs.Prelude.{◌≡◌, ◌++◌, map, IfOk, OnOk};
 ghost use Rattle.plan_ir.specs.Parts.{exprs_of, IsPlan};
 ghost use Rattle.plan_meaning.specs.Typing.{Says};
 ghost use Rattle.plan_meaning.specs.TreeFaults.{marked, marked_at, marked_exprs as marks_of, tree_fault};
@@ -12,8 +12,8 @@ use plan_tree::{Step, walk};
 use std::alloc::{AllocError, Global};
 
 /// Appends the numbers of expressions, each with its place at the node; the first stands at place 1.
-fn mark_exprs(node: Node, exprs: &[ExprIR], out: &mut Items<Step<At>>) -> Result<(), AllocError>
-    ensures { OnOk result (out.new ≡ out.old ++ marked node 1 exprs.now) }
+fn mark_exprs(node: Node, exprs: &[&ExprIR], out: &mut Items<Step<At>>) -> Result<(), AllocError>
+    ensures { OnOk result (out.new ≡ out.old ++ marked node 1 (map (λ e. e.now) exprs.now)) }
 {
     for (i, expr) in exprs.iter().enumerate() {
         out.push(Step {
@@ -36,7 +36,7 @@ fn mark_node(
     if node.0 >= lp.len() {
         return Ok(());
     }
-    let exprs = lp.get(node).get_exprs(alloc)?;
+    let exprs = lp.get(node).exprs(alloc)?;
     mark_exprs(node, exprs.as_slice(), out)
 }
 

@@ -2,7 +2,7 @@ use Rattle.plan_core.specs.declared.error.PolarsError.TheVariants.{SchemaMismatc
 use Rattle.plan_expr.specs.Exprs.{expr_at}
 use Rattle.plan_expr.specs.Naming.{naming, may_be_named}
 use Rattle.plan_function.proofs.CheckLemmas.{Left}
-use Rattle.plan_check.proofs.made.check_namings.Given as goal
+use Rattle.plan_check.proofs.made.check_namings_from.Given as goal
 
 abbrev pub invariant-loop-i : goal.invariant-loop-i
-invariant-loop-i l = Left l.node SchemaMismatch 1 (λ e. may_be_named e.output_name (naming (expr_at l.ex e.node))) l.exprs l.i
+invariant-loop-i l = Left l.node SchemaMismatch l.place (λ e. may_be_named e.output_name (naming (expr_at l.ex e.node))) l.exprs l.i
