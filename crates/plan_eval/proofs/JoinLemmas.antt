@@ -39,16 +39,17 @@ use Rattle.plan_eval.specs.Given.{Gives}
 use Rattle.std.specs.Prelude.{IfOk}
 use Rattle.plan_eval.proofs.PlanLemmas.{all-first, all-second}
 
--- the columns among keys, of the entries at their numbers and of the trees there
-
+-- the entry at a number
 record Entry (ex : List AExpr) (n : Node) : Type 0 where
   entry : AExpr
   there : slice_get ex n.0 ≡ Some entry
 
+-- where an expression stands there is an entry
 entry_at : (ex : List AExpr) (n : Node) → IsExpr ex n → Entry ex n
 entry_at ex n (no_roses, h) = absurd h.stands
 entry_at ex n (more (rose m p kids) rest, h) = record { entry = p; there = h.stands.1 }
 
+-- the column that an expression is, if it is one, is that of its entry
 column_here : (ex : List AExpr) (n : Node) (p : AExpr) → IsExpr ex n → slice_get ex n.0 ≡ Some p → expr_column (expr_at ex n) ≡ column_name p
 column_here ex n p h e = ap expr_column (expr_open ex n p h e) ∙ of p
   where
@@ -63,6 +64,7 @@ column_here ex n p h e = ap expr_column (expr_open ex n p h e) ∙ of p
     of (exprs.Window function partition_by) = refl
     of exprs.Len = refl
 
+-- the columns among keys are those of their entries
 pub columns-at : (ex : List AExpr) (keys : List ExprIR) → All (λ (e : ExprIR). IsExpr ex e.node) keys → column_keys (all_named_at ex keys) ≡ key_columns ex keys
 columns-at ex [] h = refl
 columns-at ex (key ∷ keys) h =
@@ -70,17 +72,18 @@ columns-at ex (key ∷ keys) h =
     ap₂ (λ (o : Option Name) (names : List Name). cons_option o names) (column_here ex key.node e.entry (h 0 key (omega arith)) e.there ∙ sym (one_column ex key e.entry e.there))
     (columns-at ex keys (All-tail (λ (x : ExprIR). IsExpr ex x.node) key keys h))
 
--- what the form of a join says of its keys
-
+-- sides whose keys are in pairs have as many
 paired : (how : JoinType) (l r : ℕ) → are_paired how l r ≡ true → l ≡ r
 paired kinds.Cross l r h = let p = and_parts (l == 0) (r == 0) h in eqb-true l 0 p.0 ∙ sym (eqb-true r 0 p.1)
 paired how l r h = eqb-true l r (and_parts (not (l == 0)) (l == r) h).1
 
+-- a kind that takes a condition takes no keys
 unpaired : (how : JoinType) (l r : ℕ) (e : Named) → are_paired how l r ≡ true → fits_kind how l (Some (condition e)) ≡ true → (l ≡ 0) × (r ≡ 0)
 unpaired kinds.Cross l r e h f = let p = and_parts (l == 0) (r == 0) h in (eqb-true l 0 p.0, eqb-true r 0 p.1)
 unpaired how l r e h f = cc
 
 module _ (l r : ℕ) (told : Told) (h : is_built_join l r told ≡ true) where
+  -- the keys of a join that is built are in pairs, and it has what its kind takes
   fitting : (are_paired told.args.how l r ≡ true) × (fits_kind told.args.how l told.options ≡ true)
   unfolding is_built_join
   fitting =
@@ -95,17 +98,21 @@ module _ (l r : ℕ) (told : Told) (h : is_built_join l r told ≡ true) where
   pub built-condition : (e : Named) → told.options ≡ Some (condition e) → (l ≡ 0) × (r ≡ 0)
   built-condition e is = unpaired told.args.how l r e fitting.0 (subst (λ (o : Option KindOptions). fits_kind told.args.how l o ≡ true) is fitting.1)
 
+-- no keys where none are read
 no_keys : (ex : List AExpr) (keys : List ExprIR) → length (all_named_at ex keys) ≡ 0 → keys ≡ []
 no_keys ex [] h = refl
 no_keys ex (key ∷ keys) h = absurd (omega arith)
 
 module _ (ex : List AExpr) (left_on right_on : List ExprIR) (o : JoinOptions) (stand : All (λ (e : ExprIR). IsExpr ex e.node) ((left_on ++ right_on) ++ list_of (condition_of o))) where
+  -- the left keys are expressions
   pub left-stand : All (λ (e : ExprIR). IsExpr ex e.node) left_on
   left-stand = all-first (λ (e : ExprIR). IsExpr ex e.node) left_on right_on (all-first (λ (e : ExprIR). IsExpr ex e.node) (left_on ++ right_on) (list_of (condition_of o)) stand)
 
+  -- the right keys are
   pub right-stand : All (λ (e : ExprIR). IsExpr ex e.node) right_on
   right-stand = all-second (λ (e : ExprIR). IsExpr ex e.node) left_on right_on (all-first (λ (e : ExprIR). IsExpr ex e.node) (left_on ++ right_on) (list_of (condition_of o)) stand)
 
+  -- the condition is, if there is one
   condition-stands : (predicate : ExprIR) → o.options ≡ Some (Cross predicate) → IsExpr ex predicate.node
   condition-stands predicate is =
       let last = all-second (λ (e : ExprIR). IsExpr ex e.node) (left_on ++ right_on) (list_of (condition_of o)) stand in
