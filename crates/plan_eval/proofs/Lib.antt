@@ -9,6 +9,7 @@ mod PartLemmas
 mod DistinctLemmas
 mod GroupLemmas
 mod BesideLemmas
+mod JoinLemmas
 mod SortLemmas
 mod FunctionLemmas
 mod UnpivotLemmas

@@ -1,5 +1,5 @@
 -- The keys of a sort, and rows that a closure sorts.
-use Rattle.std.proofs.Common.{◌≡◌, ◌++◌, ◌+◌, ◌<◌, ℕ, Bool, List, [], ◌∷◌, map, take, length, get_or, ap, ap₂, sym, ◌∙◌}
+use Rattle.std.proofs.Common.{◌≡◌, ℕ, Bool, List, ap}
 use Rattle.std.specs.Borrow.{Bor}
 use Rattle.std.specs.Cmp.{IsStrictWeakOrder, IsTotalOrder}
 use Rattle.std.specs.Fn.{Called, ComparesAs, Mut}
@@ -7,13 +7,8 @@ use Rattle.std.specs.List.Sorted.{IsSorted, IsSortedBy}
 use Rattle.std.specs.Ordering.{is_lt}
 use Rattle.std.specs.declared.cmp.Ordering.{Ordering}
 use Rattle.std.proofs.lemmas.Fn.{always_returns_same}
-use Rattle.std.proofs.lemmas.List.{map-append, take_more}
 use Rattle.std.proofs.lemmas.List.Sorted.{ranks_by}
-use Rattle.plan_expr.specs.declared.aexpr.AExpr.{AExpr}
-use Rattle.plan_expr.specs.declared.expr_ir.ExprIR.{ExprIR}
-use Rattle.plan_expr.specs.Exprs.{Named, all_named_at, expr_at, named_at}
-use Rattle.plan_frame.specs.Frames.{Frame}
-use Rattle.plan_frame.specs.Meaning.{Cell, val}
+use Rattle.plan_expr.specs.Exprs.{Named}
 use Rattle.plan_frame.specs.Orders.{key_cells, rows_cmp}
 use Rattle.plan_meaning.specs.Typing.{AllHold, key_checks}
 use Rattle.plan_meaning.proofs.CheckParts.{keys_good}
@@ -21,8 +16,6 @@ use Rattle.plan_frame.proofs.OrderLemmas.{rows_total}
 use Rattle.plan_meaning.proofs.Runs.{keys_are}
 use Rattle.plan_table.specs.declared.table.Table.{Table}
 use Rattle.plan_table.specs.Tables.{HasRows}
-use Rattle.plan_value.specs.declared.exprs.Values.{Values}
-use Rattle.plan_value.specs.Cells.{cell_of, cells_of}
 use Rattle.plan_value.specs.Shown.{frame_of, schema_of}
 use Rattle.plan_fit.proofs.FormedLemmas.{columns-have}
 

@@ -9,6 +9,7 @@ mod function;
 mod group_by;
 mod hconcat;
 mod hstack;
+mod join;
 mod made;
 mod plan;
 mod projection;

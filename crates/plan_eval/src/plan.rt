@@ -24,6 +24,7 @@ use crate::function::mapped;
 use crate::group_by::group_by;
 use crate::hconcat::hconcat;
 use crate::hstack::hstack;
+use crate::join::join;
 use crate::projection::projection;
 use crate::scan::scan;
 use crate::select::select;
@@ -33,7 +34,7 @@ use crate::unchanged::unchanged;
 use crate::union::union;
 use plan_core::{Arena, Items, Node};
 use plan_expr::AExpr;
-use plan_fit::inputs::inputs;
+use plan_fit::inputs::{input_at, input_count};
 use plan_ir::IR;
 use plan_table::{Table, Tables};
 use std::alloc::{AllocError, Global};
@@ -93,7 +94,8 @@ fn one_input_table(
         IR::Distinct { options, .. } => distinct(alloc, table, options),
         IR::MapFunction { function, .. } => mapped(alloc, table, function),
         IR::Sink { .. } | IR::Cache { .. } => unchanged(alloc, table),
-        IR::Union { .. }
+        IR::Join { .. }
+        | IR::Union { .. }
         | IR::HConcat { .. }
         | IR::Scan { .. }
         | IR::DataFrameScan { .. }
@@ -128,6 +130,19 @@ fn node_table(
 {
     match node {
         IR::Scan { .. } | IR::DataFrameScan { .. } => source_table(alloc, node, tables),
+        IR::Join {
+            left_on,
+            right_on,
+            options,
+            ..
+        } => join(
+            alloc,
+            inputs,
+            left_on.as_slice(),
+            right_on.as_slice(),
+            options,
+            ex,
+        ),
         IR::Union { .. } => union(alloc, inputs),
         IR::HConcat { .. } => hconcat(alloc, inputs),
         IR::Slice { .. }
@@ -160,8 +175,8 @@ fn plan_table(
 {
     let entry = lp.get(node);
     let mut given = Items::new(alloc);
-    for input in inputs(entry) {
-        given.push(plan_table(alloc, *input, lp, ex, tables)?)?;
+    for place in 0..input_count(entry) {
+        given.push(plan_table(alloc, input_at(entry, place), lp, ex, tables)?)?;
     }
     Ok(node_table(alloc, entry, given.as_slice(), ex, tables)?)
 }

@@ -9,7 +9,7 @@ use Rattle.plan_core.specs.declared.data_type.PlainType.{PlainType}
 use Rattle.plan_core.specs.declared.data_type.PlainType.TheVariants as plains
 use Rattle.plan_ir.specs.declared.scan.FileInfo.{FileInfo}
 use Rattle.plan_ir.specs.declared.scan.ScanSources.TheVariants.{Paths}
-use Rattle.plan_ir.specs.Plans.{Op, slice, filter, scan, frame_scan, simple_projection, select, hstack, sort, group_by, distinct, map_function, sink, union, hconcat, cache, invalid}
+use Rattle.plan_ir.specs.Plans.{Op, slice, filter, scan, frame_scan, simple_projection, select, hstack, sort, group_by, join, distinct, map_function, sink, union, hconcat, cache, invalid}
 use Rattle.plan_expr.specs.Leaves.{Name}
 use Rattle.plan_meaning.specs.Typing.{file_columns}
 use Rattle.plan_frame.specs.Values.{Value, AllOf}
@@ -169,6 +169,7 @@ node-frames ts (select exprs schema options) m f = tt
 node-frames ts (hstack exprs schema options) m f = tt
 node-frames ts (sort keys part options) m f = tt
 node-frames ts (group_by keys aggs schema ordered options) m f = tt
+node-frames ts (join left_on right_on schema told) m f = tt
 node-frames ts (distinct options) m f = tt
 node-frames ts (map_function function) m f = tt
 node-frames ts (sink payload) m f = tt

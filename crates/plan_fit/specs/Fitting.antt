@@ -6,7 +6,7 @@ use Rattle.plan_core.specs.Columns.{Columns}
 use Rattle.plan_tree.specs.Rose.{Roses, rose, no_roses, more}
 use Rattle.plan_ir.specs.declared.scan.ScanSources.{ScanSources}
 use Rattle.plan_ir.specs.declared.scan.ScanSources.TheVariants.{Paths}
-use Rattle.plan_ir.specs.Plans.{Op, slice, filter, scan, frame_scan, simple_projection, select, hstack, sort, group_by, distinct, map_function, sink, union, hconcat, cache, invalid}
+use Rattle.plan_ir.specs.Plans.{Op, slice, filter, scan, frame_scan, simple_projection, select, hstack, sort, group_by, join, distinct, map_function, sink, union, hconcat, cache, invalid}
 use Rattle.plan_ir.specs.declared.scan.FileInfo.{FileInfo}
 use Rattle.plan_meaning.specs.Checks.{is_column}
 use Rattle.plan_meaning.specs.Typing.{file_columns}
@@ -47,6 +47,7 @@ needs_by (select exprs schema options) = []
 needs_by (hstack exprs schema options) = []
 needs_by (sort keys part options) = []
 needs_by (group_by keys aggs schema ordered options) = []
+needs_by (join left_on right_on schema told) = []
 needs_by (distinct options) = []
 needs_by (map_function function) = []
 needs_by (sink payload) = []

@@ -16,7 +16,7 @@ ghost use Rattle.plan_table.specs.declared.source_key.SourceKey.TheVariants.{Fra
 ghost use Rattle.plan_fit.specs.Fitting.{AreFormed, HasColumns, IsMet, TablesFit, needs_by, scan_needs};
 ghost use Rattle.plan_fit.specs.Sources.{contents_of};
 
-use crate::inputs::inputs;
+use crate::inputs::{input_at, input_count};
 use plan_core::{Arena, DataType, Node, PlSmallStr, Schema};
 use plan_ir::{FileInfo, IR, ScanSources};
 use plan_table::{SourceKey, Table, Tables};
@@ -128,8 +128,8 @@ fn are_met(node: Node, lp: &Arena<IR>, tables: &Tables) -> bool
     if !is_met(entry, tables) {
         return false;
     }
-    for input in inputs(entry) {
-        if !are_met(*input, lp, tables) {
+    for place in 0..input_count(entry) {
+        if !are_met(input_at(entry, place), lp, tables) {
             return false;
         }
     }
