@@ -1,12 +1,12 @@
 -- The functions of whole frames that objects stand for.
-use Rattle.std.specs.Prelude.{ℕ, List, [], ◌∷◌, Option, Some, None, is_some, if◌then◌else◌, codes}
+use Rattle.std.specs.Prelude.{[], ◌∷◌, Option, Some, None, is_some, if◌then◌else◌, codes}
 use Rattle.serde_json.specs.Data.{Data}
 use Rattle.serde_json.specs.Find.{get}
 use Rattle.plan_ir.specs.declared.functions.FunctionIR.{FunctionIR}
 use Rattle.plan_ir.specs.declared.functions.FunctionIR.TheVariants as functions
 use Rattle.plan_ir.specs.declared.functions.UnpivotArgsIR.{UnpivotArgsIR}
 use Rattle.plan_doc.specs.Parts.{◌>>=◌, nullable, name_of, names_of, number_of, truth_of}
-use Rattle.plan_doc.specs.Members.{object_of, at}
+use Rattle.plan_doc.specs.Members.{object_of, at, only_of}
 
 -- columns under other names
 unfoldable pub rename_of : Data → Option FunctionIR
@@ -47,12 +47,6 @@ explode_of d = do
   o ← object_of (codes "columns" ∷ []) d
   cs ← at (codes "columns") names_of o
   Some (functions.Explode cs)
-
--- what stands under the one key of an object
-unfoldable pub only_of : List ℕ → Data → Option Data
-only_of k d = do
-  o ← object_of (k ∷ []) d
-  get k o
 
 -- the function of a whole frame that stands under its name in an object of one key
 abbrev pub frame_function_of : Data → Option FunctionIR

@@ -7,6 +7,7 @@ pub mod Built
 pub mod Exprs
 pub mod Functions
 pub mod Scans
+pub mod Joins
 pub mod Nodes
 pub mod Tables
 pub mod Document

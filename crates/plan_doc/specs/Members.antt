@@ -25,3 +25,9 @@ unfoldable pub at : {A : Type 0} → List ℕ → (Data → Option A) → Data �
 at k f o = do
   d ← get k o
   f d
+
+-- what stands under the one key of an object
+unfoldable pub only_of : List ℕ → Data → Option Data
+only_of k d = do
+  o ← object_of (k ∷ []) d
+  get k o

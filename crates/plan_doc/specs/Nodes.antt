@@ -3,6 +3,7 @@ use Rattle.std.specs.Prelude.{ℕ, List, [], ◌∷◌, true, Option, Some, None
 use Rattle.serde_json.specs.Data.{Data}
 use Rattle.serde_json.specs.Find.{get}
 use Rattle.plan_core.specs.declared.options.ProjectionOptions.{ProjectionOptions}
+use Rattle.plan_core.specs.declared.flags.OptFlags.{OptFlags}
 use Rattle.plan_core.specs.Columns.{Columns}
 use Rattle.plan_expr.specs.declared.expr_ir.ExprIR.{ExprIR}
 use Rattle.plan_ir.specs.declared.ir.IR.{IR}
@@ -16,7 +17,9 @@ use Rattle.plan_options.specs.declared.union.UnionOptions.{UnionOptions}
 use Rattle.plan_options.specs.Union.{default_union}
 use Rattle.plan_doc.specs.Parts.{◌>>=◌, nullable, name_of, number_of, link_of, links_of, integer_of, truth_of, truths_of, names_of, columns_of, output_of, outputs_of, slice_of, options_of}
 use Rattle.plan_doc.specs.Members.{object_of, at}
+use Rattle.plan_doc.specs.Built.{built_for}
 use Rattle.plan_doc.specs.Functions.{frame_function_of}
+use Rattle.plan_doc.specs.Joins.{join_of}
 use Rattle.plan_doc.specs.Scans.{frame_scan_of, scan_of}
 
 -- some rows of the input, one after another
@@ -228,10 +231,17 @@ node_of d = do
       if bytes_eq s (codes "HStack") then hstack_of d else (
       if bytes_eq s (codes "Sort") then sort_of d else (
       if bytes_eq s (codes "GroupBy") then group_by_of d else (
+      if bytes_eq s (codes "Join") then join_of d else (
       if bytes_eq s (codes "Distinct") then distinct_of d else (
       if bytes_eq s (codes "MapFunction") then map_function_of d else (
       if bytes_eq s (codes "Sink") then sink_of d else (
       if bytes_eq s (codes "Union") then union_of d else (
       if bytes_eq s (codes "HConcat") then hconcat_of d else (
       if bytes_eq s (codes "Cache") then cache_of d else (
-      if bytes_eq s (codes "Invalid") then invalid_of d else None)))))))))))))))
+      if bytes_eq s (codes "Invalid") then invalid_of d else None))))))))))))))))
+
+-- the node of an entry, for which each pass that the flags start is built
+unfoldable pub built_node_of : OptFlags → Data → Option IR
+built_node_of fs d = do
+  n ← node_of d
+  built_for fs n

@@ -2,12 +2,13 @@
 ghost use Rattle.std.specs.Prelude.{◌≡◌};
 ghost use Rattle.serde_json.specs.View.{view};
 ghost use Rattle.plan_doc.specs.Gives.{Gives};
-ghost use Rattle.plan_doc.specs.Built.{built_flags as built_flags_of, unshared_of, one_path as one_path_of, null_fields as null_fields_of};
+ghost use Rattle.plan_doc.specs.Built.{built_flags as built_flags_of, built_for as built_for_of, is_join as is_join_of, unshared_of, one_path as one_path_of, null_fields as null_fields_of};
 
 use crate::fault::Fault;
 use crate::members::nothing_at;
 use crate::parts::truth;
-use plan_core::{Items, PlSmallStr};
+use plan_core::{Items, OptFlags, PlSmallStr};
+use plan_ir::IR;
 use serde_json::Value;
 
 /// The sum of the flags whose passes aren't built: CLUSTER_WITH_COLUMNS, EAGER, FAST_PROJECTION, COLLAPSE_JOINS and
@@ -22,6 +23,24 @@ pub fn built_flags(flags: u32) -> Result<u32, Fault>
         Ok(flags)
     } else {
         Err(Fault::Form)
+    }
+}
+
+/// Whether a node is a join.
+fn is_join(node: &IR) -> bool
+    ensures { result ≡ is_join_of node.now }
+{
+    matches!(node, IR::Join { .. })
+}
+
+/// The same node, where each pass that the flags start is built for it; else `Form`: PROJECTION_PUSHDOWN isn't built for joins.
+pub fn built_for(flags: OptFlags, node: IR) -> Result<IR, Fault>
+    ensures { Gives result (built_for_of flags node) }
+{
+    if flags.projection_pushdown() && is_join(&node) {
+        Err(Fault::Form)
+    } else {
+        Ok(node)
     }
 }
 

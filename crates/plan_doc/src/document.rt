@@ -10,7 +10,7 @@ use crate::built::{built_flags, unshared};
 use crate::exprs::expr;
 use crate::fault::Fault;
 use crate::members::{field, link_at, object};
-use crate::nodes::node;
+use crate::nodes::built_node;
 use crate::optional::optional_tables_at;
 use crate::parts::{entries, number};
 use plan_core::{Arena, Node, OptFlags};
@@ -68,13 +68,13 @@ fn flags(value: &Value) -> Result<OptFlags, Fault>
     named_flags(bits)
 }
 
-/// An arena of the nodes of an array, in order.
+/// An arena of the nodes of an array, in order, for each of which the passes that the flags start are built.
 #[tactic(auto, unfolding(crate::specs::Document::nodes_of))]
-fn nodes(alloc: Global, value: &Value) -> Result<Arena<IR>, Fault>
-    ensures { Gives result (nodes_of (view value.now)) }
+fn nodes(alloc: Global, flags: OptFlags, value: &Value) -> Result<Arena<IR>, Fault>
+    ensures { Gives result (nodes_of flags (view value.now)) }
 {
     let entries = entries(value)?;
-    arena_of_each(alloc, entries, |entry| node(alloc, entry))
+    arena_of_each(alloc, entries, |entry| built_node(alloc, flags, entry))
 }
 
 /// An arena of the expressions of an array, in order.
@@ -104,9 +104,9 @@ fn document_of(alloc: Global, value: &Value) -> Result<Document, Fault>
 {
     let object = document_object(value)?;
     let root = link_at(object, "root")?;
-    let lp = nodes(alloc, field(object, "nodes")?)?;
-    let ex = exprs(alloc, field(object, "exprs")?)?;
     let flags = flags(field(object, "flags")?)?;
+    let lp = nodes(alloc, flags, field(object, "nodes")?)?;
+    let ex = exprs(alloc, field(object, "exprs")?)?;
     let shared = unshared(field(object, "shared")?)?;
     let tables = optional_tables_at(alloc, object, "tables")?;
     Ok(Document {

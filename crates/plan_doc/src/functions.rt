@@ -1,11 +1,11 @@
 //! The readers of functions of whole frames.
 ghost use Rattle.std.specs.Prelude.{◌≡◌};
 ghost use Rattle.serde_json.specs.View.{view};
-ghost use Rattle.plan_doc.specs.Gives.{Gives, Shows};
-ghost use Rattle.plan_doc.specs.Functions.{rename_of, numbering_of, unpivot_args_of, unpivot_of, explode_of, only_of, frame_function_of};
+ghost use Rattle.plan_doc.specs.Gives.{Gives};
+ghost use Rattle.plan_doc.specs.Functions.{rename_of, numbering_of, unpivot_args_of, unpivot_of, explode_of, frame_function_of};
 
 use crate::fault::Fault;
-use crate::members::{field, name_at, names_at, object, truth_at};
+use crate::members::{name_at, names_at, object, only, truth_at};
 use crate::optional::{optional_name_at, optional_number_at};
 use plan_ir::{FunctionIR, UnpivotArgsIR};
 use serde_json::Value;
@@ -73,14 +73,6 @@ fn explode(alloc: Global, value: &Value) -> Result<FunctionIR, Fault>
     let object = object(value, &["columns"])?;
     let columns = names_at(alloc, object, "columns")?;
     Ok(FunctionIR::Explode { columns })
-}
-
-/// The value under the one key of an object; `Form` where the value is no object, or has another key.
-#[tactic(auto, unfolding(crate::specs::Functions::only_of))]
-fn only<'a>(value: &'a Value, key: &str) -> Result<&'a Value, Fault>
-    ensures { Shows (λ v. view v.now) result (only_of key.now (view value.now)) }
-{
-    field(object(value, &[key])?, key)
 }
 
 /// The function that stands under its name in an object of one key.

@@ -7,6 +7,7 @@ mod document;
 mod exprs;
 mod fault;
 mod functions;
+mod joins;
 mod members;
 mod nodes;
 mod optional;

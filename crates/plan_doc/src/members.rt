@@ -3,7 +3,7 @@ ghost use Rattle.std.specs.Prelude.{◌≡◌, map};
 ghost use Rattle.serde_json.specs.Find.{get, as_null};
 ghost use Rattle.serde_json.specs.View.{view};
 ghost use Rattle.plan_doc.specs.Gives.{Gives, Shows};
-ghost use Rattle.plan_doc.specs.Members.{object_of, at, count_of, has_keys as has_keys_of};
+ghost use Rattle.plan_doc.specs.Members.{object_of, at, only_of, count_of, has_keys as has_keys_of};
 ghost use Rattle.plan_doc.specs.Parts.{number_of, link_of, links_of, truth_of, integer_of, truths_of, name_of, names_of, columns_of, output_of, outputs_of, options_of};
 
 use crate::fault::Fault;
@@ -56,6 +56,14 @@ pub fn field<'a>(value: &'a Value, key: &str) -> Result<&'a Value, Fault>
     ensures { Shows (λ v. view v.now) result (get key.now (view value.now)) }
 {
     value.get(key).ok_or(Fault::Form)
+}
+
+/// The value under the one key of an object; `Form` where the value is no object, or has another key.
+#[tactic(auto, unfolding(crate::specs::Members::only_of))]
+pub fn only<'a>(value: &'a Value, key: &str) -> Result<&'a Value, Fault>
+    ensures { Shows (λ v. view v.now) result (only_of key.now (view value.now)) }
+{
+    field(object(value, &[key])?, key)
 }
 
 /// The number of a node or an expression under a key; whether such an entry is there isn't asked.

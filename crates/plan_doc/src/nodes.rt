@@ -3,10 +3,12 @@ ghost use Rattle.std.specs.Prelude.{◌≡◌};
 ghost use Rattle.serde_json.specs.View.{view};
 ghost use Rattle.plan_doc.specs.Gives.{Gives, Shows};
 ghost use Rattle.plan_doc.specs.Members.{object_of};
-ghost use Rattle.plan_doc.specs.Nodes.{slice_node_of, filter_of, simple_projection_of, made_keys, made_of, select_of, hstack_of, sort_keys, sort_options_of, sort_of, group_by_keys, grouped_of, group_by_of, keep_of, distinct_keys, distinct_options_of, distinct_of, map_function_of, sink_of, union_keys, union_options_of, union_of, hconcat_of, cache_of, invalid_of, node_of};
+ghost use Rattle.plan_doc.specs.Nodes.{slice_node_of, filter_of, simple_projection_of, made_keys, made_of, select_of, hstack_of, sort_keys, sort_options_of, sort_of, group_by_keys, grouped_of, group_by_of, keep_of, distinct_keys, distinct_options_of, distinct_of, map_function_of, sink_of, union_keys, union_options_of, union_of, hconcat_of, cache_of, invalid_of, node_of, built_node_of};
 
+use crate::built::built_for;
 use crate::fault::Fault;
 use crate::functions::frame_function;
+use crate::joins::join;
 use crate::members::{
     columns_at, field, integer_at, link_at, links_at, number_at, object, options_at, output_at,
     outputs_at, truth_at, truths_at,
@@ -14,7 +16,7 @@ use crate::members::{
 use crate::optional::{optional_names_at, optional_slice_at};
 use crate::parts::text;
 use crate::scans::{frame_scan, scan};
-use plan_core::{Items, ProjectionOptions, Schema};
+use plan_core::{Items, OptFlags, ProjectionOptions, Schema};
 use plan_expr::ExprIR;
 use plan_ir::IR;
 use plan_options::{
@@ -383,7 +385,7 @@ fn invalid(value: &Value) -> Result<IR, Fault>
 
 /// The node of an entry, by its `op`.
 #[tactic(auto, unfolding(crate::specs::Nodes::node_of))]
-pub fn node(alloc: Global, value: &Value) -> Result<IR, Fault>
+fn node(alloc: Global, value: &Value) -> Result<IR, Fault>
     ensures { Gives result (node_of (view value.now)) }
 {
     match text(field(value, "op")?)? {
@@ -396,6 +398,7 @@ pub fn node(alloc: Global, value: &Value) -> Result<IR, Fault>
         "HStack" => hstack(alloc, value),
         "Sort" => sort(alloc, value),
         "GroupBy" => group_by(alloc, value),
+        "Join" => join(alloc, value),
         "Distinct" => distinct(alloc, value),
         "MapFunction" => map_function(alloc, value),
         "Sink" => sink(value),
@@ -405,4 +408,13 @@ pub fn node(alloc: Global, value: &Value) -> Result<IR, Fault>
         "Invalid" => invalid(value),
         _ => Err(Fault::Form),
     }
+}
+
+/// The node of an entry, where each pass that the flags start is built for it; else `Form`.
+#[tactic(auto, unfolding(crate::specs::Nodes::built_node_of))]
+pub fn built_node(alloc: Global, flags: OptFlags, value: &Value) -> Result<IR, Fault>
+    ensures { Gives result (built_node_of flags (view value.now)) }
+{
+    let node = node(alloc, value)?;
+    built_for(flags, node)
 }

@@ -102,7 +102,7 @@ pub fn entries(value: &Value) -> Result<&[Value], Fault>
 
 /// The entries of an array of two.
 #[tactic(auto, unfolding(crate::specs::Parts::two_of))]
-fn two(value: &Value) -> Result<(&Value, &Value), Fault>
+pub fn two(value: &Value) -> Result<(&Value, &Value), Fault>
     ensures { Shows (λ p. (view p.0.now, view p.1.now)) result (two_of (view value.now)) }
 {
     match entries(value)? {

@@ -12,6 +12,8 @@ mod further;
 #[cfg(test)]
 mod groups;
 #[cfg(test)]
+mod joins;
+#[cfg(test)]
 mod nodes;
 pub mod several;
 #[cfg(test)]

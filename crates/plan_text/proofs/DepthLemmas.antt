@@ -21,12 +21,17 @@ use Rattle.plan_ir.specs.declared.scan.FileInfo.{FileInfo}
 use Rattle.plan_ir.specs.declared.scan.FileScan.{FileScan}
 use Rattle.plan_ir.specs.declared.scan.ScanSources.{ScanSources}
 use Rattle.plan_ir.specs.declared.scan.ScanSources.TheVariants as sources
+use Rattle.plan_join.specs.declared.options.JoinOptions.{JoinOptions}
+use Rattle.plan_join.specs.declared.options.JoinTypeOptionsIR.{JoinTypeOptionsIR}
+use Rattle.plan_join.specs.declared.options.JoinTypeOptionsIR.TheVariants as told
 use Rattle.plan_options.specs.declared.distinct.DistinctOptionsIR.{DistinctOptionsIR}
 use Rattle.plan_options.specs.declared.group.GroupbyOptions.{GroupbyOptions}
+use Rattle.plan_options.specs.declared.join.IEJoinOptions.{IEJoinOptions}
+use Rattle.plan_options.specs.declared.join.InequalityOperator.{InequalityOperator}
 use Rattle.plan_options.specs.declared.sort.SortMultipleOptions.{SortMultipleOptions}
 use Rattle.plan_options.specs.declared.union.HConcatOptions.{HConcatOptions}
 use Rattle.plan_options.specs.declared.union.UnionOptions.{UnionOptions}
-use Rattle.plan_text.specs.Written.{link_data, list_data, nullable_data, number_data, field_data, columns_data, names_data, truths_data, output_data, outputs_data, options_data, slice_data, row_index_data, sources_data, literal_data, expr_data, slice_node_data, scan_data, frame_scan_data, made_data, sort_data, group_by_data, distinct_data, rename_data, numbering_data, unpivot_data, explode_data, frame_function_data, map_function_data, union_data, hconcat_data, cache_data, node_data, plan_data}
+use Rattle.plan_text.specs.Written.{link_data, list_data, nullable_data, number_data, field_data, columns_data, names_data, truths_data, output_data, outputs_data, options_data, slice_data, row_index_data, sources_data, literal_data, expr_data, slice_node_data, scan_data, frame_scan_data, made_data, sort_data, group_by_data, second_items, inequalities_data, kind_options_data, join_data, distinct_data, rename_data, numbering_data, unpivot_data, explode_data, frame_function_data, map_function_data, union_data, hconcat_data, cache_data, node_data, plan_data}
 
 both : (a b k : ℕ) → a ≤ k → b ≤ k → max a b ≤ k
 both a b k p q = omega arith
@@ -119,6 +124,30 @@ group_by_deep input keys aggs schema maintain_order options =
     let named = outputs_deep keys in
     let all = columns_deep schema in
     let some = nullable_deep slice_data 1 options.slice (λ r. omega arith) in
+    omega arith
+
+second_deep : (o : Option InequalityOperator) → items_depth (second_items o) ≤ 0
+second_deep None = omega arith
+second_deep (Some op) = omega arith
+
+inequalities_deep : (o : IEJoinOptions) → depth (inequalities_data o) ≤ 1
+unfolding inequalities_data
+inequalities_deep o = let more = second_deep o.operator2 in omega arith
+
+kind_options_deep : (k : JoinTypeOptionsIR) → depth (kind_options_data k) ≤ 3
+unfolding kind_options_data
+kind_options_deep (told.IEJoin o) = let meet = inequalities_deep o in omega arith
+kind_options_deep (told.Cross predicate) = let meets = output_deep predicate in omega arith
+
+join_deep : (left right : Node) (schema : Columns) (left_on right_on : List ExprIR) (options : JoinOptions) → depth (join_data left right schema left_on right_on options) ≤ 4
+unfolding join_data
+join_deep left right schema left_on right_on options =
+    let lefts = outputs_deep left_on in
+    let told = nullable_deep kind_options_data 3 options.options kind_options_deep in
+    let rights = outputs_deep right_on in
+    let all = columns_deep schema in
+    let some = nullable_deep slice_data 1 options.args.slice (λ r. omega arith) in
+    let suffix = nullable_deep string 0 options.args.suffix (λ n. flat (string n) 0 refl) in
     omega arith
 
 distinct_deep : (input : Node) (options : DistinctOptionsIR) → depth (distinct_data input options) ≤ 4
@@ -215,6 +244,7 @@ node_deep (nodes.Select input expr schema options) = made_deep _ input expr sche
 node_deep (nodes.HStack input exprs schema options) = made_deep _ input exprs schema options
 node_deep (nodes.Sort input keys slice options) = sort_deep input keys slice options
 node_deep (nodes.GroupBy input keys aggs schema maintain_order options) = group_by_deep input keys aggs schema maintain_order options
+node_deep (nodes.Join left right schema left_on right_on options) = join_deep left right schema left_on right_on options
 node_deep (nodes.Distinct input options) = distinct_deep input options
 node_deep (nodes.MapFunction input function) = map_function_deep input function
 node_deep (nodes.Sink input payload) = omega arith

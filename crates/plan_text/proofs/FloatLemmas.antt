@@ -1,7 +1,7 @@
 -- No plan, listing or error has a float, so its text is known.
 use Rattle.std.proofs.Common.{◌≡◌, ℕ, ℤ, pos, negsuc, Bool, List, [], ◌∷◌, false, Option, Some, None, refl}
 use Rattle.serde_json.specs.Data.{Data, boolean, string}
-use Rattle.serde_json.specs.Written.{has_float}
+use Rattle.serde_json.specs.Written.{has_float, items_have_float}
 use Rattle.plan_core.specs.Columns.{Columns}
 use Rattle.plan_core.specs.declared.arena.Node.{Node}
 use Rattle.plan_core.specs.declared.error.PolarsError.{PolarsError}
@@ -21,13 +21,18 @@ use Rattle.plan_ir.specs.declared.scan.FileInfo.{FileInfo}
 use Rattle.plan_ir.specs.declared.scan.FileScan.{FileScan}
 use Rattle.plan_ir.specs.declared.scan.ScanSources.{ScanSources}
 use Rattle.plan_ir.specs.declared.scan.ScanSources.TheVariants as sources
+use Rattle.plan_join.specs.declared.options.JoinOptions.{JoinOptions}
+use Rattle.plan_join.specs.declared.options.JoinTypeOptionsIR.{JoinTypeOptionsIR}
+use Rattle.plan_join.specs.declared.options.JoinTypeOptionsIR.TheVariants as told
 use Rattle.plan_options.specs.declared.distinct.DistinctOptionsIR.{DistinctOptionsIR}
 use Rattle.plan_options.specs.declared.group.GroupbyOptions.{GroupbyOptions}
+use Rattle.plan_options.specs.declared.join.IEJoinOptions.{IEJoinOptions}
+use Rattle.plan_options.specs.declared.join.InequalityOperator.{InequalityOperator}
 use Rattle.plan_options.specs.declared.sort.SortMultipleOptions.{SortMultipleOptions}
 use Rattle.plan_options.specs.declared.union.HConcatOptions.{HConcatOptions}
 use Rattle.plan_options.specs.declared.union.UnionOptions.{UnionOptions}
 use Rattle.plan_text.specs.Kinds.{place_of}
-use Rattle.plan_text.specs.Written.{link_data, integer_data, number_data, list_data, nullable_data, field_data, columns_data, names_data, truths_data, output_data, outputs_data, options_data, slice_data, row_index_data, sources_data, literal_data, expr_data, slice_node_data, scan_data, frame_scan_data, made_data, sort_data, group_by_data, distinct_data, rename_data, numbering_data, unpivot_data, explode_data, frame_function_data, map_function_data, union_data, hconcat_data, cache_data, node_data, plan_data, fault_data}
+use Rattle.plan_text.specs.Written.{link_data, integer_data, number_data, list_data, nullable_data, field_data, columns_data, names_data, truths_data, output_data, outputs_data, options_data, slice_data, row_index_data, sources_data, literal_data, expr_data, slice_node_data, scan_data, frame_scan_data, made_data, sort_data, group_by_data, second_items, inequalities_data, kind_options_data, join_data, distinct_data, rename_data, numbering_data, unpivot_data, explode_data, frame_function_data, map_function_data, union_data, hconcat_data, cache_data, node_data, plan_data, fault_data}
 
 -- the value has no float
 abbrev IsPlain : Data → Type 0
@@ -130,6 +135,31 @@ unfolding group_by_data
 group_by_plain input keys aggs schema maintain_order options =
     rw (outputs_plain aggs, outputs_plain keys, columns_plain schema, nullable_plain slice_data options.slice slice_plain) refl
 
+second_plain : (o : Option InequalityOperator) → items_have_float (second_items o) ≡ false
+second_plain None = refl
+second_plain (Some op) = refl
+
+inequalities_plain : (o : IEJoinOptions) → IsPlain (inequalities_data o)
+unfolding inequalities_data
+inequalities_plain o = second_plain o.operator2
+
+kind_options_plain : (k : JoinTypeOptionsIR) → IsPlain (kind_options_data k)
+unfolding kind_options_data
+kind_options_plain (told.IEJoin o) = rw (inequalities_plain o) refl
+kind_options_plain (told.Cross predicate) = rw (output_plain predicate) refl
+
+join_plain : (left right : Node) (schema : Columns) (left_on right_on : List ExprIR) (options : JoinOptions) → IsPlain (join_data left right schema left_on right_on options)
+unfolding join_data
+join_plain left right schema left_on right_on options =
+    rw (
+      outputs_plain left_on,
+      nullable_plain kind_options_data options.options kind_options_plain,
+      outputs_plain right_on,
+      columns_plain schema,
+      nullable_plain slice_data options.args.slice slice_plain,
+      nullable_plain string options.args.suffix (λ n. refl),
+    ) refl
+
 distinct_plain : (input : Node) (options : DistinctOptionsIR) → IsPlain (distinct_data input options)
 unfolding distinct_data
 distinct_plain input options = rw (nullable_plain slice_data options.slice slice_plain, nullable_plain names_data options.subset names_plain) refl
@@ -184,6 +214,7 @@ node_plain (nodes.Select input expr schema options) = made_plain _ input expr sc
 node_plain (nodes.HStack input exprs schema options) = made_plain _ input exprs schema options
 node_plain (nodes.Sort input keys slice options) = sort_plain input keys slice options
 node_plain (nodes.GroupBy input keys aggs schema maintain_order options) = group_by_plain input keys aggs schema maintain_order options
+node_plain (nodes.Join left right schema left_on right_on options) = join_plain left right schema left_on right_on options
 node_plain (nodes.Distinct input options) = distinct_plain input options
 node_plain (nodes.MapFunction input function) = map_function_plain input function
 node_plain (nodes.Sink input payload) = refl

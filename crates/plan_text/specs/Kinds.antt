@@ -1,4 +1,4 @@
--- The texts of types, operators, aggregates, functions, formats of files, rows that are kept, and errors.
+-- The texts of types, operators, aggregates, functions, formats of files, rows that are kept, kinds and parts of joins, and errors.
 use Rattle.std.specs.Prelude.{ℕ, List, None, true, false, codes}
 use Rattle.plan_core.specs.declared.data_type.DataType.{DataType}
 use Rattle.plan_core.specs.declared.data_type.DataType.TheVariants as types
@@ -19,6 +19,14 @@ use Rattle.plan_ir.specs.declared.scan.FileScan.{FileScan}
 use Rattle.plan_ir.specs.declared.scan.FileScan.TheVariants as files
 use Rattle.plan_options.specs.declared.distinct.UniqueKeepStrategy.{UniqueKeepStrategy}
 use Rattle.plan_options.specs.declared.distinct.UniqueKeepStrategy.TheVariants as keeps
+use Rattle.plan_options.specs.declared.join.InequalityOperator.{InequalityOperator}
+use Rattle.plan_options.specs.declared.join.InequalityOperator.TheVariants as inequalities
+use Rattle.plan_options.specs.declared.join.JoinCoalesce.{JoinCoalesce}
+use Rattle.plan_options.specs.declared.join.JoinCoalesce.TheVariants as coalesces
+use Rattle.plan_options.specs.declared.join.JoinType.{JoinType}
+use Rattle.plan_options.specs.declared.join.JoinType.TheVariants as joins
+use Rattle.plan_options.specs.declared.join.MaintainOrderJoin.{MaintainOrderJoin}
+use Rattle.plan_options.specs.declared.join.MaintainOrderJoin.TheVariants as orders
 
 -- the name of a type of lists
 abbrev pub list_text : PlainType → List ℕ
@@ -94,6 +102,38 @@ keep_text keeps.First = codes "First"
 keep_text keeps.Last = codes "Last"
 keep_text keeps.None = codes "None"
 keep_text keeps.Any = codes "Any"
+
+-- the name of which pairs of rows a join gives
+abbrev pub how_text : JoinType → List ℕ
+how_text joins.Inner = codes "Inner"
+how_text joins.Left = codes "Left"
+how_text joins.Right = codes "Right"
+how_text joins.Full = codes "Full"
+how_text joins.Cross = codes "Cross"
+how_text joins.Semi = codes "Semi"
+how_text joins.Anti = codes "Anti"
+how_text joins.IEJoin = codes "IEJoin"
+
+-- the name of whether pairs of key columns are put out as one
+abbrev pub coalesce_text : JoinCoalesce → List ℕ
+coalesce_text coalesces.JoinSpecific = codes "JoinSpecific"
+coalesce_text coalesces.CoalesceColumns = codes "CoalesceColumns"
+coalesce_text coalesces.KeepColumns = codes "KeepColumns"
+
+-- the name of which order of its inputs a join keeps
+abbrev pub order_text : MaintainOrderJoin → List ℕ
+order_text orders.None = codes "None"
+order_text orders.Left = codes "Left"
+order_text orders.Right = codes "Right"
+order_text orders.LeftRight = codes "LeftRight"
+order_text orders.RightLeft = codes "RightLeft"
+
+-- the name of an inequality
+abbrev pub inequality_text : InequalityOperator → List ℕ
+inequality_text inequalities.Lt = codes "Lt"
+inequality_text inequalities.LtEq = codes "LtEq"
+inequality_text inequalities.Gt = codes "Gt"
+inequality_text inequalities.GtEq = codes "GtEq"
 
 -- the name of an error's kind
 abbrev pub fault_text : PolarsError → List ℕ

@@ -5,12 +5,13 @@ use Rattle.serde_json.specs.Data.{Data, null, boolean, string, object}
 use Rattle.plan_text.specs.declared.pieces.Piece.{Piece}
 use Rattle.plan_text.specs.declared.pieces.Piece.TheVariants as pieces
 use Rattle.plan_text.specs.Lists.{are_ascending, members_from}
-use Rattle.plan_text.specs.Written.{columns_data, frame_function_data, integer_data, link_data, list_data, names_data, number_data, options_data, output_data, outputs_data, paths_data, row_index_data, slice_data, truths_data}
+use Rattle.plan_text.specs.Written.{columns_data, frame_function_data, integer_data, kind_options_data, link_data, list_data, names_data, number_data, options_data, output_data, outputs_data, paths_data, row_index_data, slice_data, truths_data, two_data}
 
 -- the value that a piece tells
 abbrev pub piece_data : Piece → Data
 piece_data pieces.Null = null
 piece_data (pieces.Boolean b) = boolean b
+piece_data (pieces.BooleanPair a b) = two_data (boolean a) (boolean b)
 piece_data (pieces.Booleans bs) = truths_data bs.now
 piece_data (pieces.Number n) = number_data n
 piece_data (pieces.Integer z) = integer_data z
@@ -23,6 +24,7 @@ piece_data (pieces.Output e) = output_data e.now
 piece_data (pieces.Outputs es) = outputs_data es.now
 piece_data (pieces.Options o) = options_data o
 piece_data (pieces.Function f) = frame_function_data f.now
+piece_data (pieces.KindOptions k) = kind_options_data k.now
 piece_data (pieces.RowIndex r) = row_index_data r.now
 piece_data (pieces.Slice z n) = slice_data (z, n)
 

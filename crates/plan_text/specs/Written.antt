@@ -1,7 +1,7 @@
 -- The JSON values of plans, listings, errors and schemas, and their texts: members in the byte order of their keys.
 use Rattle.std.specs.Prelude.{ℕ, ℤ, Bool, List, [], ◌∷◌, ◌++◌, map, Option, Some, None, codes}
 use Rattle.serde_json.specs.Data as json
-use Rattle.serde_json.specs.Data.{Data, unsigned, number, boolean, string, array, object, no_items, item, no_members, member}
+use Rattle.serde_json.specs.Data.{Data, Items, unsigned, number, boolean, string, array, object, no_items, item, no_members, member}
 use Rattle.serde_json.specs.Find.{of_integer}
 use Rattle.serde_json.specs.View.{items_of}
 use Rattle.serde_json.specs.Written.{compact_text}
@@ -29,8 +29,13 @@ use Rattle.plan_ir.specs.declared.scan.FileInfo.{FileInfo}
 use Rattle.plan_ir.specs.declared.scan.FileScan.{FileScan}
 use Rattle.plan_ir.specs.declared.scan.ScanSources.{ScanSources}
 use Rattle.plan_ir.specs.declared.scan.ScanSources.TheVariants as sources
+use Rattle.plan_join.specs.declared.options.JoinOptions.{JoinOptions}
+use Rattle.plan_join.specs.declared.options.JoinTypeOptionsIR.{JoinTypeOptionsIR}
+use Rattle.plan_join.specs.declared.options.JoinTypeOptionsIR.TheVariants as told
 use Rattle.plan_options.specs.declared.distinct.DistinctOptionsIR.{DistinctOptionsIR}
 use Rattle.plan_options.specs.declared.group.GroupbyOptions.{GroupbyOptions}
+use Rattle.plan_options.specs.declared.join.IEJoinOptions.{IEJoinOptions}
+use Rattle.plan_options.specs.declared.join.InequalityOperator.{InequalityOperator}
 use Rattle.plan_options.specs.declared.sort.SortMultipleOptions.{SortMultipleOptions}
 use Rattle.plan_options.specs.declared.union.HConcatOptions.{HConcatOptions}
 use Rattle.plan_options.specs.declared.union.UnionOptions.{UnionOptions}
@@ -40,7 +45,7 @@ use Rattle.plan_table.specs.declared.value.AnyValue.{AnyValue}
 use Rattle.plan_table.specs.declared.value.AnyValue.TheVariants as values
 use Rattle.plan_table.specs.declared.value.PlainValue.{PlainValue}
 use Rattle.plan_table.specs.declared.value.PlainValue.TheVariants as singles
-use Rattle.plan_text.specs.Kinds.{type_text, literal_text, operator_text, agg_text, function_text, format_text, keep_text, fault_text, place_of}
+use Rattle.plan_text.specs.Kinds.{type_text, literal_text, operator_text, agg_text, function_text, format_text, keep_text, how_text, coalesce_text, order_text, inequality_text, fault_text, place_of}
 
 -- the number of a node or of an expression
 abbrev pub link_data : Node → Data
@@ -208,6 +213,42 @@ group_by_data input keys aggs schema maintain_order options = object (
     member (codes "schema") (columns_data schema) (
     member (codes "slice") (nullable_data slice_data options.slice) no_members)))))))
 
+-- the object of one key
+abbrev pub only_data : List ℕ → Data → Data
+only_data k d = object (member k d no_members)
+
+-- after the first of an array one inequality more, or none
+abbrev pub second_items : Option InequalityOperator → Items
+second_items None = no_items
+second_items (Some op) = item (string (inequality_text op)) no_items
+
+-- the inequalities that keys meet, one for each pair
+unfoldable pub inequalities_data : IEJoinOptions → Data
+inequalities_data o = array (item (string (inequality_text o.operator1)) (second_items o.operator2))
+
+-- what only some kinds of joins are told, under its name
+unfoldable pub kind_options_data : JoinTypeOptionsIR → Data
+kind_options_data (told.IEJoin o) = only_data (codes "ie") (inequalities_data o)
+kind_options_data (told.Cross predicate) = only_data (codes "cross") (output_data predicate)
+
+-- rows of two inputs that match, side by side
+unfoldable pub join_data : Node → Node → Columns → List ExprIR → List ExprIR → JoinOptions → Data
+join_data left right schema left_on right_on options = object (
+    member (codes "coalesce") (string (coalesce_text options.args.coalesce)) (
+    member (codes "how") (string (how_text options.args.how)) (
+    member (codes "join_nulls") (boolean options.args.join_nulls) (
+    member (codes "left") (link_data left) (
+    member (codes "left_on") (outputs_data left_on) (
+    member (codes "maintain_order") (string (order_text options.args.maintain_order)) (
+    member (codes "op") (string (codes "Join")) (
+    member (codes "options") (nullable_data kind_options_data options.options) (
+    member (codes "parallel") (two_data (boolean options.allow_parallel) (boolean options.force_parallel)) (
+    member (codes "right") (link_data right) (
+    member (codes "right_on") (outputs_data right_on) (
+    member (codes "schema") (columns_data schema) (
+    member (codes "slice") (nullable_data slice_data options.args.slice) (
+    member (codes "suffix") (nullable_data string options.args.suffix) no_members))))))))))))))
+
 -- of the rows that are the same in some columns one, or those that are alone
 unfoldable pub distinct_data : Node → DistinctOptionsIR → Data
 distinct_data input options = object (
@@ -242,10 +283,6 @@ unpivot_data args = object (
 -- lists taken apart
 unfoldable pub explode_data : List (List ℕ) → Data
 explode_data columns = object (member (codes "columns") (names_data columns) no_members)
-
--- the object of one key
-abbrev pub only_data : List ℕ → Data → Data
-only_data k d = object (member k d no_members)
 
 -- a function of whole frames, under its name
 unfoldable pub frame_function_data : FunctionIR → Data
@@ -299,6 +336,7 @@ node_data (nodes.Select input expr schema options) = made_data (codes "Select") 
 node_data (nodes.HStack input exprs schema options) = made_data (codes "HStack") input exprs schema options
 node_data (nodes.Sort input keys slice options) = sort_data input keys slice options
 node_data (nodes.GroupBy input keys aggs schema maintain_order options) = group_by_data input keys aggs schema maintain_order options
+node_data (nodes.Join left right schema left_on right_on options) = join_data left right schema left_on right_on options
 node_data (nodes.Distinct input options) = distinct_data input options
 node_data (nodes.MapFunction input function) = map_function_data input function
 node_data (nodes.Sink input payload) = object (member (codes "input") (link_data input) (member (codes "op") (string (codes "Sink")) no_members))

@@ -1,11 +1,14 @@
-//! The names of types, operators, aggregates, functions, formats of files, rows that are kept, and errors.
+//! The names of types, operators, aggregates, functions, formats of files, rows that are kept, kinds and parts of joins, and
+//! errors.
 ghost use Rattle.std.specs.Prelude.{◌≡◌};
-ghost use Rattle.plan_text.specs.Kinds.{list_text, type_text, plain_text, literal_text, operator_text, agg_text, function_text, format_text, keep_text, fault_text, place_of};
+ghost use Rattle.plan_text.specs.Kinds.{list_text, type_text, plain_text, literal_text, operator_text, agg_text, function_text, format_text, keep_text, how_text, coalesce_text, order_text, inequality_text, fault_text, place_of};
 
 use plan_core::{At, DataType, PlainType, PolarsError};
 use plan_expr::{FunctionExpr, IRAggExpr, LiteralValue, Operator};
 use plan_ir::FileScan;
-use plan_options::UniqueKeepStrategy;
+use plan_options::{
+    InequalityOperator, JoinCoalesce, JoinType, MaintainOrderJoin, UniqueKeepStrategy,
+};
 
 /// The name of a type of lists in a document: `List(Int64)`, `List(String)` or `List(Boolean)`.
 fn list_name(plain: PlainType) -> &'static str
@@ -124,6 +127,58 @@ pub fn keep_name(keep: UniqueKeepStrategy) -> &'static str
         UniqueKeepStrategy::Last => "Last",
         UniqueKeepStrategy::None => "None",
         UniqueKeepStrategy::Any => "Any",
+    }
+}
+
+/// The name of which pairs of rows a join gives in a document: the `how` of a join.
+pub fn how_name(how: JoinType) -> &'static str
+    ensures { result.now ≡ how_text how }
+{
+    match how {
+        JoinType::Inner => "Inner",
+        JoinType::Left => "Left",
+        JoinType::Right => "Right",
+        JoinType::Full => "Full",
+        JoinType::Cross => "Cross",
+        JoinType::Semi => "Semi",
+        JoinType::Anti => "Anti",
+        JoinType::IEJoin => "IEJoin",
+    }
+}
+
+/// The name of whether pairs of key columns are put out as one: the `coalesce` of a join.
+pub fn coalesce_name(coalesce: JoinCoalesce) -> &'static str
+    ensures { result.now ≡ coalesce_text coalesce }
+{
+    match coalesce {
+        JoinCoalesce::JoinSpecific => "JoinSpecific",
+        JoinCoalesce::CoalesceColumns => "CoalesceColumns",
+        JoinCoalesce::KeepColumns => "KeepColumns",
+    }
+}
+
+/// The name of which order of its inputs a join keeps: the `maintain_order` of a join.
+pub fn order_name(order: MaintainOrderJoin) -> &'static str
+    ensures { result.now ≡ order_text order }
+{
+    match order {
+        MaintainOrderJoin::None => "None",
+        MaintainOrderJoin::Left => "Left",
+        MaintainOrderJoin::Right => "Right",
+        MaintainOrderJoin::LeftRight => "LeftRight",
+        MaintainOrderJoin::RightLeft => "RightLeft",
+    }
+}
+
+/// The name of an inequality in a document, as `GtEq`.
+pub fn inequality_name(inequality: InequalityOperator) -> &'static str
+    ensures { result.now ≡ inequality_text inequality }
+{
+    match inequality {
+        InequalityOperator::Lt => "Lt",
+        InequalityOperator::LtEq => "LtEq",
+        InequalityOperator::Gt => "Gt",
+        InequalityOperator::GtEq => "GtEq",
     }
 }
 

@@ -3,6 +3,7 @@
 
 mod exprs;
 mod functions;
+mod joins;
 mod kinds;
 mod listing;
 mod lists;

@@ -4,6 +4,7 @@ ghost use Rattle.plan_ir.specs.declared.ir.IR.TheVariants.{Filter, SimpleProject
 ghost use Rattle.plan_text.specs.Pieces.{Tells};
 ghost use Rattle.plan_text.specs.Written.{cache_data, distinct_data, frame_scan_data, group_by_data, hconcat_data, made_data, map_function_data, node_data, scan_data, slice_node_data, sort_data, union_data};
 
+use crate::joins::join;
 use crate::kinds::{format_name, keep_name};
 use crate::pieces::{
     Piece, optional_columns, optional_name, optional_names, optional_number, optional_output,
@@ -287,6 +288,8 @@ pub fn node_entries(alloc: Global, node: &IR) -> Result<Entries<'_>, AllocError>
             sort(alloc, *input, by_column, *slice, sort_options),
         IR::GroupBy { input, keys, aggs, schema, maintain_order, options } =>
             group_by(alloc, *input, keys, aggs, schema, *maintain_order, *options),
+        IR::Join { input_left, input_right, schema, left_on, right_on, options } =>
+            join(alloc, *input_left, *input_right, schema, left_on, right_on, options),
         IR::Distinct { input, options } => distinct(alloc, *input, options),
         IR::MapFunction { input, function } => map_function(alloc, *input, function),
         IR::Sink { input, .. } =>

@@ -7,6 +7,7 @@ ghost use Rattle.plan_text.specs.Written.{columns_data, names_data, nullable_dat
 use plan_core::{Items, Node, PlSmallStr, ProjectionOptions, RowIndex, Schema};
 use plan_expr::ExprIR;
 use plan_ir::{FunctionIR, ScanSources};
+use plan_join::JoinTypeOptionsIR;
 
 /// A value that is to be written.
 #[derive(Drop)]
@@ -15,6 +16,8 @@ pub enum Piece<'a> {
     Null,
     /// A truth value.
     Boolean(bool),
+    /// The array of two truth values.
+    BooleanPair(bool, bool),
     /// The array of truth values.
     Booleans(&'a [bool]),
     /// A number from 0 on.
@@ -39,6 +42,8 @@ pub enum Piece<'a> {
     Options(ProjectionOptions),
     /// The object of a function of whole frames, under its name.
     Function(&'a FunctionIR),
+    /// The object of what only some kinds of joins are told.
+    KindOptions(&'a JoinTypeOptionsIR),
     /// The name of the column that numbers the rows, and the number of the first row.
     RowIndex(&'a RowIndex),
     /// The first row, and how many rows.

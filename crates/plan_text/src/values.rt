@@ -6,6 +6,7 @@ ghost use Rattle.plan_text.specs.Pieces.{object_of, piece_data, piece_key};
 ghost use Rattle.plan_text.specs.Written.{columns_data, field_data, link_data, list_data, names_data, options_data, output_data, outputs_data, truths_data};
 
 use crate::functions::frame_function;
+use crate::joins::kind_options;
 use crate::kinds::type_name;
 use crate::lists::each;
 use crate::nodes::Entries;
@@ -62,7 +63,7 @@ fn links(alloc: Global, nodes: &[Node]) -> Result<Value, AllocError>
 
 /// The array of three that an output expression is: its number, where its name comes from, and its name.
 #[tactic(auto, unfolding(crate::specs::Written::output_data))]
-fn output(alloc: Global, expr: &ExprIR) -> Result<Value, AllocError>
+pub fn output(alloc: Global, expr: &ExprIR) -> Result<Value, AllocError>
     ensures { IfOk result (λ v. view v ≡ output_data expr.now) }
 {
     let name = &expr.output_name;
@@ -94,6 +95,7 @@ fn value(alloc: Global, piece: &Piece<'_>) -> Result<Value, AllocError>
     match piece {
         Piece::Null => Ok(Value::Null),
         Piece::Boolean(truth) => Ok(Value::Bool(*truth)),
+        Piece::BooleanPair(first, second) => json!(in alloc; [*first, *second]),
         Piece::Booleans(given) => truths(alloc, given),
         Piece::Number(number) => Ok(Value::from(*number)),
         Piece::Integer(number) => Ok(Value::from(*number)),
@@ -109,6 +111,7 @@ fn value(alloc: Global, piece: &Piece<'_>) -> Result<Value, AllocError>
         Piece::Outputs(exprs) => outputs(alloc, exprs),
         Piece::Options(given) => options(alloc, *given),
         Piece::Function(function) => frame_function(alloc, function),
+        Piece::KindOptions(given) => kind_options(alloc, given),
         Piece::RowIndex(column) => json!(in alloc; [column.name.as_str(), column.offset]),
         Piece::Slice(offset, len) => json!(in alloc; [*offset, *len]),
     }

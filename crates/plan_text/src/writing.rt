@@ -1,11 +1,13 @@
 //! Writers for pieces, and for objects of them: no value is made.
 ghost use Rattle.std.specs.Prelude.{◌≡◌, ◌++◌, OnOk};
 ghost use Rattle.json.specs.Tree.{json_tokens};
+ghost use Rattle.serde_json.specs.Data.{boolean};
 ghost use Rattle.serde_json.specs.Written.{outline};
 ghost use Rattle.plan_text.specs.Pieces.{object_of, piece_data};
-ghost use Rattle.plan_text.specs.Written.{columns_data, field_data, link_data, list_data, names_data, options_data, output_data, outputs_data, paths_data, row_index_data, slice_data, truths_data};
+ghost use Rattle.plan_text.specs.Written.{columns_data, field_data, link_data, list_data, names_data, options_data, output_data, outputs_data, paths_data, row_index_data, slice_data, truths_data, two_data};
 
 use crate::functions::write_frame_function;
+use crate::joins::write_kind_options;
 use crate::kinds::type_name;
 use crate::origins::{name_of, origin};
 use crate::pieces::Piece;
@@ -80,6 +82,18 @@ fn write_truths(writer: &mut Writer, given: &[bool]) -> Result<(), AllocError>
     writer.end_array()
 }
 
+/// Writes the array of two truth values.
+fn write_two(writer: &mut Writer, first: bool, second: bool) -> Result<(), AllocError>
+    ensures tokens { OnOk result (writer.new.tokens
+        ≡ writer.old.tokens ++ json_tokens (outline (two_data (boolean first) (boolean second)))) }
+    ensures before { OnOk result (writer.new.before ≡ writer.old.before) }
+{
+    writer.begin_array()?;
+    writer.boolean(first)?;
+    writer.boolean(second)?;
+    writer.end_array()
+}
+
 /// Writes the array of the numbers of nodes or of expressions.
 #[tactic(auto, unfolding(crate::specs::Written::list_data))]
 fn write_links(writer: &mut Writer, nodes: &[Node]) -> Result<(), AllocError>
@@ -96,7 +110,7 @@ fn write_links(writer: &mut Writer, nodes: &[Node]) -> Result<(), AllocError>
 
 /// Writes the array of three that an output expression is: its number, where its name comes from, and its name.
 #[tactic(auto, unfolding(crate::specs::Written::output_data))]
-fn write_output(writer: &mut Writer, expr: &ExprIR) -> Result<(), AllocError>
+pub fn write_output(writer: &mut Writer, expr: &ExprIR) -> Result<(), AllocError>
     ensures tokens { OnOk result (writer.new.tokens
         ≡ writer.old.tokens ++ json_tokens (outline (output_data expr.now))) }
     ensures before { OnOk result (writer.new.before ≡ writer.old.before) }
@@ -170,6 +184,7 @@ fn write_piece(writer: &mut Writer, piece: &Piece<'_>) -> Result<(), AllocError>
     match piece {
         Piece::Null => writer.null(),
         Piece::Boolean(truth) => writer.boolean(*truth),
+        Piece::BooleanPair(first, second) => write_two(writer, *first, *second),
         Piece::Booleans(given) => write_truths(writer, given),
         Piece::Number(number) => writer.u64(*number as u64),
         Piece::Integer(number) => writer.i64(*number),
@@ -182,6 +197,7 @@ fn write_piece(writer: &mut Writer, piece: &Piece<'_>) -> Result<(), AllocError>
         Piece::Outputs(exprs) => write_outputs(writer, exprs),
         Piece::Options(given) => write_options(writer, *given),
         Piece::Function(function) => write_frame_function(writer, function),
+        Piece::KindOptions(given) => write_kind_options(writer, given),
         Piece::RowIndex(column) => write_row_index(writer, column),
         Piece::Slice(offset, len) => write_slice(writer, *offset, *len),
     }

@@ -3,6 +3,8 @@
 
 #[cfg(test)]
 mod groups;
+#[cfg(test)]
+mod joins;
 pub mod over;
 #[cfg(test)]
 mod plans;

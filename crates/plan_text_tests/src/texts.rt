@@ -1,6 +1,7 @@
 //! Whole texts, as they must be written.
 
 use crate::groups::grouped_plan;
+use crate::joins::joined_plan;
 use crate::plans::{
     all_kinds, all_operators, full_plan, mapped_plan, more_plan, ordered_plan, simple_plan,
     union_plan,
@@ -35,6 +36,9 @@ const UNIONS: &str =
 
 const GROUPED: &str =
     r#"{"exprs":[],"nodes":[{"aggs":[[2,"col","a"]],"input":1,"keys":[[0,"col","b"],[3,"alias","k"]],"maintain_order":true,"op":"GroupBy","schema":[["b","String"],["k","Int64"],["a","List(Int64)"]],"slice":[-3,4294967295]},{"aggs":[],"input":4,"keys":[],"maintain_order":false,"op":"GroupBy","schema":[],"slice":null},{"inputs":[3,1,3],"op":"HConcat","parallel":true,"schema":[["a","Int64"],["b","List(String)"]]},{"inputs":[],"op":"HConcat","parallel":false,"schema":[]}],"root":0}"#;
+
+const JOINED: &str =
+    r#"{"exprs":[],"nodes":[{"coalesce":"KeepColumns","how":"Full","join_nulls":true,"left":1,"left_on":[[0,"col","k"],[3,"alias","x"]],"maintain_order":"RightLeft","op":"Join","options":null,"parallel":[true,false],"right":5,"right_on":[[2,"lit","literal"],[4,"col","m"]],"schema":[["k","Int64"],["k_r","List(String)"]],"slice":[-3,4294967295],"suffix":"_r"},{"coalesce":"JoinSpecific","how":"Inner","join_nulls":false,"left":3,"left_on":[],"maintain_order":"None","op":"Join","options":null,"parallel":[false,true],"right":2,"right_on":[],"schema":[],"slice":null,"suffix":null},{"coalesce":"CoalesceColumns","how":"Left","join_nulls":false,"left":3,"left_on":[],"maintain_order":"Left","op":"Join","options":null,"parallel":[false,true],"right":2,"right_on":[],"schema":[],"slice":null,"suffix":null},{"coalesce":"KeepColumns","how":"Right","join_nulls":false,"left":3,"left_on":[],"maintain_order":"Right","op":"Join","options":null,"parallel":[false,true],"right":2,"right_on":[],"schema":[],"slice":null,"suffix":null},{"coalesce":"KeepColumns","how":"Semi","join_nulls":false,"left":3,"left_on":[],"maintain_order":"LeftRight","op":"Join","options":null,"parallel":[false,true],"right":2,"right_on":[],"schema":[],"slice":null,"suffix":null},{"coalesce":"KeepColumns","how":"Anti","join_nulls":false,"left":3,"left_on":[],"maintain_order":"LeftRight","op":"Join","options":null,"parallel":[false,true],"right":2,"right_on":[],"schema":[],"slice":null,"suffix":null},{"coalesce":"KeepColumns","how":"Cross","join_nulls":false,"left":3,"left_on":[],"maintain_order":"None","op":"Join","options":{"cross":[7,"col","k"]},"parallel":[false,true],"right":2,"right_on":[],"schema":[],"slice":null,"suffix":null},{"coalesce":"KeepColumns","how":"IEJoin","join_nulls":false,"left":3,"left_on":[],"maintain_order":"None","op":"Join","options":{"ie":["Lt"]},"parallel":[false,true],"right":2,"right_on":[],"schema":[],"slice":null,"suffix":null},{"coalesce":"KeepColumns","how":"IEJoin","join_nulls":false,"left":3,"left_on":[],"maintain_order":"None","op":"Join","options":{"ie":["LtEq","Gt"]},"parallel":[false,true],"right":2,"right_on":[],"schema":[],"slice":null,"suffix":null},{"coalesce":"KeepColumns","how":"IEJoin","join_nulls":false,"left":3,"left_on":[],"maintain_order":"None","op":"Join","options":{"ie":["GtEq","Lt"]},"parallel":[false,true],"right":2,"right_on":[],"schema":[],"slice":null,"suffix":null}],"root":0}"#;
 
 const MAPPED: &str =
     r#"{"exprs":[],"nodes":[{"function":{"Rename":{"existing":["a","b"],"new":["b","c"],"swapping":true}},"input":2,"op":"MapFunction"},{"function":{"Rename":{"existing":[],"new":[],"swapping":false}},"input":2,"op":"MapFunction"},{"function":{"RowIndex":{"name":"i","offset":4294967295}},"input":3,"op":"MapFunction"},{"function":{"RowIndex":{"name":"i","offset":0}},"input":3,"op":"MapFunction"},{"function":{"RowIndex":{"name":"\"é\n","offset":null}},"input":3,"op":"MapFunction"},{"function":{"Unpivot":{"index":["c","a"],"on":["d","b"],"value_name":null,"variable_name":"v"}},"input":6,"op":"MapFunction"},{"function":{"Unpivot":{"index":["c","a"],"on":[],"value_name":"w","variable_name":"v"}},"input":6,"op":"MapFunction"},{"function":{"Explode":{"columns":["b","a"]}},"input":7,"op":"MapFunction"},{"function":{"Explode":{"columns":[]}},"input":7,"op":"MapFunction"}],"root":0}"#;
@@ -96,6 +100,17 @@ fn writes_unions_and_caches(rt: HostRuntime) -> Result<(), AllocError> {
 fn writes_groupings_and_concatenations(rt: HostRuntime) -> Result<(), AllocError> {
     let plan = grouped_plan(rt.alloc())?;
     is_written(&rt, rt.alloc(), &plan, GROUPED)
+}
+
+#[test]
+fn writes_joins(rt: HostRuntime) -> Result<(), AllocError> {
+    let alloc = rt.alloc();
+    let plan = joined_plan(alloc)?;
+    is_written(&rt, alloc, &plan, JOINED)?;
+    let text = write_listing(alloc, &plan, &[], None)?;
+    let wanted = format!(in alloc; "{{\"plan\":{JOINED},\"reads\":[],\"rows\":null}}\n")?;
+    assert_eq!(rt; text.as_str(), wanted.as_str());
+    Ok(())
 }
 
 #[test]
