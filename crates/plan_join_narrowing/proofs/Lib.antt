@@ -1,0 +1,12 @@
+-- The lemmas of this crate.
+mod SideLemmas
+mod JoinNames
+mod JoinColumns
+mod JoinTops
+mod JoinFairness
+mod JoinKept
+mod JoinFrames
+mod JoinRenames
+mod JoinLocal
+mod JoinWhole
+mod JoinNarrows
