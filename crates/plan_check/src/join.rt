@@ -98,6 +98,7 @@ pub fn joined_schema(
     )?;
     check_join_leaves(node, left_on, right_on, options, ex, left, right, &columns)?;
     check_join_types(node, left_on, right_on, options, ex, left, right, &columns)?;
+    // On a side no name comes twice.
     names_differ(left);
     names_differ(right);
     if !differ {

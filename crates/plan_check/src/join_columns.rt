@@ -11,7 +11,7 @@ use plan_join::{left_rest, right_name, right_rest};
 use plan_options::JoinArgs;
 use std::alloc::{AllocError, Global};
 
-/// The names of a schema's columns differ, by the law of schemas.
+/// No name comes twice among the columns of a schema, by the law of schemas. There is nothing to compute.
 pub fn names_differ(schema: &Schema)
     ensures { all_differ (names_of schema.now) ≡ true }
 {

@@ -10,6 +10,8 @@ mod hconcat;
 mod join;
 mod join_columns;
 mod join_form;
+#[cfg(test)]
+mod join_tests;
 mod join_types;
 mod made;
 mod plan;

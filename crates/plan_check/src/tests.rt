@@ -10,7 +10,7 @@ use plan_options::{GroupbyOptions, HConcatOptions};
 use std::alloc::{AllocError, Global};
 use std::test::Fail;
 
-fn text(alloc: Global, name: &str) -> Result<PlSmallStr, AllocError> {
+pub fn text(alloc: Global, name: &str) -> Result<PlSmallStr, AllocError> {
     PlSmallStr::new(alloc, name)
 }
 
@@ -70,7 +70,7 @@ fn exprs(alloc: Global, right: usize) -> Result<Arena<AExpr>, AllocError> {
     Ok(ex)
 }
 
-fn at(node: usize, place: u32) -> At {
+pub fn at(node: usize, place: u32) -> At {
     At {
         node: Some(Node(node)),
         place,

@@ -20,7 +20,7 @@ returns-then-not-is_typed_pair c =
     let place = 1 + length c.args.left_on.now in
     let left = key_here ex c.args.left_on.now c.loop-i.i c.in-Some.key.now c.in-Some.ensures.lookup.3.0 c.in-Some.ensures.lookup.1 in
     let right = key_here ex c.args.right_on.now c.loop-i.i c.index-right_on-i.result c.loop-i-test.true c.index-right_on-i.is in
-    let bad : are_typed c.args.how c.args.left.now c.args.right.now (named_at ex c.in-Some.key.now) (named_at ex c.index-right_on-i.result) ≡ false = sym c.is_typed_pair.ensures ∙ c.if-not-is_typed_pair.true in
+    let bad : are_typed c.args.how c.args.left.now c.args.right.now (named_at ex c.in-Some.key.now) (named_at ex c.index-right_on-i.result) ≡ false = sym {b = are_typed c.args.how c.args.left.now c.args.right.now (named_at ex c.in-Some.key.now) (named_at ex c.index-right_on-i.result)} c.is_typed_pair.ensures ∙ c.if-not-is_typed_pair.true in
     pairs-bad c.args.node c.args.how place c.args.left.now c.args.right.now (all_named_at ex c.args.left_on.now) (all_named_at ex c.args.right_on.now) c.loop-i.i (named_at ex c.in-Some.key.now) (named_at ex c.index-right_on-i.result) c.loop-i.invariant left right bad
     ∙ ap (λ (a : At). Some (SchemaMismatch a)) (sym (c.at.ensures ∙ at-capped c.args.node c.saturating_add.result (place + c.loop-i.i) c.saturating_add.ensures))
 
@@ -34,7 +34,7 @@ loop-i-preserved c =
       | in-Some+else-not-is_typed_pair w ↦
           (let left = key_here ex c.args.left_on.now c.loop-i.i w.in-Some.key.now w.in-Some.ensures.lookup.3.0 w.in-Some.ensures.lookup.1 in
           let right = key_here ex c.args.right_on.now c.loop-i.i c.index-right_on-i.result c.loop-i-test.true c.index-right_on-i.is in
-          let good : are_typed c.args.how c.args.left.now c.args.right.now (named_at ex w.in-Some.key.now) (named_at ex c.index-right_on-i.result) ≡ true = sym w.is_typed_pair.ensures ∙ w.if-not-is_typed_pair.false in
+          let good : are_typed c.args.how c.args.left.now c.args.right.now (named_at ex w.in-Some.key.now) (named_at ex c.index-right_on-i.result) ≡ true = sym {b = are_typed c.args.how c.args.left.now c.args.right.now (named_at ex w.in-Some.key.now) (named_at ex c.index-right_on-i.result)} w.is_typed_pair.ensures ∙ w.if-not-is_typed_pair.false in
           pairs-next c.args.node c.args.how place c.args.left.now c.args.right.now ls rs c.loop-i.i (named_at ex w.in-Some.key.now) (named_at ex c.index-right_on-i.result) c.loop-i.invariant left right good)
       | in_default w ↦ pairs-alone c.args.node c.args.how place c.args.left.now c.args.right.now ls rs c.loop-i.i c.loop-i.invariant (keys_behind ex c.args.left_on.now c.loop-i.i w.in_default.ensures.lookup.3)
     ]
