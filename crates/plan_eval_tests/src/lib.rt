@@ -5,6 +5,8 @@
 #[cfg(test)]
 mod fitting;
 #[cfg(test)]
+mod joins;
+#[cfg(test)]
 mod nodes;
 #[cfg(test)]
 mod plans;
