@@ -6,9 +6,10 @@ use plan_check::check_plan;
 use plan_core::{Arena, Items, Node, PlSmallStr, ProjectionOptions, Schema, TryClone};
 use plan_expr::{AExpr, ExprIR, IRAggExpr, LiteralValue, Operator, OutputName};
 use plan_ir::IR;
+use plan_join::JoinOptions;
 use plan_options::{
-    DistinctOptionsIR, GroupbyOptions, HConcatOptions, SinkType, SortMultipleOptions, UnionOptions,
-    UniqueKeepStrategy,
+    DistinctOptionsIR, GroupbyOptions, HConcatOptions, JoinArgs, JoinCoalesce, JoinType,
+    MaintainOrderJoin, SinkType, SortMultipleOptions, UnionOptions, UniqueKeepStrategy,
 };
 use plan_prune::ProjectionPushDown;
 use std::alloc::{AllocError, Global};
@@ -48,6 +49,23 @@ fn greatest(
         exprs.push(ExprIR::new(root, OutputName::Alias(PlSmallStr::new(alloc, *name)?)))?;
     }
     Ok(exprs)
+}
+
+/// What a join of the pairs of rows whose keys are equal is told.
+fn inner() -> JoinOptions {
+    JoinOptions {
+        allow_parallel: true,
+        force_parallel: false,
+        args: JoinArgs {
+            how: JoinType::Inner,
+            coalesce: JoinCoalesce::default(),
+            suffix: None,
+            join_nulls: false,
+            maintain_order: MaintainOrderJoin::default(),
+            slice: None,
+        },
+        options: None,
+    }
 }
 
 /// A plan that grows by a node over its root.
@@ -112,6 +130,37 @@ impl Sample {
         Ok(())
     }
 
+    /// The key that is a column.
+    fn key(&mut self, name: &str) -> Result<Items<ExprIR>, AllocError> {
+        let node = self
+            .ex
+            .add(AExpr::Column(PlSmallStr::new(self.alloc, name)?))?;
+        let name = OutputName::ColumnLhs(PlSmallStr::new(self.alloc, name)?);
+        let mut keys = Items::new(self.alloc);
+        keys.push(ExprIR::new(node, name))?;
+        Ok(keys)
+    }
+
+    /// Joins the plan, which is a scan, with the columns a and b of a path as x and y, where a and x are equal.
+    pub fn join(&mut self, path: &str) -> Result<(), AllocError> {
+        let input_left = self.root;
+        self.root = self.lp.add(scan_of(self.alloc, path)?)?;
+        self.select(&[("x", "a"), ("y", "b")], &["x", "y"])?;
+        let input_right = self.root;
+        let schema = columns_named(self.alloc, &["a", "b", "c", "y"])?;
+        let left_on = self.key("a")?;
+        let right_on = self.key("x")?;
+        self.root = self.lp.add(IR::Join {
+            input_left,
+            input_right,
+            schema,
+            left_on,
+            right_on,
+            options: inner(),
+        })?;
+        Ok(())
+    }
+
     /// Adds the cache of a number.
     pub fn cache(&mut self, id: u32) -> Result<(), AllocError> {
         let input = self.root;
@@ -140,12 +189,7 @@ impl Sample {
 
     /// Adds a sort by a column.
     pub fn sort(&mut self, name: &str) -> Result<(), AllocError> {
-        let node = self
-            .ex
-            .add(AExpr::Column(PlSmallStr::new(self.alloc, name)?))?;
-        let name = OutputName::ColumnLhs(PlSmallStr::new(self.alloc, name)?);
-        let mut by_column = Items::new(self.alloc);
-        by_column.push(ExprIR::new(node, name))?;
+        let by_column = self.key(name)?;
         let mut marks = Items::new(self.alloc);
         marks.push(false)?;
         let sort_options = SortMultipleOptions {

@@ -1,4 +1,4 @@
-//! Unions, which ask each input alike, and caches, below which all stays.
+//! Unions, which ask each input alike, and caches and joins, below which all stays.
 
 use crate::samples::{Sample, assert_pruned};
 use std::test::Fail;
@@ -24,5 +24,19 @@ fn what_is_below_a_cache_stays(rt: HostRuntime) -> Result<(), Fail> {
         &rt,
         &mut plan,
         "SimpleProjection a; SimpleProjection a; Cache 0; Scan t",
+    )
+}
+
+#[test]
+fn a_join_stays_and_the_rest_is_pruned(rt: HostRuntime) -> Result<(), Fail> {
+    let mut plan = Sample::scan(rt.alloc())?;
+    plan.join("u")?;
+    plan.projection(&["a", "b", "c"])?;
+    plan.union("v")?;
+    plan.projection(&["a"])?;
+    assert_pruned(
+        &rt,
+        &mut plan,
+        "SimpleProjection a; Union of 2; SimpleProjection a; SimpleProjection a; Join of a b c y; Scan t; Select x y of x y; Scan u; SimpleProjection a; SimpleProjection a; Scan v reads a puts out a",
     )
 }

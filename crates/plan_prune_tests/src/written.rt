@@ -99,6 +99,10 @@ fn write_node(alloc: Global, text: &mut String, node: &IR) -> Result<(), Fail> {
             text.push_str("HConcat of")?;
             write_columns(alloc, text, schema)?;
         }
+        IR::Join { schema, .. } => {
+            text.push_str("Join of")?;
+            write_columns(alloc, text, schema)?;
+        }
         IR::Scan {
             sources,
             output_schema,
