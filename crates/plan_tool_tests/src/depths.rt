@@ -11,14 +11,14 @@ const PROJECTION: &str = r#"{"op":"SimpleProjection","input":1,"columns":[["a","
 const SCAN: &str =
     r#"{"op":"Scan","kind":"Parquet","sources":{"paths":["t"]},"schema":[["a","Int64"],["b","Int64"],["c","Boolean"]],"reader":[["a","Int64"],["b","Int64"],["c","Boolean"]],"hive":null,"output":null,"columns":null,"row_index":null,"path_column":null,"rechunk":false,"slice":null,"predicate":null}"#;
 
-const FRAME: &str =
+pub const FRAME: &str =
     r#"{"frame":7,"op":"DataFrameScan","output":null,"schema":[["a","Int64"],["d","Boolean"]]}"#;
 
 const SCAN_OF_SOME_ROWS: &str =
     r#"{"op":"Scan","kind":"Parquet","sources":{"paths":["t"]},"hive":null,"row_index":null,"path_column":null,"rechunk":false,"schema":[["d","Boolean"]],"reader":[["d","Boolean"]],"output":null,"columns":null,"slice":null,"predicate":[0,"alias","e"]}"#;
 
 // The document of a plan.
-fn document(alloc: Global, nodes: &str, exprs: &str, flags: u32) -> Result<String, Fail> {
+pub fn document(alloc: Global, nodes: &str, exprs: &str, flags: u32) -> Result<String, Fail> {
     let text = format!(in alloc;
         r#"{{"root":0,"nodes":[{nodes}],"exprs":[{exprs}],"flags":{flags},"shared":false,"tables":null}}"#
     )?;
@@ -75,13 +75,13 @@ fn chain(alloc: Global, count: u32, front: &str, back: &str, last: &str) -> Resu
 }
 
 // So many slices, each on the next, and the last on another node.
-fn slices(alloc: Global, count: u32, last: &str) -> Result<String, Fail> {
+pub fn slices(alloc: Global, count: u32, last: &str) -> Result<String, Fail> {
     let front = r#"{"op":"Slice","input":"#;
     chain(alloc, count, front, r#","offset":0,"len":1}"#, last)
 }
 
 // So many aliases, each of the next, and the last of another expression.
-fn aliases(alloc: Global, count: u32, last: &str) -> Result<String, Fail> {
+pub fn aliases(alloc: Global, count: u32, last: &str) -> Result<String, Fail> {
     chain(
         alloc,
         count,

@@ -5,4 +5,6 @@
 mod depths;
 mod fakes;
 #[cfg(test)]
+mod joins;
+#[cfg(test)]
 mod streams;
