@@ -10,3 +10,4 @@ mod JoinRenames
 mod JoinLocal
 mod JoinWhole
 mod JoinNarrows
+mod DistinctColumns

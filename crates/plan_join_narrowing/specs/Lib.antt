@@ -1,3 +1,4 @@
 -- The definitions that contracts cite.
 pub mod JoinAsked
 pub mod JoinPruned
+pub mod Once

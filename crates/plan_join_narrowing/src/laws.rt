@@ -13,6 +13,7 @@ ghost use Rattle.plan_meaning.specs.Steps.{IsValid};
 ghost use Rattle.plan_meaning.specs.Typing.{schema, AllHold};
 ghost use Rattle.plan_join_narrowing.specs.JoinAsked.{left_names, right_names};
 ghost use Rattle.plan_join_narrowing.specs.JoinPruned.{pruned_join};
+ghost use Rattle.plan_join_narrowing.specs.Once.{AllListOnce};
 
 /// What a valid join asks of its sides can be asked of them.
 pub fn joins_ask_what_their_sides_have()
@@ -23,4 +24,9 @@ pub fn joins_ask_what_their_sides_have()
 /// A valid join over sides that narrow at what it asks of them, and have no name twice, narrows at what is asked of it.
 pub fn pruned_joins_narrow()
     ensures { (asked : List Name) (left_on right_on : List Named) (stored : Columns) (told : Told) (r1 r2 q1 q2 : Plan) → IsValid (rose tt (join left_on right_on stored told) (more q1 (more q2 no_roses))) → IsFair (set_of asked) (schema (rose tt (join left_on right_on stored told) (more q1 (more q2 no_roses)))) → HasDistinctNames (schema r1) → HasDistinctNames (schema r2) → Narrows r1 q1 (set_of (left_names asked left_on right_on told (schema q1) (schema q2))) → Narrows r2 q2 (set_of (right_names asked left_on right_on told (schema q1) (schema q2))) → Narrows (pruned_join asked left_on right_on stored told (schema q1) (schema q2) (more r1 (more r2 no_roses))) (rose tt (join left_on right_on stored told) (more q1 (more q2 no_roses))) (set_of asked) }
+{}
+
+/// A valid plan has no name twice among its columns, where its scans and projections list none twice.
+pub fn valid_plans_have_distinct_names()
+    ensures { (p : Plan) → AllListOnce (more p no_roses) → IsValid p → HasDistinctNames (schema p) }
 {}
