@@ -1,7 +1,7 @@
 //! Joins that are to be written.
 
 use crate::plans::no_plan;
-use plan_core::{DataType, Items, Node, PlSmallStr, PlainType, Schema};
+use plan_core::{Arena, DataType, Items, Node, PlSmallStr, PlainType, Schema};
 use plan_expr::{ExprIR, OutputName};
 use plan_ir::{IR, PlanCopy};
 use plan_join::{JoinOptions, JoinTypeOptionsIR};
@@ -92,10 +92,8 @@ fn inequalities(
     }))
 }
 
-// A join with keys, and one of each other kind: a cross join with a condition, and joins by one inequality and by two.
-pub fn joined_plan(alloc: Global) -> Result<PlanCopy, AllocError> {
-    let mut plan = no_plan(alloc);
-    let _ = plan.lp.add(keyed(alloc)?)?;
+// Joins that are told nothing that only their kind is, with each way with keys and each order.
+fn add_plain(alloc: Global, lp: &mut Arena<IR>) -> Result<(), AllocError> {
     let keep = JoinCoalesce::KeepColumns;
     for (how, coalesce, order) in [
         (
@@ -112,26 +110,36 @@ pub fn joined_plan(alloc: Global) -> Result<PlanCopy, AllocError> {
         (JoinType::Semi, keep, MaintainOrderJoin::LeftRight),
         (JoinType::Anti, keep, MaintainOrderJoin::LeftRight),
     ] {
-        let _ = plan.lp.add(bare(alloc, how, coalesce, order, None))?;
+        let _ = lp.add(bare(alloc, how, coalesce, order, None))?;
     }
+    Ok(())
+}
+
+// A cross join with a condition, and joins by one inequality and by two.
+fn add_told(alloc: Global, lp: &mut Arena<IR>) -> Result<(), AllocError> {
     let predicate = column(alloc, 7, "k")?;
+    let condition = Some(JoinTypeOptionsIR::Cross { predicate });
+    let one = inequalities(InequalityOperator::Lt, None);
+    let two = inequalities(InequalityOperator::LtEq, Some(InequalityOperator::Gt));
+    let other_two = inequalities(InequalityOperator::GtEq, Some(InequalityOperator::Lt));
     for (how, options) in [
-        (
-            JoinType::Cross,
-            Some(JoinTypeOptionsIR::Cross { predicate }),
-        ),
-        (JoinType::IEJoin, inequalities(InequalityOperator::Lt, None)),
-        (
-            JoinType::IEJoin,
-            inequalities(InequalityOperator::LtEq, Some(InequalityOperator::Gt)),
-        ),
-        (
-            JoinType::IEJoin,
-            inequalities(InequalityOperator::GtEq, Some(InequalityOperator::Lt)),
-        ),
+        (JoinType::Cross, condition),
+        (JoinType::IEJoin, one),
+        (JoinType::IEJoin, two),
+        (JoinType::IEJoin, other_two),
     ] {
+        let keep = JoinCoalesce::KeepColumns;
         let order = MaintainOrderJoin::None;
-        let _ = plan.lp.add(bare(alloc, how, keep, order, options))?;
+        let _ = lp.add(bare(alloc, how, keep, order, options))?;
     }
+    Ok(())
+}
+
+// A join with keys, and one of each other kind.
+pub fn joined_plan(alloc: Global) -> Result<PlanCopy, AllocError> {
+    let mut plan = no_plan(alloc);
+    let _ = plan.lp.add(keyed(alloc)?)?;
+    add_plain(alloc, &mut plan.lp)?;
+    add_told(alloc, &mut plan.lp)?;
     Ok(plan)
 }
