@@ -1,6 +1,8 @@
 //! The tests of plan_ir. They stand apart from it, so that it is proved once, and not with its tests again.
 #![tactic(auto)]
 
+#[cfg(test)]
+mod joins;
 mod made;
 #[cfg(test)]
 mod plans;

@@ -10,7 +10,7 @@ use std::alloc::{AllocError, Global};
 use std::test::Fail;
 
 /// The copy of the plan at a root.
-fn copied(
+pub fn copied(
     alloc: Global,
     root: Node,
     lp: &Arena<IR>,
@@ -62,12 +62,12 @@ fn exprs_in_order(alloc: Global) -> Result<Arena<AExpr>, AllocError> {
 }
 
 /// Whether two values are equal.
-fn is_same<T: PartialEq>(a: &T, b: &T) -> bool {
+pub fn is_same<T: PartialEq>(a: &T, b: &T) -> bool {
     *a == *b
 }
 
 /// Whether two arenas have equal entries at equal numbers, and as many.
-fn have_same<T: PartialEq>(a: &Arena<T>, b: &Arena<T>) -> bool {
+pub fn have_same<T: PartialEq>(a: &Arena<T>, b: &Arena<T>) -> bool {
     if a.len() != b.len() {
         return false;
     }
@@ -80,7 +80,11 @@ fn have_same<T: PartialEq>(a: &Arena<T>, b: &Arena<T>) -> bool {
 }
 
 /// The numbers of the nodes below a root, and its own, in the order of a walk, if trees stand there.
-fn walked(alloc: Global, root: Node, lp: &Arena<IR>) -> Result<Option<Items<Node>>, AllocError> {
+pub fn walked(
+    alloc: Global,
+    root: Node,
+    lp: &Arena<IR>,
+) -> Result<Option<Items<Node>>, AllocError> {
     let start = Step {
         node: root,
         mark: (),
