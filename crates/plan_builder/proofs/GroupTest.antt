@@ -1,15 +1,12 @@
 -- A grouping by one column of what another is, over the scan of a frame.
-use Rattle.std.proofs.Common.{◌≡◌, ◌⊎◌, ⊎_elim, false, arith, List, [], ◌∷◌, Some, None, codes, refl, sym, ap, subst}
-use Rattle.std.specs.List.{slice_get}
+use Rattle.std.proofs.Common.{◌≡◌, false, List, [], ◌∷◌, Some, None, codes, refl, sym, subst}
 use Rattle.plan_core.specs.declared.arena.Node.{Node}
-use Rattle.plan_tree.specs.Rose.{rose, no_roses, more}
-use Rattle.plan_tree.specs.Stands.{Trees, Reaches, StandsOnce}
-use Rattle.plan_tree.proofs.ReadLemmas.{tree_at-is}
+use Rattle.plan_tree.specs.Stands.{StandsOnce}
 use Rattle.plan_expr.specs.declared.aexpr.AExpr.{AExpr}
 use Rattle.plan_expr.specs.declared.aexpr.AExpr.TheVariants.{Column}
 use Rattle.plan_expr.specs.declared.expr_ir.ExprIR.{ExprIR}
 use Rattle.plan_expr.specs.declared.expr_ir.OutputName.TheVariants.{Alias}
-use Rattle.plan_expr.specs.Exprs.{bare_exprs, column, Expr, expr_at, Named, one_expr}
+use Rattle.plan_expr.specs.Exprs.{Expr, expr_at, Named}
 use Rattle.plan_expr.specs.Leaves.{Name}
 use Rattle.plan_expr.specs.Operands.{expr_shape}
 use Rattle.plan_ir.specs.declared.ir.IR.{IR}
@@ -24,6 +21,7 @@ use Rattle.plan_meaning.specs.Typing.{AllHold, checks, is_built_group, made_chec
 use Rattle.plan_frame.specs.Made.{made_schema}
 use Rattle.plan_builder.specs.Builds.{Adds, columns_at, grouping, IsBuilt, MayFollow}
 use Rattle.plan_builder.proofs.Follow.{over_follow}
+use Rattle.plan_builder.proofs.TwoColumns.{columns_of, first_is, one, second_is, two, two_stand}
 use Rattle.plan_builder.proofs.TestLemmas.{frame_columns, frame_roots, three}
 
 abbrev a : Name
@@ -36,55 +34,27 @@ b = codes "b"
 abbrev named : Name → Expr → Named
 named x e = record { name = Alias x; expr = e }
 
-abbrev one : Name → Expr
-one x = rose tt (column x) no_roses
-
 -- the checks on the grouping
 good : AllHold (checks (group_by (named a (one a) ∷ []) (named b (one b) ∷ []) (made_schema [] (group_exprs (named a (one a) ∷ []) (named b (one b) ∷ [])) three) false default_group) (three ∷ []))
 unfolding is_built_group made_checks form_checks leaf_checks type_checks once_checks stored_checks naming_checks
 good = (refl, (refl, (refl, (refl, (refl, (refl, (refl, (refl, (refl, (refl, (refl, (refl, tt))))))))))))
 
--- two columns in their arena
-module _ (n m : Node) (first : n.0 ≡ 0) (second : m.0 ≡ 1) where
+-- the grouping of a frame by two columns in their arena
+module _ (n m : Node) (first : n.0 ≡ 0) (second : m.0 ≡ 1) (before lp : List IR) (root : Node) (adds : Adds before lp root (DataFrameScan (Some 0) three None)) (built : IsBuilt lp (columns_of a b) root) where
   abbrev ex : List AExpr
-  ex = Column a ∷ Column b ∷ []
+  ex = columns_of a b
 
-  abbrev two : Trees AExpr
-  two = more (rose n (Column a) no_roses) (more (rose m (Column b) no_roses) no_roses)
+  here : columns_at lp ex root ≡ three
+  here = frame_columns before lp ex root three adds built
 
-  apart : Reaches (more (rose m (Column b) no_roses) no_roses) n.0 → ⊥
-  apart r = ⊎_elim (λ (e : n.0 ≡ m.0). absurd (omega (arith, e, first, second))) (λ (k : ⊥ ⊎ ⊥). ⊎_elim (λ (x : ⊥). x) (λ (x : ⊥). x) k) r
+  stand : StandsOnce expr_shape ex (n ∷ m ∷ roots_in built.plan.nodes) (two a b n m)
+  stand = subst (λ (l : List Node). StandsOnce expr_shape ex (n ∷ m ∷ l) (two a b n m)) (sym (frame_roots before lp ex root three adds built)) (two_stand a b n m first second)
 
-  two_stand : StandsOnce expr_shape ex (n ∷ m ∷ []) two
-  two_stand = record {
-    stands = (refl, ap (slice_get ex) first, refl, tt, (refl, ap (slice_get ex) second, refl, tt, tt));
-    once = ((λ r. r), apart, (λ k x y. x), tt, ((λ r. r), (λ r. r), (λ k x y. y), tt, tt));
-  }
+  holds : AllHold (checks (group_by (named a (expr_at ex n) ∷ []) (named b (expr_at ex m) ∷ []) (made_schema [] (group_exprs (named a (expr_at ex n) ∷ []) (named b (expr_at ex m) ∷ [])) (columns_at lp ex root)) false default_group) (columns_at lp ex root ∷ []))
+  holds = rw (first_is a b n m first second, second_is a b n m first second, here) good
 
-  first_is : expr_at ex n ≡ one a
-  first_is = ap (λ (t : Trees AExpr). one_expr (bare_exprs t)) (tree_at-is expr_shape ex n (more (rose n (Column a) no_roses) no_roses) (record {
-    stands = (refl, ap (slice_get ex) first, refl, tt, tt);
-    once = ((λ r. r), (λ r. r), (λ k x y. y), tt, tt);
-  }))
-
-  second_is : expr_at ex m ≡ one b
-  second_is = ap (λ (t : Trees AExpr). one_expr (bare_exprs t)) (tree_at-is expr_shape ex m (more (rose m (Column b) no_roses) no_roses) (record {
-    stands = (refl, ap (slice_get ex) second, refl, tt, tt);
-    once = ((λ r. r), (λ r. r), (λ k x y. y), tt, tt);
-  }))
-
-  module _ (before lp : List IR) (root : Node) (adds : Adds before lp root (DataFrameScan (Some 0) three None)) (built : IsBuilt lp ex root) where
-    here : columns_at lp ex root ≡ three
-    here = frame_columns before lp ex root three adds built
-
-    stand : StandsOnce expr_shape ex (n ∷ m ∷ roots_in built.plan.nodes) two
-    stand = subst (λ (l : List Node). StandsOnce expr_shape ex (n ∷ m ∷ l) two) (sym (frame_roots before lp ex root three adds built)) two_stand
-
-    holds : AllHold (checks (group_by (named a (expr_at ex n) ∷ []) (named b (expr_at ex m) ∷ []) (made_schema [] (group_exprs (named a (expr_at ex n) ∷ []) (named b (expr_at ex m) ∷ [])) (columns_at lp ex root)) false default_group) (columns_at lp ex root ∷ []))
-    holds = rw (first_is, second_is, here) good
-
-    pub grouping_follows : MayFollow lp ex (grouping lp ex root (record { node = n; output_name = Alias a } ∷ []) (record { node = m; output_name = Alias b } ∷ []) false default_group)
-    grouping_follows = over_follow lp ex root built (grouping lp ex root (record { node = n; output_name = Alias a } ∷ []) (record { node = m; output_name = Alias b } ∷ []) false default_group) refl refl two stand holds
+  pub grouping_follows : MayFollow lp ex (grouping lp ex root (record { node = n; output_name = Alias a } ∷ []) (record { node = m; output_name = Alias b } ∷ []) false default_group)
+  grouping_follows = over_follow lp ex root built (grouping lp ex root (record { node = n; output_name = Alias a } ∷ []) (record { node = m; output_name = Alias b } ∷ []) false default_group) refl refl (two a b n m) stand holds
 
 -- the same, of an arena and expressions that are these
 pub groups : (before lp : List IR) (arena : List AExpr) (root n m : Node) (keys aggs : List ExprIR) (options : GroupbyOptions) → arena ≡ Column (codes "a") ∷ Column (codes "b") ∷ [] → n.0 ≡ 0 → m.0 ≡ 1 → Adds before lp root (DataFrameScan (Some 0) three None) → IsBuilt lp arena root → keys ≡ record { node = n; output_name = Alias (codes "a") } ∷ [] → aggs ≡ record { node = m; output_name = Alias (codes "b") } ∷ [] → options ≡ default_group → MayFollow lp arena (grouping lp arena root keys aggs false options)

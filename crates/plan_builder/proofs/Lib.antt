@@ -4,4 +4,7 @@ pub mod Follow
 mod Standing
 mod PickLemmas
 mod TestLemmas
+mod TwoColumns
 mod GroupTest
+mod JoinTest
+pub mod Joining

@@ -41,13 +41,10 @@ frame_good s = (refl, tt)
 pub frame_follows : (lp : List IR) (ex : List AExpr) (s : Columns) → MayFollow lp ex (DataFrameScan (Some 0) s None)
 frame_follows lp ex s = alone_follow lp ex (DataFrameScan (Some 0) s None) refl refl no_roses (record { stands = tt; once = tt }) (frame_good s)
 
--- what stands where the frame was put
-module _ (before lp : List IR) (ex : List AExpr) (root : Node) (s : Columns) (adds : Adds before lp root (DataFrameScan (Some 0) s None)) (b : IsBuilt lp ex root) where
+-- what stands at the number of a frame
+module _ (lp : List IR) (ex : List AExpr) (root : Node) (s : Columns) (there : slice_get lp root.0 ≡ Some (DataFrameScan (Some 0) s None)) (b : IsBuilt lp ex root) where
   abbrev p : IR
   p = DataFrameScan (Some 0) s None
-
-  there : slice_get lp root.0 ≡ Some p
-  there = ap (λ (l : List IR). slice_get l root.0) adds.added ∙ ap (slice_get (before ++ p ∷ [])) adds.last ∙ slice_get-append_last plan_shape before p
 
   -- it is a tree alone
   one : (t : Trees IR) → Stands plan_shape lp (root ∷ []) t → t ≡ more (rose root p no_roses) no_roses
@@ -62,11 +59,22 @@ module _ (before lp : List IR) (ex : List AExpr) (root : Node) (s : Columns) (ad
       none m q no_roses e r k = rw (e, sym r) refl
       none m q (more (rose o u us) more_kids) e r k = absurd (subst (λ (x : IR). Stands plan_shape lp (plan_shape.inputs x) (more (rose o u us) more_kids)) e k)
 
+  pub frame_tree : b.plan.nodes ≡ more (rose root p no_roses) no_roses
+  frame_tree = one b.plan.nodes b.plan.stands.nodes.stands
+
+  pub columns_there : columns_at lp ex root ≡ s
+  columns_there = ap (λ (t : Trees IR). schema (one_plan (bare (plans_of ex t)))) (trees_at-is plan_shape lp (root ∷ []) b.plan.nodes b.plan.stands.nodes ∙ frame_tree)
+
+-- and where the frame was put last
+module _ (before lp : List IR) (ex : List AExpr) (root : Node) (s : Columns) (adds : Adds before lp root (DataFrameScan (Some 0) s None)) (b : IsBuilt lp ex root) where
+  there : slice_get lp root.0 ≡ Some (DataFrameScan (Some 0) s None)
+  there = ap (λ (l : List IR). slice_get l root.0) adds.added ∙ ap (slice_get (before ++ DataFrameScan (Some 0) s None ∷ [])) adds.last ∙ slice_get-append_last plan_shape before (DataFrameScan (Some 0) s None)
+
   pub frame_roots : roots_in b.plan.nodes ≡ []
-  frame_roots = ap roots_in (one b.plan.nodes b.plan.stands.nodes.stands)
+  frame_roots = ap roots_in (frame_tree lp ex root s there b)
 
   pub frame_columns : columns_at lp ex root ≡ s
-  frame_columns = ap (λ (t : Trees IR). schema (one_plan (bare (plans_of ex t)))) (trees_at-is plan_shape lp (root ∷ []) b.plan.nodes b.plan.stands.nodes ∙ one b.plan.nodes b.plan.stands.nodes.stands)
+  frame_columns = columns_there lp ex root s there b
 
 -- a column alone in its arena
 module _ (a : Name) (n : Node) (first : n.0 ≡ 0) where

@@ -9,9 +9,11 @@ use Rattle.plan_expr.specs.declared.expr_ir.OutputName.TheVariants.{None as Unna
 use Rattle.plan_expr.specs.Exprs.{all_named_at, expr_at}
 use Rattle.plan_expr.specs.Naming.{naming, own_output_name}
 use Rattle.plan_ir.specs.declared.ir.IR.{IR}
-use Rattle.plan_ir.specs.declared.ir.IR.TheVariants.{Select, HStack, GroupBy}
+use Rattle.plan_ir.specs.declared.ir.IR.TheVariants.{Select, HStack, GroupBy, Join}
 use Rattle.plan_ir.specs.Parts.{IsPlan}
 use Rattle.plan_options.specs.declared.group.GroupbyOptions.{GroupbyOptions}
+use Rattle.plan_join.specs.declared.options.JoinOptions.{JoinOptions}
+use Rattle.plan_join.specs.Naming.{join_columns, key_columns}
 use Rattle.plan_frame.specs.Grouping.{group_exprs}
 use Rattle.plan_meaning.specs.PlanAt.{plan_at}
 use Rattle.plan_meaning.specs.Steps.{IsValid}
@@ -55,6 +57,11 @@ addition lp ex root exprs options =
 abbrev pub grouping : List IR → List AExpr → Node → (keys aggs : List ExprIR) → Bool → GroupbyOptions → IR
 grouping lp ex root keys aggs ordered options =
     GroupBy root keys aggs (made_schema [] (group_exprs (all_named_at ex keys) (all_named_at ex aggs)) (columns_at lp ex root)) ordered options
+
+-- the join of the plans at two numbers
+abbrev pub joining : List IR → List AExpr → (root other : Node) → (left_on right_on : List ExprIR) → JoinOptions → IR
+joining lp ex root other left_on right_on options =
+    Join root other (join_columns options.args (key_columns ex left_on) (key_columns ex right_on) (columns_at lp ex root) (columns_at lp ex other)) left_on right_on options
 
 -- the expression at a number, under the name that it gives itself
 abbrev pub own_expr : List AExpr → Node → ExprIR

@@ -4,6 +4,7 @@
 mod builder;
 mod functions;
 mod group_by;
+mod join;
 pub mod laws;
 mod made;
 mod simple;

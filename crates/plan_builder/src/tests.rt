@@ -1,5 +1,5 @@
 //! What is built on the frame with the columns a and b of whole numbers and c of texts.
-ghost use Rattle.std.specs.Prelude.{◌≡◌, [], ◌∷◌, codes, IfOk, None, Some};
+ghost use Rattle.std.specs.Prelude.{◌≡◌, [], ◌∷◌, codes, false, true, IfOk, None, Some};
 ghost use Rattle.plan_core.specs.declared.data_type.DataType.TheVariants.{Int64, List as ListOf, String};
 ghost use Rattle.plan_core.specs.declared.data_type.PlainType.TheVariants.{Int64 as Whole};
 ghost use Rattle.plan_core.specs.Columns.{Columns, type_of};
@@ -14,7 +14,8 @@ use plan_core::{
 };
 use plan_expr::{AExpr, ExprIR, OutputName};
 use plan_ir::{IR, UnpivotArgsIR};
-use plan_options::GroupbyOptions;
+use plan_join::JoinOptions;
+use plan_options::{GroupbyOptions, JoinArgs, JoinCoalesce, JoinType, MaintainOrderJoin};
 use std::alloc::{AllocError, Global};
 use std::test::Fail;
 
@@ -86,6 +87,25 @@ fn listed(alloc: Global, names: &[&str]) -> Result<Items<PlSmallStr>, AllocError
         list.push(PlSmallStr::new(alloc, *name)?)?;
     }
     Ok(list)
+}
+
+/// What an inner join is told.
+fn inner() -> JoinOptions
+    ensures { result ≡ record { allow_parallel = true; force_parallel = false; args = record { how = JoinType.Inner; coalesce = JoinCoalesce.JoinSpecific; suffix = None; join_nulls = false; maintain_order = MaintainOrderJoin.None; slice = None }; options = None } }
+{
+    JoinOptions {
+        allow_parallel: true,
+        force_parallel: false,
+        args: JoinArgs {
+            how: JoinType::Inner,
+            coalesce: JoinCoalesce::JoinSpecific,
+            suffix: None,
+            join_nulls: false,
+            maintain_order: MaintainOrderJoin::None,
+            slice: None,
+        },
+        options: None,
+    }
 }
 
 /// The names of the columns, each followed by a blank.
@@ -248,6 +268,25 @@ fn rows_are_grouped(rt: HostRuntime) -> Result<(), Fail> {
     assert_eq!(rt; named(alloc, &schema)?.as_str(), "a b ");
     assert_eq!(rt; schema.get("a"), Some(&DataType::Int64));
     assert_eq!(rt; schema.get("b"), Some(&DataType::List(PlainType::Int64)));
+    Ok(())
+}
+
+#[test]
+fn tables_are_joined(rt: HostRuntime) -> Result<(), Fail> {
+    let alloc = rt.alloc();
+    let mut ex = Arena::new(alloc);
+    let left_key = ex.add(AExpr::Column(PlSmallStr::new(alloc, "a")?))?;
+    let right_key = ex.add(AExpr::Column(PlSmallStr::new(alloc, "a")?))?;
+    let mut lp = Arena::new(alloc);
+    let other = lp.add(frame(alloc)?)?;
+    let mut builder = IRBuilder::from_lp(&mut lp, &ex, frame(alloc)?)?;
+    let left_on = under(alloc, left_key, "a")?;
+    let right_on = under(alloc, right_key, "a")?;
+    builder.join(alloc, other, left_on, right_on, inner())?;
+    let schema = builder.schema(alloc)?;
+    assert_eq!(rt; named(alloc, &schema)?.as_str(), "a b c b_right c_right ");
+    assert_eq!(rt; schema.get("b_right"), Some(&DataType::Int64));
+    assert_eq!(rt; schema.get("c_right"), Some(&DataType::String));
     Ok(())
 }
 
