@@ -6,5 +6,4 @@
 mod explodes;
 #[cfg(test)]
 mod functions;
-#[cfg(test)]
 mod plans;

@@ -4,5 +4,4 @@
 
 #[cfg(test)]
 mod orders;
-#[cfg(test)]
 mod plans;
