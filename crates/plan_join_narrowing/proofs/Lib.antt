@@ -11,3 +11,4 @@ mod JoinLocal
 mod JoinWhole
 mod JoinNarrows
 mod DistinctColumns
+mod JoinWork
