@@ -1,4 +1,4 @@
-use Rattle.std.proofs.Common.{◌≡◌, ◌∙◌, ◌∷◌, [], codes, List, None, Some, refl, subst, sym, ap}
+use Rattle.std.proofs.Common.{◌∙◌, codes, None, Some, subst, sym, ap}
 use Rattle.plan_core.specs.Columns.{Columns}
 use Rattle.plan_expr.specs.Leaves.{Name}
 use Rattle.plan_ir.specs.declared.functions.FunctionIR.TheVariants.{RowIndex}

@@ -6,7 +6,7 @@ use Rattle.plan_expr.specs.Leaves.{Name}
 use Rattle.plan_ir.specs.declared.ir.IR.{IR}
 use Rattle.plan_ir.specs.declared.ir.IR.TheVariants.{DataFrameScan}
 use Rattle.plan_builder.specs.Builds.{MayFollow}
-use Rattle.plan_builder.proofs.TestLemmas.{frame_follows, three}
+use Rattle.plan_builder.proofs.TestLemmas.{frame_follows}
 use Rattle.plan_builder.proofs.JoinTest.{joins, two_frames}
 use Rattle.plan_builder.proofs.tests.tables_are_joined.Goals as goal
 
