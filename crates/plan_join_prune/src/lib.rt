@@ -1,0 +1,18 @@
+//! What pruning asks of the sides of a join, and the join over the pruned sides.
+#![tactic(auto)]
+
+mod arguments;
+
+mod condition;
+mod names;
+mod origins;
+mod pruned;
+mod sides;
+mod top;
+
+pub use arguments::narrowed_args;
+pub use sides::{asks, asks_unasked};
+pub use names::JoinNames;
+pub use origins::Origins;
+pub use pruned::{PrunedJoin, pruned_join};
+pub use top::Top;
