@@ -1,0 +1,7 @@
+-- The definitions that contracts cite.
+pub mod Built
+pub mod Exprs
+pub mod Functions
+pub mod Scans
+pub mod Joins
+pub mod Nodes
