@@ -4,4 +4,7 @@ pub mod Exprs
 pub mod Functions
 pub mod Scans
 pub mod Joins
+pub mod Rows
+pub mod Columns
+pub mod Several
 pub mod Nodes

@@ -2,11 +2,14 @@
 #![tactic(auto)]
 
 mod built;
+mod columns;
 mod exprs;
 mod functions;
 mod joins;
 mod nodes;
+mod rows;
 mod scans;
+mod several;
 
 pub use exprs::expr;
 pub use nodes::built_node;
