@@ -20,11 +20,11 @@ use Rattle.plan_table.specs.declared.value.AnyValue.TheVariants as values
 use Rattle.plan_table.specs.declared.value.PlainValue.{PlainValue}
 use Rattle.plan_table.specs.declared.value.PlainValue.TheVariants as singles
 use Rattle.plan_table.specs.Tables.{IsPlainOf, IsOf, IsColumn, IsTable, types_of}
-use Rattle.plan_doc.specs.Parts.{◌>>=◌, each, entries_of, name_of, number_of, integer_of, truth_of, three_of, type_of, are_distinct}
-use Rattle.plan_doc.specs.Members.{object_of, at}
+use Rattle.plan_doc_parts.specs.Parts.{◌>>=◌, each, entries_of, name_of, number_of, integer_of, truth_of, three_of, type_of, are_distinct}
+use Rattle.plan_doc_parts.specs.Members.{object_of, at}
 use Rattle.plan_doc.specs.Tables.{typed_single_of, single_value_of, single_values_of, typed_value_of, any_value_of, any_values_of, so_many, table_column_of, table_names, distinctly_named, table_columns_of, source_key_of, table_of}
-use Rattle.plan_doc.proofs.EntryLemmas.{bind_some, some_is}
-use Rattle.plan_doc.proofs.DistinctLemmas.{none_of, none_else}
+use Rattle.plan_doc_parts.proofs.EntryLemmas.{bind_some, some_is}
+use Rattle.plan_doc_parts.proofs.DistinctLemmas.{none_of, none_else}
 
 -- what holds of all that f reads holds of each entry that is read
 each_holds : {A : Type 0} (f : Data → Option A) (P : A → Type 0) → ((d : Data) (x : A) → f d ≡ Some x → P x) → (ds : List Data) (xs : List A) → each f ds ≡ Some xs → AllByRecursion P xs

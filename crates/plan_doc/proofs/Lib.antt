@@ -1,9 +1,4 @@
 -- The lemmas of this crate.
-pub mod EntryLemmas
-pub mod PairLemmas
-pub mod NullLemmas
 pub mod ReadingLemmas
-pub mod DistinctLemmas
-pub mod ColumnLemmas
 pub mod TableLemmas
 pub mod FormedLemmas

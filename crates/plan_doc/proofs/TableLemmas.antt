@@ -8,9 +8,9 @@ use Rattle.plan_table.specs.declared.column.Column.{Column}
 use Rattle.plan_table.specs.declared.source_key.SourceKey.{SourceKey}
 use Rattle.plan_table.specs.declared.table.Table.{Table}
 use Rattle.plan_table.specs.Tables.{column_of, with_column, same_key, table_at}
-use Rattle.plan_doc.specs.Parts.{are_distinct}
+use Rattle.plan_doc_parts.specs.Parts.{are_distinct}
 use Rattle.plan_doc.specs.Tables.{table_names, distinctly_named, distinctly_kept}
-use Rattle.plan_doc.proofs.DistinctLemmas.{absent_or, there_or, either_false, distinct_last, distinct_twice}
+use Rattle.plan_doc_parts.proofs.DistinctLemmas.{absent_or, there_or, either_false, distinct_last, distinct_twice}
 
 module _ (c : Column) where
   -- no column of the name is there

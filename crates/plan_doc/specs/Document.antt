@@ -14,11 +14,11 @@ use Rattle.plan_ir.specs.declared.ir.IR.{IR}
 use Rattle.plan_doc.specs.declared.document.Document.{Document}
 use Rattle.plan_doc.specs.declared.document.ReadError.{ReadError}
 use Rattle.plan_doc.specs.declared.document.ReadError.TheVariants as errors
-use Rattle.plan_doc.specs.Parts.{◌>>=◌, entries_of, each, nullable, number_of, link_of}
-use Rattle.plan_doc.specs.Members.{object_of, at}
+use Rattle.plan_doc_parts.specs.Parts.{◌>>=◌, entries_of, each, nullable, number_of, link_of}
+use Rattle.plan_doc_parts.specs.Members.{object_of, at}
 use Rattle.plan_doc.specs.Built.{built_flags, unshared_of}
-use Rattle.plan_doc.specs.Exprs.{expr_of}
-use Rattle.plan_doc.specs.Nodes.{built_node_of}
+use Rattle.plan_doc_nodes.specs.Exprs.{expr_of}
+use Rattle.plan_doc_nodes.specs.Nodes.{built_node_of}
 use Rattle.plan_doc.specs.Tables.{tables_of}
 
 -- a number whose bits all have names, as flags

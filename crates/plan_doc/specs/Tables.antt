@@ -16,8 +16,8 @@ use Rattle.plan_table.specs.declared.value.AnyValue.TheVariants as values
 use Rattle.plan_table.specs.declared.value.PlainValue.{PlainValue}
 use Rattle.plan_table.specs.declared.value.PlainValue.TheVariants as singles
 use Rattle.plan_table.specs.Tables.{same_key}
-use Rattle.plan_doc.specs.Parts.{◌>>=◌, each, entries_of, name_of, number_of, integer_of, truth_of, three_of, type_of, are_distinct}
-use Rattle.plan_doc.specs.Members.{object_of, at}
+use Rattle.plan_doc_parts.specs.Parts.{◌>>=◌, each, entries_of, name_of, number_of, integer_of, truth_of, three_of, type_of, are_distinct}
+use Rattle.plan_doc_parts.specs.Members.{object_of, at}
 
 -- a single value of the type
 abbrev pub typed_single_of : PlainType → Data → Option PlainValue

@@ -1,19 +1,14 @@
 //! The reader of documents.
-ghost use Rattle.std.specs.Prelude.{◌≡◌};
 ghost use Rattle.serde_json.specs.View.{view};
-ghost use Rattle.plan_doc.specs.Gives.{Gives, Shows};
-ghost use Rattle.plan_doc.specs.Members.{object_of};
+ghost use Rattle.plan_doc_parts.specs.Gives.{Gives, Shows};
+ghost use Rattle.plan_doc_parts.specs.Members.{object_of};
 ghost use Rattle.plan_doc.specs.Document.{flags_of, named_flags as named_flags_of, nodes_of, exprs_of, document_keys, document_of as document_at, json_of, doc_of, IsJson, IsReading};
 
-use crate::arrays::arena_of_each;
 use crate::built::{built_flags, unshared};
-use crate::exprs::expr;
-use crate::fault::Fault;
-use crate::members::{field, link_at, object};
-use crate::nodes::built_node;
-use crate::optional::optional_tables_at;
-use crate::parts::{entries, number};
+use crate::tables::optional_tables_at;
 use plan_core::{Arena, Node, OptFlags};
+use plan_doc_nodes::{built_node, expr};
+use plan_doc_parts::{Fault, arena_of_each, entries, field, link_at, number, object};
 use plan_expr::AExpr;
 use plan_ir::IR;
 use plan_table::Tables;

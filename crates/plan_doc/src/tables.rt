@@ -1,14 +1,14 @@
 //! The readers of tables.
-ghost use Rattle.std.specs.Prelude.{◌≡◌};
 ghost use Rattle.serde_json.specs.View.{view};
-ghost use Rattle.plan_doc.specs.Gives.{Gives};
+ghost use Rattle.plan_doc_parts.specs.Gives.{Gives};
+ghost use Rattle.plan_doc_parts.specs.Members.{at};
+ghost use Rattle.plan_doc_parts.specs.Parts.{nullable};
 ghost use Rattle.plan_doc.specs.Tables.{typed_single_of, single_value_of, single_values_of, typed_value_of, any_value_of, any_values_of, so_many as so_many_of, table_column_of, table_columns_of, path_key_of, buffer_key_of, frame_key_of, source_key_of, table_of, tables_of};
 
-use crate::arrays::each;
-use crate::fault::Fault;
-use crate::members::{field, name_at, number_at, object};
-use crate::parts::{data_type, entries, integer, name, three, truth};
 use plan_core::{DataType, Items, PlainType};
+use plan_doc_parts::{
+    Fault, data_type, each, entries, field, integer, name, name_at, number_at, object, three, truth,
+};
 use plan_table::{AnyValue, Column, Columns, PlainValue, SourceKey, Table, Tables};
 use serde_json::Value;
 use std::alloc::Global;
@@ -176,7 +176,7 @@ fn table(alloc: Global, value: &Value) -> Result<(SourceKey, Table), Fault>
 
 /// An array of tables with their sources, no source twice.
 #[tactic(auto, unfolding(crate::specs::Tables::tables_of))]
-pub fn tables(alloc: Global, value: &Value) -> Result<Tables, Fault>
+fn tables(alloc: Global, value: &Value) -> Result<Tables, Fault>
     ensures { Gives result (tables_of (view value.now)) }
 {
     let entries = entries(value)?;
@@ -190,4 +190,16 @@ pub fn tables(alloc: Global, value: &Value) -> Result<Tables, Fault>
         tables.add(key, table)?;
     }
     Ok(tables)
+}
+
+/// Under a key null, or tables with their sources.
+#[tactic(auto, using(plan_doc_parts::proofs::NullLemmas::nullable_null, plan_doc_parts::proofs::NullLemmas::nullable_other), unfolding(plan_doc_parts::specs::Members::at))]
+pub fn optional_tables_at(alloc: Global, object: &Value, key: &str) -> Result<Option<Tables>, Fault>
+    ensures { Gives result (at key.now (nullable tables_of) (view object.now)) }
+{
+    let value = field(object, key)?;
+    if value.is_null() {
+        return Ok(None);
+    }
+    Ok(Some(tables(alloc, value)?))
 }

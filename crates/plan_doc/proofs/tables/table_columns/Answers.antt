@@ -1,7 +1,7 @@
 use Rattle.std.proofs.Common.{rules, ◌≡◌, None, sym}
 use Rattle.plan_table.specs.Tables.{column_of}
 use Rattle.plan_doc.specs.Tables.{table_column_of, table_columns_of, distinctly_named}
-use Rattle.plan_doc.proofs.DistinctLemmas.{no_entry, next_entry, entry_twice}
+use Rattle.plan_doc_parts.proofs.DistinctLemmas.{no_entry, next_entry, entry_twice}
 use Rattle.plan_doc.proofs.TableLemmas.{column_last, names_last, name_twice}
 use Rattle.plan_doc.proofs.tables.table_columns.Goals as goal
 

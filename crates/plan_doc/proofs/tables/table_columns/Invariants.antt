@@ -1,7 +1,7 @@
 use Rattle.std.proofs.Common.{◌≡◌, true, map, take, Some}
 use Rattle.std.specs.Str.{bytes_eq}
 use Rattle.serde_json.specs.View.{view}
-use Rattle.plan_doc.specs.Parts.{each, are_distinct}
+use Rattle.plan_doc_parts.specs.Parts.{each, are_distinct}
 use Rattle.plan_doc.specs.Tables.{table_column_of, table_names}
 use Rattle.plan_doc.proofs.tables.table_columns.Given as goal
 

@@ -1,7 +1,7 @@
 use Rattle.std.proofs.Common.{rules, ◌≡◌, None, sym}
 use Rattle.plan_table.specs.Tables.{table_at}
 use Rattle.plan_doc.specs.Tables.{table_of, tables_of, distinctly_kept}
-use Rattle.plan_doc.proofs.DistinctLemmas.{no_entry, next_entry, entry_twice}
+use Rattle.plan_doc_parts.proofs.DistinctLemmas.{no_entry, next_entry, entry_twice}
 use Rattle.plan_doc.proofs.TableLemmas.{keys_last, key_twice}
 use Rattle.plan_doc.proofs.FormedLemmas.{table_is}
 use Rattle.plan_doc.proofs.tables.tables.Goals as goal

@@ -1,8 +1,0 @@
-use Rattle.std.proofs.Common.{rules}
-use Rattle.plan_doc.specs.Parts.{link_of, links_of}
-use Rattle.plan_doc.proofs.PairLemmas.{each_is_read}
-use Rattle.plan_doc.proofs.parts.links.Goals as goal
-
-pub returns : goal.returns
-unfolding links_of
-returns c = rw c.in_ok-entries.ensures (each_is_read link_of c.each.ensures (λ v r p. search rules))

@@ -1,0 +1,10 @@
+-- The definitions that contracts cite.
+pub mod Built
+pub mod Exprs
+pub mod Functions
+pub mod Scans
+pub mod Joins
+pub mod Rows
+pub mod Columns
+pub mod Several
+pub mod Nodes

@@ -1,0 +1,15 @@
+//! The nodes and the expressions of documents: what the JSON values of their entries stand for.
+#![tactic(auto)]
+
+mod built;
+mod columns;
+mod exprs;
+mod functions;
+mod joins;
+mod nodes;
+mod rows;
+mod scans;
+mod several;
+
+pub use exprs::expr;
+pub use nodes::built_node;

@@ -1,0 +1,103 @@
+//! The reader of nodes, and the readers of those that have no file of their own.
+ghost use Rattle.serde_json.specs.View.{view};
+ghost use Rattle.plan_doc_parts.specs.Gives.{Gives};
+ghost use Rattle.plan_doc_nodes.specs.Nodes.{map_function_of, sink_of, cache_of, invalid_of, node_of, built_node_of};
+
+use crate::built::built_for;
+use crate::columns::{group_by, hstack, select, simple_projection};
+use crate::functions::frame_function;
+use crate::joins::join;
+use crate::rows::{distinct, filter, slice_node, sort};
+use crate::scans::{frame_scan, scan};
+use crate::several::{hconcat, union};
+use plan_core::OptFlags;
+use plan_doc_parts::{Fault, field, link_at, number_at, object, text};
+use plan_ir::IR;
+use plan_options::SinkType;
+use serde_json::Value;
+use std::alloc::Global;
+
+/// The function of the whole input of an entry.
+#[tactic(auto, unfolding(crate::specs::Nodes::map_function_of))]
+fn map_function(alloc: Global, value: &Value) -> Result<IR, Fault>
+    ensures { Gives result (map_function_of (view value.now)) }
+{
+    let object = object(value, &["function", "input", "op"])?;
+    let input = link_at(object, "input")?;
+    let function = frame_function(alloc, field(object, "function")?)?;
+    Ok(IR::MapFunction { input, function })
+}
+
+/// The sink of an entry; its rows are kept in memory.
+#[tactic(auto, unfolding(crate::specs::Nodes::sink_of))]
+fn sink(value: &Value) -> Result<IR, Fault>
+    ensures { Gives result (sink_of (view value.now)) }
+{
+    let object = object(value, &["input", "op"])?;
+    let input = link_at(object, "input")?;
+    Ok(IR::Sink {
+        input,
+        payload: SinkType::Memory,
+    })
+}
+
+/// The cache of an entry.
+#[tactic(auto, unfolding(crate::specs::Nodes::cache_of))]
+fn cache(value: &Value) -> Result<IR, Fault>
+    ensures { Gives result (cache_of (view value.now)) }
+{
+    let object = object(value, &["hits", "id", "input", "op"])?;
+    let input = link_at(object, "input")?;
+    let id = number_at(object, "id")?;
+    let cache_hits = number_at(object, "hits")?;
+    Ok(IR::Cache {
+        input,
+        id,
+        cache_hits,
+    })
+}
+
+/// The entry that stands for no node.
+#[tactic(auto, unfolding(crate::specs::Nodes::invalid_of))]
+fn invalid(value: &Value) -> Result<IR, Fault>
+    ensures { Gives result (invalid_of (view value.now)) }
+{
+    let _ = object(value, &["op"])?;
+    Ok(IR::Invalid)
+}
+
+/// The node of an entry, by its `op`.
+#[tactic(auto, unfolding(crate::specs::Nodes::node_of))]
+fn node(alloc: Global, value: &Value) -> Result<IR, Fault>
+    ensures { Gives result (node_of (view value.now)) }
+{
+    match text(field(value, "op")?)? {
+        "Slice" => slice_node(value),
+        "Filter" => filter(alloc, value),
+        "Scan" => scan(alloc, value),
+        "DataFrameScan" => frame_scan(alloc, value),
+        "SimpleProjection" => simple_projection(alloc, value),
+        "Select" => select(alloc, value),
+        "HStack" => hstack(alloc, value),
+        "Sort" => sort(alloc, value),
+        "GroupBy" => group_by(alloc, value),
+        "Join" => join(alloc, value),
+        "Distinct" => distinct(alloc, value),
+        "MapFunction" => map_function(alloc, value),
+        "Sink" => sink(value),
+        "Union" => union(alloc, value),
+        "HConcat" => hconcat(alloc, value),
+        "Cache" => cache(value),
+        "Invalid" => invalid(value),
+        _ => Err(Fault::Form),
+    }
+}
+
+/// The node of an entry, where each pass that the flags start is built for it; else `Form`.
+#[tactic(auto, unfolding(crate::specs::Nodes::built_node_of))]
+pub fn built_node(alloc: Global, flags: OptFlags, value: &Value) -> Result<IR, Fault>
+    ensures { Gives result (built_node_of flags (view value.now)) }
+{
+    let node = node(alloc, value)?;
+    built_for(flags, node)
+}

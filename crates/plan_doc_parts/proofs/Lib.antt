@@ -1,0 +1,6 @@
+-- The lemmas of this crate.
+pub mod EntryLemmas
+pub mod PairLemmas
+pub mod NullLemmas
+pub mod DistinctLemmas
+pub mod ColumnLemmas
