@@ -31,8 +31,13 @@ use Rattle.plan_options.specs.declared.join.InequalityOperator.{InequalityOperat
 use Rattle.plan_options.specs.declared.sort.SortMultipleOptions.{SortMultipleOptions}
 use Rattle.plan_options.specs.declared.union.HConcatOptions.{HConcatOptions}
 use Rattle.plan_options.specs.declared.union.UnionOptions.{UnionOptions}
-use Rattle.plan_text.specs.Kinds.{place_of}
-use Rattle.plan_text.specs.Written.{link_data, integer_data, number_data, list_data, nullable_data, field_data, columns_data, names_data, truths_data, output_data, outputs_data, options_data, slice_data, row_index_data, sources_data, literal_data, expr_data, slice_node_data, scan_data, frame_scan_data, made_data, sort_data, group_by_data, second_items, inequalities_data, kind_options_data, join_data, distinct_data, rename_data, numbering_data, unpivot_data, explode_data, frame_function_data, map_function_data, union_data, hconcat_data, cache_data, node_data, plan_data, fault_data}
+use Rattle.plan_text_pieces.specs.Kinds.{place_of}
+use Rattle.plan_text_pieces.specs.Values.{link_data, integer_data, number_data, list_data, nullable_data, field_data, columns_data, names_data, truths_data, output_data, outputs_data, options_data, slice_data, row_index_data, sources_data}
+use Rattle.plan_text_pieces.specs.JoinOptions.{second_items, inequalities_data, kind_options_data}
+use Rattle.plan_text_pieces.specs.Functions.{rename_data, numbering_data, unpivot_data, explode_data, frame_function_data}
+use Rattle.plan_text.specs.Exprs.{literal_data, expr_data}
+use Rattle.plan_text.specs.Nodes.{slice_node_data, scan_data, frame_scan_data, made_data, sort_data, group_by_data, join_data, distinct_data, map_function_data, union_data, hconcat_data, cache_data, node_data}
+use Rattle.plan_text.specs.Written.{plan_data, fault_data}
 
 -- the value has no float
 abbrev IsPlain : Data → Type 0

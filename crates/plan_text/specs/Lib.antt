@@ -1,5 +1,5 @@
 -- The definitions that contracts cite.
-pub mod Lists
-pub mod Kinds
+pub mod Exprs
+pub mod Nodes
+pub mod Rows
 pub mod Written
-pub mod Pieces

@@ -2,15 +2,13 @@
 //! there.
 ghost use Rattle.std.specs.Prelude.{◌≡◌, IfOk};
 ghost use Rattle.plan_expr.specs.declared.aexpr.AExpr.TheVariants.{Agg, Alias, BinaryExpr, Column, Function, Literal, Ternary, Window};
-ghost use Rattle.plan_text.specs.Pieces.{piece_data, Tells};
-ghost use Rattle.plan_text.specs.Written.{expr_data, literal_data};
+ghost use Rattle.plan_text_pieces.specs.Pieces.{piece_data, Tells};
+ghost use Rattle.plan_text.specs.Exprs.{expr_data, literal_data};
 
-use crate::kinds::{agg_name, function_name, literal_type, operator_name};
-use crate::nodes::Entries;
-use crate::pieces::Piece;
 use plan_core::{Items, Node, PlSmallStr};
 use plan_expr::{AExpr, FunctionExpr, IRAggExpr, LiteralValue, Operator};
 use plan_options::FunctionOptions;
+use plan_text_pieces::{Entries, Piece, agg_name, function_name, literal_type, operator_name};
 use std::alloc::{AllocError, Global};
 
 /// The value of a literal: null, a number, a text or a truth value.
@@ -26,7 +24,7 @@ fn literal(value: &LiteralValue) -> Piece<'_>
 }
 
 /// The entries of a column.
-#[tactic(auto, unfolding(crate::specs::Written::expr_data))]
+#[tactic(auto, unfolding(crate::specs::Exprs::expr_data))]
 fn column<'a>(alloc: Global, name: &'a PlSmallStr) -> Result<Entries<'a>, AllocError>
     ensures { IfOk result (λ es. Tells es.items (expr_data (Column name.now))) }
 {
@@ -37,7 +35,7 @@ fn column<'a>(alloc: Global, name: &'a PlSmallStr) -> Result<Entries<'a>, AllocE
 }
 
 /// The entries of a literal.
-#[tactic(auto, unfolding(crate::specs::Written::expr_data))]
+#[tactic(auto, unfolding(crate::specs::Exprs::expr_data))]
 fn literal_value<'a>(alloc: Global, given: &'a LiteralValue) -> Result<Entries<'a>, AllocError>
     ensures { IfOk result (λ es. Tells es.items (expr_data (Literal given.now))) }
 {
@@ -49,7 +47,7 @@ fn literal_value<'a>(alloc: Global, given: &'a LiteralValue) -> Result<Entries<'
 }
 
 /// The entries of an expression under another name.
-#[tactic(auto, unfolding(crate::specs::Written::expr_data))]
+#[tactic(auto, unfolding(crate::specs::Exprs::expr_data))]
 fn alias<'a>(alloc: Global, input: Node, name: &'a PlSmallStr) -> Result<Entries<'a>, AllocError>
     ensures { IfOk result (λ es. Tells es.items (expr_data (Alias input name.now))) }
 {
@@ -61,7 +59,7 @@ fn alias<'a>(alloc: Global, input: Node, name: &'a PlSmallStr) -> Result<Entries
 }
 
 /// The entries of a binary expression.
-#[tactic(auto, unfolding(crate::specs::Written::expr_data))]
+#[tactic(auto, unfolding(crate::specs::Exprs::expr_data))]
 fn binary<'a>(
     alloc: Global,
     left: Node,
@@ -80,7 +78,7 @@ fn binary<'a>(
 }
 
 /// The entries of a choice.
-#[tactic(auto, unfolding(crate::specs::Written::expr_data))]
+#[tactic(auto, unfolding(crate::specs::Exprs::expr_data))]
 fn ternary<'a>(
     alloc: Global,
     predicate: Node,
@@ -98,7 +96,7 @@ fn ternary<'a>(
 }
 
 /// The entries of an aggregate.
-#[tactic(auto, unfolding(crate::specs::Written::expr_data))]
+#[tactic(auto, unfolding(crate::specs::Exprs::expr_data))]
 fn agg<'a>(alloc: Global, given: IRAggExpr) -> Result<Entries<'a>, AllocError>
     ensures { IfOk result (λ es. Tells es.items (expr_data (Agg given))) }
 {
@@ -111,7 +109,7 @@ fn agg<'a>(alloc: Global, given: IRAggExpr) -> Result<Entries<'a>, AllocError>
 }
 
 /// The entries of a function over inputs. Its options are its own, and don't stand in it.
-#[tactic(auto, unfolding(crate::specs::Written::expr_data))]
+#[tactic(auto, unfolding(crate::specs::Exprs::expr_data))]
 fn function<'a>(
     alloc: Global,
     input: &'a Items<Node>,
@@ -128,7 +126,7 @@ fn function<'a>(
 }
 
 /// The entries of a window.
-#[tactic(auto, unfolding(crate::specs::Written::expr_data))]
+#[tactic(auto, unfolding(crate::specs::Exprs::expr_data))]
 fn window<'a>(
     alloc: Global,
     function: Node,
@@ -145,7 +143,7 @@ fn window<'a>(
 
 /// The entries of an expression: of each kind a row or two.
 #[rattlefmt::skip]
-#[tactic(auto, unfolding(crate::specs::Written::expr_data))]
+#[tactic(auto, unfolding(crate::specs::Exprs::expr_data))]
 pub fn expr_entries(alloc: Global, expr: &AExpr) -> Result<Entries<'_>, AllocError>
     ensures { IfOk result (λ es. Tells es.items (expr_data expr.now)) }
 {

@@ -2,17 +2,20 @@
 ghost use Rattle.std.specs.Prelude.{◌≡◌, ◌++◌, IfOk, OnOk, option_copied};
 ghost use Rattle.json.specs.Tree.{json_tokens};
 ghost use Rattle.serde_json.specs.Written.{compact_text, outline};
-ghost use Rattle.plan_text.specs.Written.{expr_data, list_data, listing_data, names_data, node_data, plan_data};
+ghost use Rattle.plan_text_pieces.specs.Values.{list_data, names_data};
+ghost use Rattle.plan_text.specs.Exprs.{expr_data};
+ghost use Rattle.plan_text.specs.Nodes.{node_data};
+ghost use Rattle.plan_text.specs.Written.{listing_data, plan_data};
 
 use crate::exprs::expr_entries;
 use crate::nodes::node_entries;
 use crate::rows::write_rows;
-use crate::writing::{write_names, write_object};
 use json::Writer;
 use plan_core::{Arena, Items, Node, PlSmallStr};
 use plan_expr::AExpr;
 use plan_ir::{IR, PlanCopy};
 use plan_table::Table;
+use plan_text_pieces::{write_names, write_object};
 use std::alloc::{AllocError, Global};
 
 /// Writes the object of an expression.
@@ -26,7 +29,7 @@ fn write_expr(alloc: Global, writer: &mut Writer, expr: &AExpr) -> Result<(), Al
 }
 
 /// Writes the array of the expressions of an arena.
-#[tactic(auto, unfolding(crate::specs::Written::list_data))]
+#[tactic(auto, unfolding(plan_text_pieces::specs::Values::list_data))]
 fn write_exprs(alloc: Global, writer: &mut Writer, arena: &Arena<AExpr>) -> Result<(), AllocError>
     ensures tokens { OnOk result (writer.new.tokens
         ≡ writer.old.tokens ++ json_tokens (outline (list_data expr_data arena.now))) }
@@ -50,7 +53,7 @@ fn write_node(alloc: Global, writer: &mut Writer, node: &IR) -> Result<(), Alloc
 }
 
 /// Writes the array of the nodes of an arena.
-#[tactic(auto, unfolding(crate::specs::Written::list_data))]
+#[tactic(auto, unfolding(plan_text_pieces::specs::Values::list_data))]
 fn write_nodes(alloc: Global, writer: &mut Writer, arena: &Arena<IR>) -> Result<(), AllocError>
     ensures tokens { OnOk result (writer.new.tokens
         ≡ writer.old.tokens ++ json_tokens (outline (list_data node_data arena.now))) }
@@ -81,7 +84,7 @@ fn write_plan(alloc: Global, writer: &mut Writer, plan: &PlanCopy) -> Result<(),
 }
 
 /// Writes the array of lists of names.
-#[tactic(auto, unfolding(crate::specs::Written::list_data))]
+#[tactic(auto, unfolding(plan_text_pieces::specs::Values::list_data))]
 fn write_reads(writer: &mut Writer, reads: &[Items<PlSmallStr>]) -> Result<(), AllocError>
     ensures tokens { OnOk result (writer.new.tokens
         ≡ writer.old.tokens ++ json_tokens (outline (list_data names_data reads.now))) }

@@ -1,28 +1,24 @@
 //! The entries of the objects of nodes, each kind's in a function of its own: keys in byte order, with what stands there.
 ghost use Rattle.std.specs.Prelude.{IfOk};
 ghost use Rattle.plan_ir.specs.declared.ir.IR.TheVariants.{Filter, SimpleProjection};
-ghost use Rattle.plan_text.specs.Pieces.{Tells};
-ghost use Rattle.plan_text.specs.Written.{cache_data, distinct_data, frame_scan_data, group_by_data, hconcat_data, made_data, map_function_data, node_data, scan_data, slice_node_data, sort_data, union_data};
+ghost use Rattle.plan_text_pieces.specs.Pieces.{Tells};
+ghost use Rattle.plan_text.specs.Nodes.{cache_data, distinct_data, frame_scan_data, group_by_data, hconcat_data, made_data, map_function_data, node_data, scan_data, slice_node_data, sort_data, union_data};
 
 use crate::joins::join;
-use crate::kinds::{format_name, keep_name};
-use crate::pieces::{
-    Piece, optional_columns, optional_name, optional_names, optional_number, optional_output,
-    optional_row_index, optional_slice, sources,
-};
 use plan_core::{FileScanOptions, Items, Node, ProjectionOptions, Schema};
 use plan_expr::ExprIR;
 use plan_ir::{FileInfo, FileScan, FunctionIR, IR, ScanSources};
 use plan_options::{
     DistinctOptionsIR, GroupbyOptions, HConcatOptions, SortMultipleOptions, UnionOptions,
 };
+use plan_text_pieces::{
+    Entries, Piece, format_name, keep_name, optional_columns, optional_name, optional_names,
+    optional_number, optional_output, optional_row_index, optional_slice, sources,
+};
 use std::alloc::{AllocError, Global};
 
-/// The entries of an object, in byte order of their keys.
-pub type Entries<'a> = Vec<(&'a str, Piece<'a>)>;
-
 /// The entries of a scan.
-#[tactic(auto, unfolding(crate::specs::Written::scan_data))]
+#[tactic(auto, unfolding(crate::specs::Nodes::scan_data))]
 fn scan<'a>(
     alloc: Global,
     from: &'a ScanSources,
@@ -53,7 +49,7 @@ fn scan<'a>(
 }
 
 /// The entries of a slice.
-#[tactic(auto, unfolding(crate::specs::Written::slice_node_data))]
+#[tactic(auto, unfolding(crate::specs::Nodes::slice_node_data))]
 fn slice<'a>(alloc: Global, input: Node, offset: i64, len: u32) -> Result<Entries<'a>, AllocError>
     ensures { IfOk result (λ es. Tells es.items (slice_node_data input offset len)) }
 {
@@ -66,7 +62,7 @@ fn slice<'a>(alloc: Global, input: Node, offset: i64, len: u32) -> Result<Entrie
 }
 
 /// The entries of a filter.
-#[tactic(auto, unfolding(crate::specs::Written::node_data))]
+#[tactic(auto, unfolding(crate::specs::Nodes::node_data))]
 fn filter<'a>(alloc: Global, input: Node, predicate: &'a ExprIR) -> Result<Entries<'a>, AllocError>
     ensures { IfOk result (λ es. Tells es.items (node_data (Filter input predicate.now))) }
 {
@@ -78,7 +74,7 @@ fn filter<'a>(alloc: Global, input: Node, predicate: &'a ExprIR) -> Result<Entri
 }
 
 /// The entries of a scan of a frame.
-#[tactic(auto, unfolding(crate::specs::Written::frame_scan_data))]
+#[tactic(auto, unfolding(crate::specs::Nodes::frame_scan_data))]
 fn frame_scan<'a>(
     alloc: Global,
     df: Option<u32>,
@@ -96,7 +92,7 @@ fn frame_scan<'a>(
 }
 
 /// The entries of a simple projection.
-#[tactic(auto, unfolding(crate::specs::Written::node_data))]
+#[tactic(auto, unfolding(crate::specs::Nodes::node_data))]
 fn simple_projection<'a>(
     alloc: Global,
     input: Node,
@@ -112,7 +108,7 @@ fn simple_projection<'a>(
 }
 
 /// The entries of a node of this name that makes a column for each expression.
-#[tactic(auto, unfolding(crate::specs::Written::made_data))]
+#[tactic(auto, unfolding(crate::specs::Nodes::made_data))]
 fn made<'a>(
     alloc: Global,
     op: &'a str,
@@ -134,7 +130,7 @@ fn made<'a>(
 }
 
 /// The entries of a sort.
-#[tactic(auto, unfolding(crate::specs::Written::sort_data))]
+#[tactic(auto, unfolding(crate::specs::Nodes::sort_data))]
 fn sort<'a>(
     alloc: Global,
     input: Node,
@@ -156,7 +152,7 @@ fn sort<'a>(
 }
 
 /// The entries of a grouping.
-#[tactic(auto, unfolding(crate::specs::Written::group_by_data))]
+#[tactic(auto, unfolding(crate::specs::Nodes::group_by_data))]
 fn group_by<'a>(
     alloc: Global,
     input: Node,
@@ -181,7 +177,7 @@ fn group_by<'a>(
 }
 
 /// The entries of distinct rows.
-#[tactic(auto, unfolding(crate::specs::Written::distinct_data))]
+#[tactic(auto, unfolding(crate::specs::Nodes::distinct_data))]
 fn distinct<'a>(
     alloc: Global,
     input: Node,
@@ -200,7 +196,7 @@ fn distinct<'a>(
 }
 
 /// The entries of what a function makes of the whole input.
-#[tactic(auto, unfolding(crate::specs::Written::map_function_data))]
+#[tactic(auto, unfolding(crate::specs::Nodes::map_function_data))]
 fn map_function<'a>(
     alloc: Global,
     input: Node,
@@ -216,7 +212,7 @@ fn map_function<'a>(
 }
 
 /// The entries of a union.
-#[tactic(auto, unfolding(crate::specs::Written::union_data))]
+#[tactic(auto, unfolding(crate::specs::Nodes::union_data))]
 fn union<'a>(
     alloc: Global,
     inputs: &'a Items<Node>,
@@ -236,7 +232,7 @@ fn union<'a>(
 }
 
 /// The entries of a concatenation side by side.
-#[tactic(auto, unfolding(crate::specs::Written::hconcat_data))]
+#[tactic(auto, unfolding(crate::specs::Nodes::hconcat_data))]
 fn hconcat<'a>(
     alloc: Global,
     inputs: &'a Items<Node>,
@@ -254,7 +250,7 @@ fn hconcat<'a>(
 }
 
 /// The entries of a cache.
-#[tactic(auto, unfolding(crate::specs::Written::cache_data))]
+#[tactic(auto, unfolding(crate::specs::Nodes::cache_data))]
 fn cache<'a>(alloc: Global, input: Node, id: u32, hits: u32) -> Result<Entries<'a>, AllocError>
     ensures { IfOk result (λ es. Tells es.items (cache_data input id hits)) }
 {
@@ -268,7 +264,7 @@ fn cache<'a>(alloc: Global, input: Node, id: u32, hits: u32) -> Result<Entries<'
 
 /// The entries of a node: of each kind a row or two.
 #[rattlefmt::skip]
-#[tactic(auto, unfolding(crate::specs::Written::node_data))]
+#[tactic(auto, unfolding(crate::specs::Nodes::node_data))]
 pub fn node_entries(alloc: Global, node: &IR) -> Result<Entries<'_>, AllocError>
     ensures { IfOk result (λ es. Tells es.items (node_data node.now)) }
 {

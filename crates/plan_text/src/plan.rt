@@ -1,15 +1,17 @@
 //! The JSON value of a plan.
 ghost use Rattle.std.specs.Prelude.{◌≡◌, IfOk};
 ghost use Rattle.serde_json.specs.View.{view};
-ghost use Rattle.plan_text.specs.Written.{expr_data, list_data, node_data, plan_data};
+ghost use Rattle.plan_text_pieces.specs.Values.{list_data};
+ghost use Rattle.plan_text.specs.Exprs.{expr_data};
+ghost use Rattle.plan_text.specs.Nodes.{node_data};
+ghost use Rattle.plan_text.specs.Written.{plan_data};
 
 use crate::exprs::expr_entries;
-use crate::lists::each_entry;
 use crate::nodes::node_entries;
-use crate::values::object;
 use plan_core::Arena;
 use plan_expr::AExpr;
 use plan_ir::{IR, PlanCopy};
+use plan_text_pieces::{each_entry, object};
 use serde_json::{Value, json};
 use std::alloc::{AllocError, Global};
 

@@ -2,11 +2,12 @@
 ghost use Rattle.std.specs.Prelude.{◌≡◌, ◌++◌, OnOk, option_copied};
 ghost use Rattle.json.specs.Tree.{json_tokens};
 ghost use Rattle.serde_json.specs.Written.{outline};
-ghost use Rattle.plan_text.specs.Written.{column_data, list_data, rows_data, single_data, table_data, value_data};
+ghost use Rattle.plan_text_pieces.specs.Values.{list_data};
+ghost use Rattle.plan_text.specs.Rows.{column_data, rows_data, single_data, table_data, value_data};
 
-use crate::kinds::type_name;
 use json::Writer;
 use plan_table::{AnyValue, Column, Columns, PlainValue, Table};
+use plan_text_pieces::type_name;
 use std::alloc::AllocError;
 
 /// Writes a single value: null, a whole number, a text or a truth value.
@@ -24,7 +25,7 @@ fn write_single(writer: &mut Writer, value: &PlainValue) -> Result<(), AllocErro
 }
 
 /// Writes the array of single values.
-#[tactic(auto, unfolding(crate::specs::Written::list_data))]
+#[tactic(auto, unfolding(plan_text_pieces::specs::Values::list_data))]
 fn write_singles(writer: &mut Writer, values: &[PlainValue]) -> Result<(), AllocError>
     ensures tokens { OnOk result (writer.new.tokens
         ≡ writer.old.tokens ++ json_tokens (outline (list_data single_data values.now))) }
@@ -53,7 +54,7 @@ fn write_value(writer: &mut Writer, value: &AnyValue) -> Result<(), AllocError>
 }
 
 /// Writes the array of values.
-#[tactic(auto, unfolding(crate::specs::Written::list_data))]
+#[tactic(auto, unfolding(plan_text_pieces::specs::Values::list_data))]
 fn write_values(writer: &mut Writer, values: &[AnyValue]) -> Result<(), AllocError>
     ensures tokens { OnOk result (writer.new.tokens
         ≡ writer.old.tokens ++ json_tokens (outline (list_data value_data values.now))) }
@@ -80,7 +81,7 @@ fn write_column(writer: &mut Writer, column: &Column) -> Result<(), AllocError>
 }
 
 /// Writes the array of columns, in order.
-#[tactic(auto, unfolding(crate::specs::Written::list_data))]
+#[tactic(auto, unfolding(plan_text_pieces::specs::Values::list_data))]
 fn write_columns(writer: &mut Writer, columns: &Columns) -> Result<(), AllocError>
     ensures tokens { OnOk result (writer.new.tokens
         ≡ writer.old.tokens ++ json_tokens (outline (list_data column_data columns.now))) }

@@ -3,16 +3,16 @@ ghost use Rattle.std.specs.Prelude.{◌≡◌, IfOk, Some, false, option_copied,
 ghost use Rattle.serde_json.specs.Read.{read};
 ghost use Rattle.serde_json.specs.View.{view};
 ghost use Rattle.serde_json.specs.Written.{compact_text, has_float};
-ghost use Rattle.plan_text.specs.Written.{fault_data, line_of, link_data, nullable_data, plan_data, plan_text, listing_text, error_text, schema_data, schema_text};
+ghost use Rattle.plan_text_pieces.specs.Values.{link_data, nullable_data};
+ghost use Rattle.plan_text.specs.Written.{fault_data, line_of, plan_data, plan_text, listing_text, error_text, schema_data, schema_text};
 
-use crate::kinds::{fault_name, place};
 use crate::listing::listing_bytes;
 use crate::plan::plan as plan_value;
-use crate::writing::write_columns;
 use json::Writer;
 use plan_core::{Items, Node, PlSmallStr, PolarsError, Schema};
 use plan_ir::PlanCopy;
 use plan_table::Table;
+use plan_text_pieces::{fault_name, place, write_columns};
 use serde_json::{Value, json};
 use std::alloc::{AllocError, Global};
 

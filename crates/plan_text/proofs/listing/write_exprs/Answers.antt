@@ -1,6 +1,6 @@
 -- A turn writes the next entry.
 use Rattle.std.proofs.Common.{◌∙◌}
-use Rattle.plan_text.specs.Written.{expr_data}
+use Rattle.plan_text.specs.Exprs.{expr_data}
 use Rattle.plan_text.proofs.TextLemmas.{next_item}
 use Rattle.plan_text.proofs.listing.write_exprs.Goals as goal
 

@@ -1,6 +1,6 @@
 -- A turn writes the next entry.
 use Rattle.std.proofs.Common.{◌∙◌}
-use Rattle.plan_text.specs.Written.{node_data}
+use Rattle.plan_text.specs.Nodes.{node_data}
 use Rattle.plan_text.proofs.TextLemmas.{next_item}
 use Rattle.plan_text.proofs.listing.write_nodes.Goals as goal
 

@@ -3,7 +3,8 @@ use Rattle.std.proofs.Common.{◌≡◌, ◌++◌, map, drop}
 use Rattle.json.specs.Tree.{json_tokens, items_tokens}
 use Rattle.serde_json.specs.View.{items_of}
 use Rattle.serde_json.specs.Written.{outline, items_outline}
-use Rattle.plan_text.specs.Written.{list_data, node_data}
+use Rattle.plan_text_pieces.specs.Values.{list_data}
+use Rattle.plan_text.specs.Nodes.{node_data}
 use Rattle.plan_text.proofs.listing.write_nodes.Given as goal
 
 abbrev pub invariant-loop-i : goal.invariant-loop-i

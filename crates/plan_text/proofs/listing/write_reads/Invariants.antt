@@ -3,7 +3,7 @@ use Rattle.std.proofs.Common.{◌≡◌, ◌++◌, map, drop}
 use Rattle.json.specs.Tree.{json_tokens, items_tokens}
 use Rattle.serde_json.specs.View.{items_of}
 use Rattle.serde_json.specs.Written.{outline, items_outline}
-use Rattle.plan_text.specs.Written.{list_data, names_data}
+use Rattle.plan_text_pieces.specs.Values.{list_data, names_data}
 use Rattle.plan_text.proofs.listing.write_reads.Given as goal
 
 abbrev pub invariant-loop-names : goal.invariant-loop-names

@@ -3,7 +3,8 @@ use Rattle.std.proofs.Common.{◌≡◌, ◌++◌, map}
 use Rattle.json.specs.Tree.{json_tokens, items_tokens}
 use Rattle.serde_json.specs.View.{items_of}
 use Rattle.serde_json.specs.Written.{outline, items_outline}
-use Rattle.plan_text.specs.Written.{column_data, list_data}
+use Rattle.plan_text_pieces.specs.Values.{list_data}
+use Rattle.plan_text.specs.Rows.{column_data}
 use Rattle.plan_text.proofs.rows.write_columns.Given as goal
 
 abbrev pub invariant-loop-column : goal.invariant-loop-column

@@ -1,0 +1,13 @@
+-- What is written, and then what is left, are the tokens of the columns.
+use Rattle.std.proofs.Common.{◌≡◌, ◌++◌, map}
+use Rattle.json.specs.Tree.{json_tokens, items_tokens}
+use Rattle.serde_json.specs.View.{items_of}
+use Rattle.serde_json.specs.Written.{outline, items_outline}
+use Rattle.plan_text_pieces.specs.Values.{columns_data, field_data}
+use Rattle.plan_text_pieces.proofs.writing.write_columns.Given as goal
+
+abbrev pub invariant-loop-name : goal.invariant-loop-name
+invariant-loop-name l = record {
+  before : l.writer.before ≡ l.fn.writer.before;
+  tokens : l.writer.tokens ++ items_tokens (items_outline (items_of (map field_data l.name-iterator))) ≡ l.fn.writer.tokens ++ json_tokens (outline (columns_data l.schema));
+}

@@ -1,0 +1,248 @@
+//! The objects of functions of whole frames, as JSON values and as text.
+ghost use Rattle.std.specs.Prelude.{◌≡◌, ◌++◌, IfOk, OnOk};
+ghost use Rattle.json.specs.Tree.{json_tokens};
+ghost use Rattle.serde_json.specs.Data.{string};
+ghost use Rattle.serde_json.specs.View.{view};
+ghost use Rattle.serde_json.specs.Written.{outline};
+ghost use Rattle.plan_text_pieces.specs.Values.{nullable_data, number_data};
+ghost use Rattle.plan_text_pieces.specs.Functions.{explode_data, frame_function_data, numbering_data, rename_data, unpivot_data};
+
+use crate::values::names;
+use crate::writing::write_names;
+use json::Writer;
+use plan_core::PlSmallStr;
+use plan_ir::{FunctionIR, UnpivotArgsIR};
+use serde_json::{Value, json};
+use std::alloc::{AllocError, Global};
+
+/// The object of a renaming.
+#[tactic(auto, unfolding(crate::specs::Functions::rename_data))]
+fn rename(
+    alloc: Global,
+    existing: &[PlSmallStr],
+    new: &[PlSmallStr],
+    swapping: bool,
+) -> Result<Value, AllocError>
+    ensures { IfOk result (λ v. view v ≡ rename_data existing.now new.now swapping) }
+{
+    let existing = names(alloc, existing)?;
+    let new = names(alloc, new)?;
+    json!(in alloc; {"existing": existing, "new": new, "swapping": swapping})
+}
+
+/// A number, or null.
+fn optional_number(given: Option<u32>) -> Value
+    ensures { view result ≡ nullable_data number_data given }
+{
+    match given {
+        None => Value::Null,
+        Some(number) => Value::from(number),
+    }
+}
+
+/// The object of a numbering of rows.
+#[tactic(auto, unfolding(crate::specs::Functions::numbering_data))]
+fn numbering(alloc: Global, name: &str, offset: Option<u32>) -> Result<Value, AllocError>
+    ensures { IfOk result (λ v. view v ≡ numbering_data name.now offset) }
+{
+    let first = optional_number(offset);
+    json!(in alloc; {"name": name, "offset": first})
+}
+
+/// A name, or null.
+fn optional_name(alloc: Global, given: &Option<PlSmallStr>) -> Result<Value, AllocError>
+    ensures { IfOk result (λ v. view v ≡ nullable_data string given.now) }
+{
+    match given {
+        None => Ok(Value::Null),
+        Some(name) => Ok(Value::String(String::from_str(alloc, name.as_str())?)),
+    }
+}
+
+/// The object of an unpivot.
+#[tactic(auto, unfolding(crate::specs::Functions::unpivot_data))]
+fn unpivot(alloc: Global, args: &UnpivotArgsIR) -> Result<Value, AllocError>
+    ensures { IfOk result (λ v. view v ≡ unpivot_data args.now) }
+{
+    let index = names(alloc, args.index.as_slice())?;
+    let on = names(alloc, args.on.as_slice())?;
+    let value = optional_name(alloc, &args.value_name)?;
+    let variable = optional_name(alloc, &args.variable_name)?;
+    json!(in alloc; {"index": index, "on": on, "value_name": value, "variable_name": variable})
+}
+
+/// The object of an explode.
+#[tactic(auto, unfolding(crate::specs::Functions::explode_data))]
+fn explode(alloc: Global, columns: &[PlSmallStr]) -> Result<Value, AllocError>
+    ensures { IfOk result (λ v. view v ≡ explode_data columns.now) }
+{
+    let columns = names(alloc, columns)?;
+    json!(in alloc; {"columns": columns})
+}
+
+/// The object of a function, under its name.
+#[tactic(auto, unfolding(crate::specs::Functions::frame_function_data))]
+pub fn frame_function(alloc: Global, function: &FunctionIR) -> Result<Value, AllocError>
+    ensures { IfOk result (λ v. view v ≡ frame_function_data function.now) }
+{
+    match function {
+        FunctionIR::Rename {
+            existing,
+            new,
+            swapping,
+        } => {
+            let object = rename(alloc, existing.as_slice(), new.as_slice(), *swapping)?;
+            json!(in alloc; {"Rename": object})
+        }
+        FunctionIR::RowIndex { name, offset } => {
+            let object = numbering(alloc, name.as_str(), *offset)?;
+            json!(in alloc; {"RowIndex": object})
+        }
+        FunctionIR::Unpivot { args } => {
+            let object = unpivot(alloc, args)?;
+            json!(in alloc; {"Unpivot": object})
+        }
+        FunctionIR::Explode { columns } => {
+            let object = explode(alloc, columns.as_slice())?;
+            json!(in alloc; {"Explode": object})
+        }
+    }
+}
+
+/// Writes the object of a renaming.
+#[tactic(auto, unfolding(crate::specs::Functions::rename_data))]
+fn write_rename(
+    writer: &mut Writer,
+    existing: &[PlSmallStr],
+    new: &[PlSmallStr],
+    swapping: bool,
+) -> Result<(), AllocError>
+    ensures tokens { OnOk result (writer.new.tokens
+        ≡ writer.old.tokens ++ json_tokens (outline (rename_data existing.now new.now swapping))) }
+    ensures before { OnOk result (writer.new.before ≡ writer.old.before) }
+{
+    writer.begin_object()?;
+    writer.key("existing")?;
+    write_names(writer, existing)?;
+    writer.key("new")?;
+    write_names(writer, new)?;
+    writer.key("swapping")?;
+    writer.boolean(swapping)?;
+    writer.end_object()
+}
+
+/// Writes a number, or null.
+fn write_optional_number(writer: &mut Writer, given: Option<u32>) -> Result<(), AllocError>
+    ensures tokens { OnOk result (writer.new.tokens
+        ≡ writer.old.tokens ++ json_tokens (outline (nullable_data number_data given))) }
+    ensures before { OnOk result (writer.new.before ≡ writer.old.before) }
+{
+    match given {
+        None => writer.null(),
+        Some(number) => writer.u64(number as u64),
+    }
+}
+
+/// Writes the object of a numbering of rows.
+#[tactic(auto, unfolding(crate::specs::Functions::numbering_data))]
+fn write_numbering(writer: &mut Writer, name: &str, offset: Option<u32>) -> Result<(), AllocError>
+    ensures tokens { OnOk result (writer.new.tokens
+        ≡ writer.old.tokens ++ json_tokens (outline (numbering_data name.now offset))) }
+    ensures before { OnOk result (writer.new.before ≡ writer.old.before) }
+{
+    writer.begin_object()?;
+    writer.key("name")?;
+    writer.string(name)?;
+    writer.key("offset")?;
+    write_optional_number(writer, offset)?;
+    writer.end_object()
+}
+
+/// Writes a name, or null.
+fn write_optional_name(writer: &mut Writer, given: &Option<PlSmallStr>) -> Result<(), AllocError>
+    ensures tokens { OnOk result (writer.new.tokens
+        ≡ writer.old.tokens ++ json_tokens (outline (nullable_data string given.now))) }
+    ensures before { OnOk result (writer.new.before ≡ writer.old.before) }
+{
+    match given {
+        None => writer.null(),
+        Some(name) => writer.string(name.as_str()),
+    }
+}
+
+/// Writes the object of an unpivot.
+#[tactic(auto, unfolding(crate::specs::Functions::unpivot_data))]
+fn write_unpivot(
+    writer: &mut Writer,
+    on: &[PlSmallStr],
+    index: &[PlSmallStr],
+    variable_name: &Option<PlSmallStr>,
+    value_name: &Option<PlSmallStr>,
+) -> Result<(), AllocError>
+    ensures tokens { OnOk result (writer.new.tokens
+        ≡ writer.old.tokens ++ json_tokens (outline (unpivot_data (record { on = on.now; index = index.now; variable_name = variable_name.now; value_name = value_name.now })))) }
+    ensures before { OnOk result (writer.new.before ≡ writer.old.before) }
+{
+    writer.begin_object()?;
+    writer.key("index")?;
+    write_names(writer, index)?;
+    writer.key("on")?;
+    write_names(writer, on)?;
+    writer.key("value_name")?;
+    write_optional_name(writer, value_name)?;
+    writer.key("variable_name")?;
+    write_optional_name(writer, variable_name)?;
+    writer.end_object()
+}
+
+/// Writes the object of an explode.
+#[tactic(auto, unfolding(crate::specs::Functions::explode_data))]
+fn write_explode(writer: &mut Writer, columns: &[PlSmallStr]) -> Result<(), AllocError>
+    ensures tokens { OnOk result (writer.new.tokens
+        ≡ writer.old.tokens ++ json_tokens (outline (explode_data columns.now))) }
+    ensures before { OnOk result (writer.new.before ≡ writer.old.before) }
+{
+    writer.begin_object()?;
+    writer.key("columns")?;
+    write_names(writer, columns)?;
+    writer.end_object()
+}
+
+/// Writes the object of a function, under its name.
+#[tactic(auto, unfolding(crate::specs::Functions::frame_function_data))]
+pub fn write_frame_function(writer: &mut Writer, function: &FunctionIR) -> Result<(), AllocError>
+    ensures tokens { OnOk result (writer.new.tokens
+        ≡ writer.old.tokens ++ json_tokens (outline (frame_function_data function.now))) }
+    ensures before { OnOk result (writer.new.before ≡ writer.old.before) }
+{
+    writer.begin_object()?;
+    match function {
+        FunctionIR::Rename {
+            existing,
+            new,
+            swapping,
+        } => {
+            writer.key("Rename")?;
+            write_rename(writer, existing.as_slice(), new.as_slice(), *swapping)?;
+        }
+        FunctionIR::RowIndex { name, offset } => {
+            writer.key("RowIndex")?;
+            write_numbering(writer, name.as_str(), *offset)?;
+        }
+        FunctionIR::Unpivot { args } => {
+            writer.key("Unpivot")?;
+            write_unpivot(
+                writer,
+                args.on.as_slice(),
+                args.index.as_slice(),
+                &args.variable_name,
+                &args.value_name,
+            )?;
+        }
+        FunctionIR::Explode { columns } => {
+            writer.key("Explode")?;
+            write_explode(writer, columns.as_slice())?;
+        }
+    }
+    writer.end_object()
+}

@@ -1,0 +1,83 @@
+//! What only some kinds of joins are told, as a JSON value and as text.
+ghost use Rattle.std.specs.Prelude.{◌≡◌, ◌++◌, IfOk, OnOk};
+ghost use Rattle.json.specs.Tree.{json_tokens};
+ghost use Rattle.serde_json.specs.View.{view};
+ghost use Rattle.serde_json.specs.Written.{outline};
+ghost use Rattle.plan_text_pieces.specs.JoinOptions.{inequalities_data, kind_options_data};
+
+use crate::kinds::inequality_name;
+use crate::values::output;
+use crate::writing::write_output;
+use json::Writer;
+use plan_join::JoinTypeOptionsIR;
+use plan_options::IEJoinOptions;
+use serde_json::{Value, json};
+use std::alloc::{AllocError, Global};
+
+/// The array of the inequalities that keys meet, one for each pair.
+#[tactic(auto, unfolding(crate::specs::JoinOptions::inequalities_data))]
+fn inequalities(alloc: Global, given: IEJoinOptions) -> Result<Value, AllocError>
+    ensures { IfOk result (λ v. view v ≡ inequalities_data given) }
+{
+    let first = inequality_name(given.operator1);
+    match given.operator2 {
+        None => json!(in alloc; [first]),
+        Some(second) => json!(in alloc; [first, inequality_name(second)]),
+    }
+}
+
+/// The object of what only some kinds of joins are told.
+#[tactic(auto, unfolding(crate::specs::JoinOptions::kind_options_data))]
+pub fn kind_options(alloc: Global, given: &JoinTypeOptionsIR) -> Result<Value, AllocError>
+    ensures { IfOk result (λ v. view v ≡ kind_options_data given.now) }
+{
+    match given {
+        JoinTypeOptionsIR::IEJoin(operators) => {
+            let array = inequalities(alloc, *operators)?;
+            json!(in alloc; {"ie": array})
+        }
+        JoinTypeOptionsIR::Cross { predicate } => {
+            let array = output(alloc, predicate)?;
+            json!(in alloc; {"cross": array})
+        }
+    }
+}
+
+/// Writes the array of the inequalities that keys meet, one for each pair.
+#[tactic(auto, unfolding(crate::specs::JoinOptions::inequalities_data))]
+fn write_inequalities(writer: &mut Writer, given: IEJoinOptions) -> Result<(), AllocError>
+    ensures tokens { OnOk result (writer.new.tokens
+        ≡ writer.old.tokens ++ json_tokens (outline (inequalities_data given))) }
+    ensures before { OnOk result (writer.new.before ≡ writer.old.before) }
+{
+    writer.begin_array()?;
+    writer.string(inequality_name(given.operator1))?;
+    match given.operator2 {
+        None => writer.end_array(),
+        Some(second) => {
+            writer.string(inequality_name(second))?;
+            writer.end_array()
+        }
+    }
+}
+
+/// Writes the object of what only some kinds of joins are told.
+#[tactic(auto, unfolding(crate::specs::JoinOptions::kind_options_data))]
+pub fn write_kind_options(writer: &mut Writer, given: &JoinTypeOptionsIR) -> Result<(), AllocError>
+    ensures tokens { OnOk result (writer.new.tokens
+        ≡ writer.old.tokens ++ json_tokens (outline (kind_options_data given.now))) }
+    ensures before { OnOk result (writer.new.before ≡ writer.old.before) }
+{
+    writer.begin_object()?;
+    match given {
+        JoinTypeOptionsIR::IEJoin(operators) => {
+            writer.key("ie")?;
+            write_inequalities(writer, *operators)?;
+        }
+        JoinTypeOptionsIR::Cross { predicate } => {
+            writer.key("cross")?;
+            write_output(writer, predicate)?;
+        }
+    }
+    writer.end_object()
+}
