@@ -32,7 +32,7 @@ left_closed op kids others closed = ap (λ (b : Bool). left_below b kids others)
 -- a node that goes back as it was, over what was below it
 module _ (a b : List IR) (ex : List AExpr) (n : Node) (p d : IR) (e : slice_get a n.0 ≡ Some p) (taken : b ≡ slice_set a n.0 d) where
   -- is pruned, where it is closed and would be rebuilt so
-  pub goes_back : (top : Bool) (asked : List Name) → is_closed (op_at ex p) ≡ true → is_invalid p ≡ false → ((kids : Roses (Unit {0}) Op) → rose tt (op_at ex p) kids ≡ rebuilt top asked (op_at ex p) kids) → PrunesAt top asked a (slice_set b n.0 p) ex n
+  pub goes_back : (top : Bool) (asked : List Name) → is_closed (op_at ex p) ≡ true → is_invalid p ≡ false → ((kids : Roses (Unit {0}) Op) → rose tt (op_at ex p) kids ≡ rebuilt top asked (op_at ex p) kids) → PrunesAt top asked a (slice_set b n.0 p) ex ex n
   goes_back top asked closed valid is t h =
       let o = opened plan_shape a n p t h e in
       let under : StandsOnce plan_shape b (inputs_of p) o.kids = rw taken (StandsOnce-set plan_shape a (inputs_of p) o.kids n.0 d o.inputs o.above) in
@@ -62,7 +62,7 @@ module _ (a b : List IR) (ex : List AExpr) (n : Node) (p d : IR) (e : slice_get 
       marked false false z true e = refl
 
 -- a cache goes back, under a projection to the asked names
-cache_covered : (top : Bool) (asked : List Name) (a b : List IR) (ex : List AExpr) (n i : Node) (id hits : ℕ) (d : IR) → slice_get a n.0 ≡ Some (Cache i id hits) → b ≡ slice_set a n.0 d → PrunesAt top asked a (with_columns_on (asked_columns asked (columns_at b ex i)) b n (Cache i id hits)) ex n
+cache_covered : (top : Bool) (asked : List Name) (a b : List IR) (ex : List AExpr) (n i : Node) (id hits : ℕ) (d : IR) → slice_get a n.0 ≡ Some (Cache i id hits) → b ≡ slice_set a n.0 d → PrunesAt top asked a (with_columns_on (asked_columns asked (columns_at b ex i)) b n (Cache i id hits)) ex ex n
 cache_covered top [] a b ex n i id hits d e taken t h = goes_back a b ex n (Cache i id hits) d e taken top [] refl refl (λ kids. refl) t h
 cache_covered top (x ∷ asked) a b ex n i id hits d e taken t h =
     let p : IR = Cache i id hits in
@@ -113,7 +113,7 @@ module _ (asked : List Name) (a b : List IR) (ex : List AExpr) (n : Node) (q d :
       let x = closed_parts columns o q p e in
       back ∙ ap (λ (u : Option Columns). with_columns_on u b n q) x.0 ∙ ap (with_columns_on o b n) x.1
 
-  closed_pruned : (p : IR) → slice_get a n.0 ≡ Some p → Closed columns q ≡ step_of b ex asked p → PrunesAt top asked a z ex n
+  closed_pruned : (p : IR) → slice_get a n.0 ≡ Some p → Closed columns q ≡ step_of b ex asked p → PrunesAt top asked a z ex ex n
   closed_pruned (Cache i id hits) e is = rw (put_closed _ _ is) (cache_covered top asked a b ex n i id hits d e taken)
   closed_pruned (Join left right schema left_on right_on options) e is =
       rw (put_closed _ _ is) (goes_back a b ex n (Join left right schema left_on right_on options) d e taken top asked refl refl (λ kids. refl))
@@ -135,7 +135,7 @@ module _ (asked : List Name) (a b : List IR) (ex : List AExpr) (n : Node) (q d :
 
 -- and marked: what is below it isn't looked at
 module _ (asked : List Name) (a b : List IR) (ex : List AExpr) (n : Node) (p q d : IR) (columns : Option Columns) (e : slice_get a n.0 ≡ Some p) (taken : b ≡ slice_set a n.0 d) (step : Closed columns q ≡ step_of b ex asked p) where
-  pub closed_step : (top : Bool) (z : List IR) → z ≡ with_columns_on columns b n q → PrunesAt top asked a z ex n
+  pub closed_step : (top : Bool) (z : List IR) → z ≡ with_columns_on columns b n q → PrunesAt top asked a z ex ex n
   closed_step top z back = closed_pruned asked a b ex n q d columns taken top z back p e step
 
   pub closed_mark : (before mid : Bool) → mid ≡ (before || is_count (op_at ex p)) → MarksAt before mid a ex n

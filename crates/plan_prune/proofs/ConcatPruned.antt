@@ -16,7 +16,7 @@ use Rattle.plan_expr.specs.declared.aexpr.AExpr.{AExpr}
 use Rattle.plan_expr.specs.Leaves.{Name}
 use Rattle.plan_ir.specs.declared.ir.IR.{IR}
 use Rattle.plan_ir.specs.declared.ir.IR.TheVariants as nodes
-use Rattle.plan_ir.specs.Parts.{plan_shape}
+use Rattle.plan_ir.specs.Parts.{plan_shape, roots_in}
 use Rattle.plan_ir.specs.Plans.{Op, op_at, plans_of, bare, hconcat}
 use Rattle.plan_meaning.specs.Typing.{first_schema}
 use Rattle.plan_frame.specs.Beside.{in_a_row, side_by_side, with_new}
@@ -24,7 +24,8 @@ use Rattle.plan_schema.specs.Stored.{stored_all}
 use Rattle.plan_narrowing.specs.Pruned.{asks_plans, held_names, pruned_all, pruned_hconcat, rebuilt, top_below}
 use Rattle.plan_narrowing.proofs.ListSteps.{take-next}
 use Rattle.plan_prune.specs.Kept.{beside_after, is_some_name}
-use Rattle.plan_prune.specs.Prunes.{Prunes, PrunesEach, covered_by}
+use Rattle.plan_renamed.specs.Renamed.{IsLonger}
+use Rattle.plan_prune.specs.Prunes.{StandExprs, Prunes, PrunesEach, covered_by}
 use Rattle.plan_prune.specs.Steps.{columns_at, held_at}
 use Rattle.plan_prune.proofs.EachLemmas.{each_finish}
 
@@ -56,34 +57,34 @@ module _ (lp : List IR) (ex : List AExpr) where
   held_all asked ns f h = held_map asked ns ∙ ap (map (held_names asked)) (columns_all ns f h)
 
 -- a concatenation goes back over its inputs, once all are pruned
-module _ (top low : Bool) (asked : List Name) (covers : Option (List Name)) (lists : List (List Name)) (a b c z : List IR) (ex : List AExpr) (n : Node) (inputs : List Node) (schema : Columns) (options : HConcatOptions) (d : IR) (taken : b ≡ slice_set a n.0 d) (back : z ≡ slice_set c n.0 (nodes.HConcat inputs (beside_after (is_some_name asked) (map (columns_at c ex) inputs) schema) options)) (low_is : low ≡ top_below top (op_at ex (nodes.HConcat inputs schema options))) (lists_are : lists ≡ held_at b ex asked inputs) (covers_is : covers ≡ None) (below : (kids : Trees IR) → StandsOnce plan_shape b inputs kids → PrunesEach low covers lists b c ex inputs kids) where
+module _ (top low : Bool) (asked : List Name) (covers : Option (List Name)) (lists : List (List Name)) (a b c z : List IR) (ex grown : List AExpr) (longer : IsLonger ex grown) (n : Node) (inputs : List Node) (schema : Columns) (options : HConcatOptions) (d : IR) (taken : b ≡ slice_set a n.0 d) (back : z ≡ slice_set c n.0 (nodes.HConcat inputs (beside_after (is_some_name asked) (map (columns_at c grown) inputs) schema) options)) (low_is : low ≡ top_below top (op_at ex (nodes.HConcat inputs schema options))) (lists_are : lists ≡ held_at b ex asked inputs) (covers_is : covers ≡ None) (below : (kids : Trees IR) → StandsOnce plan_shape b inputs kids → StandExprs ex (roots_in kids) → PrunesEach low covers lists b c ex grown inputs kids) where
   abbrev whole : IR
   whole = nodes.HConcat inputs schema options
 
   abbrev left : Columns
-  left = beside_after (is_some_name asked) (map (columns_at c ex) inputs) schema
+  left = beside_after (is_some_name asked) (map (columns_at c grown) inputs) schema
 
   stored : (names : List Name) (f : Roses (Unit {0}) Op) → rose tt (hconcat (beside_after (is_some_name names) (stored_all f) schema) options) f ≡ pruned_hconcat names schema options f
   stored [] f = refl
   stored (x ∷ names) f = refl
 
-  concat_built : (f : Trees IR) (s : StandsOnce plan_shape b inputs f) (x : PrunesEach low covers lists b c ex inputs f) → rose tt (op_at ex (nodes.HConcat inputs left options)) (bare (plans_of ex x.trees)) ≡ rebuilt top asked (op_at ex (nodes.HConcat inputs schema options)) (pruned_all (top_below top (op_at ex (nodes.HConcat inputs schema options))) (asks_plans asked (op_at ex (nodes.HConcat inputs schema options)) (bare (plans_of ex f))) (bare (plans_of ex f)))
+  concat_built : (f : Trees IR) (s : StandsOnce plan_shape b inputs f) (x : PrunesEach low covers lists b c ex grown inputs f) → rose tt (op_at ex (nodes.HConcat inputs left options)) (bare (plans_of grown x.trees)) ≡ rebuilt top asked (op_at ex (nodes.HConcat inputs schema options)) (pruned_all (top_below top (op_at ex (nodes.HConcat inputs schema options))) (asks_plans asked (op_at ex (nodes.HConcat inputs schema options)) (bare (plans_of ex f))) (bare (plans_of ex f)))
   concat_built f s x =
       let kids : Roses (Unit {0}) Op = bare (plans_of ex f) in
-      let made : Roses (Unit {0}) Op = bare (plans_of ex x.trees) in
+      let made : Roses (Unit {0}) Op = bare (plans_of grown x.trees) in
       let under : Bool = top_below top (op_at ex whole) in
       let plans : Roses (Unit {0}) Op = pruned_all under (map (held_names asked) (stored_all kids)) kids in
-      ap (λ (ss : List Columns). rose tt (hconcat (beside_after (is_some_name asked) ss schema) options) made) (columns_all c ex inputs x.trees x.rewrites.stands)
+      ap (λ (ss : List Columns). rose tt (hconcat (beside_after (is_some_name asked) ss schema) options) made) (columns_all c grown inputs x.trees x.rewrites.stands)
       ∙ stored asked made
       ∙ ap (pruned_hconcat asked schema options)
       (x.pruned
       ∙ ap₂ (λ (w : Bool) (l : List (List Name)). covered_by covers (pruned_all w l kids)) low_is (lists_are ∙ held_all b ex asked inputs f s)
       ∙ ap (λ (o : Option (List Name)). covered_by o plans) covers_is)
 
-  pub concat_pruned : (t : Trees IR) → StandsOnce plan_shape a (n ∷ []) t → slice_get a n.0 ≡ Some (nodes.HConcat inputs schema options) → Prunes top asked a z ex n t
-  concat_pruned t h e =
-      each_finish top low asked covers lists a b c z ex n whole (nodes.HConcat inputs left options) d t h e taken back refl refl (λ before after y. y) refl
-      (λ kids s. let y = below kids s in (y, concat_built kids s y))
+  pub concat_pruned : (t : Trees IR) → StandsOnce plan_shape a (n ∷ []) t → StandExprs ex (roots_in t) → slice_get a n.0 ≡ Some (nodes.HConcat inputs schema options) → Prunes top asked a z ex grown n t
+  concat_pruned t h s e =
+      each_finish top low asked covers lists a b c z ex grown n whole (nodes.HConcat inputs left options) d t longer h s e taken back refl refl (λ before after y. y) refl
+      (λ kids under stand. let y = below kids under stand in (y, concat_built kids under y))
 
 -- columns with one more whose name none has, and with one whose name one has
 pub new_last : (s : Columns) (a : Name) (d : DataType) → has (names_of s) a ≡ false → with_type s a d ≡ with_new s (a, d)

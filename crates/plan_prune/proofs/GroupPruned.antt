@@ -56,9 +56,9 @@ module _ (ex : List AExpr) where
   stacked_named (a ∷ asked) es = asked_named ex (a ∷ asked) es
 
   -- the numbers of keys and of the aggregates that are kept take the place of all
-  pub grouped_place : (asked : List Name) (keys aggs : List ExprIR) → TakePlace ex (numbers_of (keys ++ stacked_at asked aggs)) (numbers_of (keys ++ aggs))
+  pub grouped_place : (asked : List Name) (keys aggs : List ExprIR) → TakePlace ex ex (numbers_of (keys ++ stacked_at asked aggs)) (numbers_of (keys ++ aggs))
   grouped_place asked keys aggs =
-      rw (numbers_append ex keys (stacked_at asked aggs), numbers_append ex keys aggs) (place_behind ex (numbers_of keys) (numbers_of (stacked_at asked aggs)) (numbers_of aggs) (stacked_place ex asked aggs))
+      rw (numbers_append ex keys (stacked_at asked aggs), numbers_append ex keys aggs) (place_behind ex ex (numbers_of keys) (numbers_of (stacked_at asked aggs)) (numbers_of aggs) (stacked_place ex asked aggs))
 
   -- each of the keys stands, and each of the aggregates that are kept
   module _ (keys aggs : List ExprIR) (h : StandExprs ex (numbers_of (keys ++ aggs))) where

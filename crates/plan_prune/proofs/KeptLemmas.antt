@@ -28,7 +28,7 @@ use Rattle.plan_prune.specs.Prunes.{StandExprs, TakePlace}
 use Rattle.plan_meaning.specs.PlanAt.{one_plan}
 use Rattle.plan_meaning.specs.Typing.{first_schema}
 use Rattle.plan_prune.specs.Kept.{asked_exprs, many_at, selected_at, stacked_at, is_some_name, names_at, with_typed, stored_after, asks_after, with_stacked}
-use Rattle.plan_prune.proofs.PlaceLemmas.{place_same, place_behind, place_trans, place_before, place_without, place_swapped}
+use Rattle.plan_prune.proofs.PlaceLemmas.{place_alone, place_same, place_behind, place_trans, place_before, place_without, place_swapped}
 
 -- the numbers of expressions
 abbrev pub numbers_of : List ExprIR → List Node
@@ -87,51 +87,51 @@ module _ (ex : List AExpr) where
       here false = refl
 
   -- the numbers of what is kept take the place of all
-  pub asked_place : (asked : List Name) (es : List ExprIR) → TakePlace ex (numbers_of (asked_exprs asked es)) (numbers_of es)
+  pub asked_place : (asked : List Name) (es : List ExprIR) → TakePlace ex ex (numbers_of (asked_exprs asked es)) (numbers_of es)
   asked_place asked [] = place_same ex []
   asked_place asked (e ∷ es) = go (has asked (name_of e.output_name)) (asked_place asked es)
     where
-      go : (b : Bool) → TakePlace ex (numbers_of (asked_exprs asked es)) (numbers_of es) → TakePlace ex (numbers_of (cond b (e ∷ asked_exprs asked es) (asked_exprs asked es))) (numbers_of (e ∷ es))
-      go true x = place_behind ex (e.node ∷ []) (numbers_of (asked_exprs asked es)) (numbers_of es) x
-      go false x = place_trans ex (numbers_of (asked_exprs asked es)) (numbers_of es) (e.node ∷ numbers_of es) x (place_before ex (numbers_of es) [] (e.node ∷ []) (place_without ex (e.node ∷ [])))
+      go : (b : Bool) → TakePlace ex ex (numbers_of (asked_exprs asked es)) (numbers_of es) → TakePlace ex ex (numbers_of (cond b (e ∷ asked_exprs asked es) (asked_exprs asked es))) (numbers_of (e ∷ es))
+      go true x = place_behind ex ex (e.node ∷ []) (numbers_of (asked_exprs asked es)) (numbers_of es) x
+      go false x = place_trans ex ex ex (numbers_of (asked_exprs asked es)) (numbers_of es) (e.node ∷ numbers_of es) x (place_before ex ex (numbers_of es) [] (e.node ∷ []) (place_without ex (e.node ∷ [])))
 
   pub numbers_append : (xs ys : List ExprIR) → numbers_of (xs ++ ys) ≡ numbers_of xs ++ numbers_of ys
   numbers_append [] ys = refl
   numbers_append (x ∷ xs) ys = ap (λ (l : List Node). x.node ∷ l) (numbers_append xs ys)
 
   -- and where these are scalar throughout, with the first that isn't
-  many_place : (asked : List Name) (es : List ExprIR) → all_scalar (all_named_at ex (asked_exprs asked es)) ≡ true → TakePlace ex (numbers_of (asked_exprs asked es ++ many_at ex es)) (numbers_of es)
+  many_place : (asked : List Name) (es : List ExprIR) → all_scalar (all_named_at ex (asked_exprs asked es)) ≡ true → TakePlace ex ex (numbers_of (asked_exprs asked es ++ many_at ex es)) (numbers_of es)
   many_place asked [] h = place_same ex []
   many_place asked (e ∷ es) h = go (has asked (name_of e.output_name)) (is_scalar (expr_at ex e.node)) refl h (λ k. many_place asked es k)
     where
       ks : List ExprIR
       ks = asked_exprs asked es
 
-      drop : TakePlace ex (numbers_of es) (e.node ∷ numbers_of es)
-      drop = place_before ex (numbers_of es) [] (e.node ∷ []) (place_without ex (e.node ∷ []))
+      drop : TakePlace ex ex (numbers_of es) (e.node ∷ numbers_of es)
+      drop = place_before ex ex (numbers_of es) [] (e.node ∷ []) (place_without ex (e.node ∷ []))
 
       none : false ≡ true → ⊥
       none x = cc
 
-      go : (b s : Bool) → is_scalar (expr_at ex e.node) ≡ s → all_scalar (all_named_at ex (cond b (e ∷ ks) ks)) ≡ true → (all_scalar (all_named_at ex ks) ≡ true → TakePlace ex (numbers_of (ks ++ many_at ex es)) (numbers_of es)) → TakePlace ex (numbers_of (cond b (e ∷ ks) ks ++ cond s (many_at ex es) (e ∷ []))) (numbers_of (e ∷ es))
+      go : (b s : Bool) → is_scalar (expr_at ex e.node) ≡ s → all_scalar (all_named_at ex (cond b (e ∷ ks) ks)) ≡ true → (all_scalar (all_named_at ex ks) ≡ true → TakePlace ex ex (numbers_of (ks ++ many_at ex es)) (numbers_of es)) → TakePlace ex ex (numbers_of (cond b (e ∷ ks) ks ++ cond s (many_at ex es) (e ∷ []))) (numbers_of (e ∷ es))
       go true true is k f =
           let rest : all_scalar (all_named_at ex ks) ≡ true = (let q : (is_scalar (expr_at ex e.node) && all_scalar (all_named_at ex ks)) ≡ true = k in cc) in
-          place_behind ex (e.node ∷ []) (numbers_of (ks ++ many_at ex es)) (numbers_of es) (f rest)
+          place_behind ex ex (e.node ∷ []) (numbers_of (ks ++ many_at ex es)) (numbers_of es) (f rest)
       go true false is k f = absurd (none (subst (λ (b : Bool). (b && all_scalar (all_named_at ex ks)) ≡ true) is k))
-      go false true is k f = place_trans ex (numbers_of (ks ++ many_at ex es)) (numbers_of es) (e.node ∷ numbers_of es) (f k) drop
+      go false true is k f = place_trans ex ex ex (numbers_of (ks ++ many_at ex es)) (numbers_of es) (e.node ∷ numbers_of es) (f k) drop
       go false false is k f = λ before after x.
-          let y = place_behind ex (e.node ∷ []) (numbers_of ks) (numbers_of es) (asked_place asked es) before after x in
+          let y = place_behind ex ex (e.node ∷ []) (numbers_of ks) (numbers_of es) (asked_place asked es) before after x in
           rw (numbers_append ks (e ∷ [])) (place_swapped ex (e.node ∷ []) (numbers_of ks) before after y)
 
-  pub selected_place : (asked : List Name) (es : List ExprIR) → TakePlace ex (numbers_of (selected_at ex asked es)) (numbers_of es)
+  pub selected_place : (asked : List Name) (es : List ExprIR) → TakePlace ex ex (numbers_of (selected_at ex asked es)) (numbers_of es)
   selected_place [] es = place_same ex (numbers_of es)
   selected_place (a ∷ asked) es = go (all_scalar (all_named_at ex (asked_exprs (a ∷ asked) es))) refl
     where
-      go : (b : Bool) → all_scalar (all_named_at ex (asked_exprs (a ∷ asked) es)) ≡ b → TakePlace ex (numbers_of (cond b (asked_exprs (a ∷ asked) es ++ many_at ex es) (asked_exprs (a ∷ asked) es))) (numbers_of es)
+      go : (b : Bool) → all_scalar (all_named_at ex (asked_exprs (a ∷ asked) es)) ≡ b → TakePlace ex ex (numbers_of (cond b (asked_exprs (a ∷ asked) es ++ many_at ex es) (asked_exprs (a ∷ asked) es))) (numbers_of es)
       go true h = many_place (a ∷ asked) es h
       go false h = asked_place (a ∷ asked) es
 
-  pub stacked_place : (asked : List Name) (es : List ExprIR) → TakePlace ex (numbers_of (stacked_at asked es)) (numbers_of es)
+  pub stacked_place : (asked : List Name) (es : List ExprIR) → TakePlace ex ex (numbers_of (stacked_at asked es)) (numbers_of es)
   stacked_place [] es = place_same ex (numbers_of es)
   stacked_place (a ∷ asked) es = asked_place (a ∷ asked) es
 
@@ -186,16 +186,11 @@ module _ (ex : List AExpr) where
       let here : slice_get (numbers_of es) i ≡ Some e.node = slice_get-map (λ (x : ExprIR). x.node) es i ∙ ap (option_map (λ (x : ExprIR). x.node)) (slice_get-get_or es i d lt) in
       (nth expr_shape h.0 i, StandsOnce-nth expr_shape ex (numbers_of es) h.0 i e.node h.1 here)
 
-  placed : (new old : List Node) → TakePlace ex new old → StandExprs ex old → StandExprs ex new
-  placed new old x h =
-      let before : StandExprs ex (old ++ []) = subst (λ (l : List Node). StandExprs ex l) (sym (append-nil old)) h in
-      subst (λ (l : List Node). StandExprs ex l) (append-nil new) (x [] [] before)
-
   pub selected_stand : (asked : List Name) (es ks : List ExprIR) → ks ≡ selected_at ex asked es → StandExprs ex (numbers_of es) → All (λ (e : ExprIR). IsExpr ex e.node) ks
-  selected_stand asked es ks is h = each_stands ks (rw is (placed (numbers_of (selected_at ex asked es)) (numbers_of es) (selected_place asked es) h))
+  selected_stand asked es ks is h = each_stands ks (rw is (place_alone ex ex (numbers_of (selected_at ex asked es)) (numbers_of es) (selected_place asked es) h))
 
   pub stacked_stand : (asked : List Name) (es ks : List ExprIR) → ks ≡ stacked_at asked es → StandExprs ex (numbers_of es) → All (λ (e : ExprIR). IsExpr ex e.node) ks
-  stacked_stand asked es ks is h = each_stands ks (rw is (placed (numbers_of (stacked_at asked es)) (numbers_of es) (stacked_place asked es) h))
+  stacked_stand asked es ks is h = each_stands ks (rw is (place_alone ex ex (numbers_of (stacked_at asked es)) (numbers_of es) (stacked_place asked es) h))
 
 -- an addition is put with its columns
 pub stacked_put : (b : Bool) (lp : List IR) (n i : Node) (es : List ExprIR) (schema cs s : Columns) (options : ProjectionOptions) → b ≡ true → (length es ≡ 0 → ⊥) → cs ≡ with_typed s (names_at es) schema → slice_set lp n.0 (HStack i es cs options) ≡ with_stacked b lp n i es schema options s

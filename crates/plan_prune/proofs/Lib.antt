@@ -1,6 +1,7 @@
 -- The lemmas of this crate.
 pub mod PruneLemmas
 pub mod PlaceLemmas
+pub mod LongerLemmas
 pub mod KeptLemmas
 mod StandInLemmas
 mod ExprWalks

@@ -1,5 +1,5 @@
--- Numbers of expressions in the place of others.
-use Rattle.std.proofs.Common.{◌≡◌, ℕ, List, [], ◌++◌, sym, ap, ◌∙◌, inl, inr, subst, append_assoc}
+-- Numbers of expressions in the place of others, while their arena grows.
+use Rattle.std.proofs.Common.{◌≡◌, ℕ, List, [], ◌++◌, sym, ap, ◌∙◌, inl, inr, subst, append-nil, append_assoc}
 use Rattle.plan_core.specs.declared.arena.Node.{Node}
 use Rattle.plan_tree.specs.Rose.{join}
 use Rattle.plan_tree.specs.Stands.{Trees, Reaches, Apart}
@@ -11,40 +11,48 @@ use Rattle.plan_prune.specs.Prunes.{StandExprs, TakePlace}
 
 module _ (ex : List AExpr) where
   -- equal lists of numbers
-  pub place_same : (ns : List Node) → TakePlace ex ns ns
+  pub place_same : (ns : List Node) → TakePlace ex ex ns ns
   place_same ns before after h = h
 
-  pub place_equal : (new old : List Node) → new ≡ old → TakePlace ex new old
+  pub place_equal : (new old : List Node) → new ≡ old → TakePlace ex ex new old
   place_equal new old e before after h = rw e h
-
-  -- one change after another
-  pub place_trans : (new mid old : List Node) → TakePlace ex new mid → TakePlace ex mid old → TakePlace ex new old
-  place_trans new mid old x y before after h = x before after (y before after h)
 
   moved : (a b : List Node) → a ≡ b → StandExprs ex a → StandExprs ex b
   moved a b e h = subst (λ (l : List Node). StandExprs ex l) e h
 
-  -- numbers behind others that stay
-  pub place_behind : (ns new old : List Node) → TakePlace ex new old → TakePlace ex (ns ++ new) (ns ++ old)
+-- numbers in an arena that grows
+module _ (ex grown : List AExpr) where
+  -- alone
+  pub place_alone : (new old : List Node) → TakePlace ex grown new old → StandExprs ex old → StandExprs grown new
+  place_alone new old x h = moved grown (new ++ []) new (append-nil new) (x [] [] (moved ex old (old ++ []) (sym (append-nil old)) h))
+
+  -- behind others that stay
+  pub place_behind : (ns new old : List Node) → TakePlace ex grown new old → TakePlace ex grown (ns ++ new) (ns ++ old)
   place_behind ns new old x before after h =
-      moved ((before ++ ns) ++ (new ++ after)) (before ++ ((ns ++ new) ++ after)) (append_assoc before ns (new ++ after) ∙ ap (λ (l : List Node). before ++ l) (sym (append_assoc ns new after)))
+      moved grown ((before ++ ns) ++ (new ++ after)) (before ++ ((ns ++ new) ++ after)) (append_assoc before ns (new ++ after) ∙ ap (λ (l : List Node). before ++ l) (sym (append_assoc ns new after)))
       (x (before ++ ns) after
-      (moved (before ++ ((ns ++ old) ++ after)) ((before ++ ns) ++ (old ++ after)) (ap (λ (l : List Node). before ++ l) (append_assoc ns old after) ∙ sym (append_assoc before ns (old ++ after))) h))
+      (moved ex (before ++ ((ns ++ old) ++ after)) ((before ++ ns) ++ (old ++ after)) (ap (λ (l : List Node). before ++ l) (append_assoc ns old after) ∙ sym (append_assoc before ns (old ++ after))) h))
 
-  -- numbers before others that stay
-  pub place_before : (ns new old : List Node) → TakePlace ex new old → TakePlace ex (new ++ ns) (old ++ ns)
+  -- before others that stay
+  pub place_before : (ns new old : List Node) → TakePlace ex grown new old → TakePlace ex grown (new ++ ns) (old ++ ns)
   place_before ns new old x before after h =
-      moved (before ++ (new ++ (ns ++ after))) (before ++ ((new ++ ns) ++ after)) (ap (λ (l : List Node). before ++ l) (sym (append_assoc new ns after)))
+      moved grown (before ++ (new ++ (ns ++ after))) (before ++ ((new ++ ns) ++ after)) (ap (λ (l : List Node). before ++ l) (sym (append_assoc new ns after)))
       (x before (ns ++ after)
-      (moved (before ++ ((old ++ ns) ++ after)) (before ++ (old ++ (ns ++ after))) (ap (λ (l : List Node). before ++ l) (append_assoc old ns after)) h))
+      (moved ex (before ++ ((old ++ ns) ++ after)) (before ++ (old ++ (ns ++ after))) (ap (λ (l : List Node). before ++ l) (append_assoc old ns after)) h))
 
-  -- numbers one after the other
-  pub place_both : (new old new' old' : List Node) → TakePlace ex new old → TakePlace ex new' old' → TakePlace ex (new ++ new') (old ++ old')
+-- one change after another
+module _ (ex mid grown : List AExpr) where
+  pub place_trans : (new between old : List Node) → TakePlace mid grown new between → TakePlace ex mid between old → TakePlace ex grown new old
+  place_trans new between old x y before after h = x before after (y before after h)
+
+  -- of numbers one after the other
+  pub place_both : (new old new' old' : List Node) → TakePlace ex mid new old → TakePlace mid grown new' old' → TakePlace ex grown (new ++ new') (old ++ old')
   place_both new old new' old' x y =
-      place_trans (new ++ new') (new ++ old') (old ++ old') (place_behind new new' old' y) (place_before old' new old x)
+      place_trans (new ++ new') (new ++ old') (old ++ old') (place_behind mid grown new new' old' y) (place_before ex mid old' new old x)
 
+module _ (ex : List AExpr) where
   -- numbers left out
-  pub place_without : (ns : List Node) → TakePlace ex [] ns
+  pub place_without : (ns : List Node) → TakePlace ex ex [] ns
   place_without ns before after h =
       let s = StandsOnce-split expr_shape ex before (ns ++ after) h.0 h.1 in
       let r = StandsOnce-split expr_shape ex ns after s.right s.second in
@@ -52,7 +60,7 @@ module _ (ex : List AExpr) where
       (join s.left r.right, StandsOnce-join expr_shape ex before after s.left r.right s.first r.second apart)
 
   -- numbers that change places
-  pub place_swapped : (ns ms : List Node) → TakePlace ex (ms ++ ns) (ns ++ ms)
+  pub place_swapped : (ns ms : List Node) → TakePlace ex ex (ms ++ ns) (ns ++ ms)
   place_swapped ns ms before after h =
       let s = StandsOnce-split expr_shape ex before ((ns ++ ms) ++ after) h.0 h.1 in
       let r = StandsOnce-split expr_shape ex (ns ++ ms) after s.right s.second in

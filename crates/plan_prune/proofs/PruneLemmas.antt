@@ -32,10 +32,12 @@ use Rattle.plan_meaning.specs.Counting.{is_closed}
 use Rattle.plan_narrowing.specs.Pruned.{asks_plans, left_below, rebuilt, top_below, pruned_all, typed_names}
 use Rattle.plan_meaning.specs.PlanAt.{one_plan}
 use Rattle.plan_narrowing.proofs.ListSteps.{with_names-append}
+use Rattle.plan_renamed.specs.Renamed.{IsLonger}
 use Rattle.plan_prune.specs.Prunes.{StandExprs, TakePlace, Prunes, PrunesAt}
 use Rattle.plan_prune.specs.Scans.{narrowed, kept_scan, with_node, with_top}
 use Rattle.plan_prune.specs.Kept.{is_some_name}
-use Rattle.plan_prune.proofs.PlaceLemmas.{place_equal, place_both, place_before, place_trans, place_without}
+use Rattle.plan_prune.proofs.LongerLemmas.{op_longer, own_exprs}
+use Rattle.plan_prune.proofs.PlaceLemmas.{place_alone, place_equal, place_both, place_before, place_trans, place_without}
 
 -- the names of an expression are added: its own, or those of its operands one after another
 module _ (ex : List AExpr) (n : Node) (h : IsExpr ex n) where
@@ -86,8 +88,8 @@ pub left_open : (op : Op) (kids others : Roses (Unit {0}) Op) → is_closed op �
 left_open op kids others opens = ap (λ (b : Bool). left_below b kids others) (sym opens)
 
 -- from the input of a node to the node, which goes back over the same input
-pub finish : (top low : Bool) (asked names : List Name) (a b c : List IR) (ex : List AExpr) (n i : Node) (p q d : IR) (t : Trees IR) → StandsOnce plan_shape a (n ∷ []) t → slice_get a n.0 ≡ Some p → b ≡ slice_set a n.0 d → inputs_of p ≡ i ∷ [] → inputs_of q ≡ inputs_of p → is_invalid q ≡ false → TakePlace ex (roots_of q) (roots_of p) → is_closed (op_at ex p) ≡ false → low ≡ top_below top (op_at ex p) → names ∷ [] ≡ asks_plans asked (op_at ex p) (bare (plans_at b ex (i ∷ []))) → rose tt (op_at ex q) (bare (plans_at c ex (i ∷ []))) ≡ rebuilt top asked (op_at ex p) (bare (plans_at c ex (i ∷ []))) → PrunesAt low names b c ex i → Prunes top asked a (slice_set c n.0 q) ex n t
-finish top low asked names a b c ex n i p q d t h e taken one same valid roots opens low_is asks_is built below =
+pub finish : (top low : Bool) (asked names : List Name) (a b c : List IR) (ex grown : List AExpr) (n i : Node) (p q d : IR) (t : Trees IR) → IsLonger ex grown → StandsOnce plan_shape a (n ∷ []) t → StandExprs ex (roots_in t) → slice_get a n.0 ≡ Some p → b ≡ slice_set a n.0 d → inputs_of p ≡ i ∷ [] → inputs_of q ≡ inputs_of p → is_invalid q ≡ false → TakePlace ex ex (roots_of q) (roots_of p) → is_closed (op_at ex p) ≡ false → low ≡ top_below top (op_at ex p) → names ∷ [] ≡ asks_plans asked (op_at ex p) (bare (plans_at b ex (i ∷ []))) → rose tt (op_at ex q) (bare (plans_at c grown (i ∷ []))) ≡ rebuilt top asked (op_at ex p) (bare (plans_at c grown (i ∷ []))) → PrunesAt low names b c ex grown i → Prunes top asked a (slice_set c n.0 q) ex grown n t
+finish top low asked names a b c ex grown n i p q d t longer h s e taken one same valid roots opens low_is asks_is built below =
     let o = opened plan_shape a n p t h e in
     let under : StandsOnce plan_shape b (inputs_of p) o.kids = rw taken (StandsOnce-set plan_shape a (inputs_of p) o.kids n.0 d o.inputs o.above) in
     let at_input : StandsOnce plan_shape b (i ∷ []) o.kids = subst (λ (ns : List Node). StandsOnce plan_shape b ns o.kids) one under in
@@ -95,13 +97,16 @@ finish top low asked names a b c ex n i p q d t h e taken one same valid roots o
     let inside : Rewrites plan_shape b c (inputs_of p) o.kids x.trees = subst (λ (ns : List Node). Rewrites plan_shape b c ns o.kids x.trees) (sym one) x.rewrites in
     let kids : Roses (Unit {0}) Op = bare (plans_of ex o.kids) in
     let before : bare (plans_at b ex (i ∷ [])) ≡ kids = ap (λ (u : Trees IR). bare (plans_of ex u)) (trees_at-is plan_shape b (i ∷ []) o.kids at_input) in
-    let after : bare (plans_at c ex (i ∷ [])) ≡ bare (plans_of ex x.trees) = ap (λ (u : Trees IR). bare (plans_of ex u)) (trees_at-is plan_shape c (i ∷ []) x.trees x.rewrites.stands) in
+    let after : bare (plans_at c grown (i ∷ [])) ≡ bare (plans_of grown x.trees) = ap (λ (u : Trees IR). bare (plans_of grown u)) (trees_at-is plan_shape c (i ∷ []) x.trees x.rewrites.stands) in
+    let own : StandExprs ex (roots_of p) = own_exprs ex p o.kids no_roses (rw o.is at s) in
+    let same_op : op_at grown q ≡ op_at ex q = op_longer ex grown longer q (place_alone ex ex (roots_of q) (roots_of p) roots own) in
     rw o.is (record {
       trees = more (rose n q x.trees) no_roses;
       rewrites = Rewrites-back plan_shape a b c n p q d o.kids x.trees (rw o.is at h) taken inside same valid;
-      exprs = place_both ex (roots_of q) (roots_of p) (roots_in x.trees ++ []) (roots_in o.kids ++ []) roots (place_before ex [] (roots_in x.trees) (roots_in o.kids) x.exprs);
+      exprs = place_both ex ex grown (roots_of q) (roots_of p) (roots_in x.trees ++ []) (roots_in o.kids ++ []) roots (place_before ex grown [] (roots_in x.trees) (roots_in o.kids) x.exprs);
       pruned =
-          ap (λ r. more r no_roses) (subst (λ (f : Roses (Unit {0}) Op). rose tt (op_at ex q) f ≡ rebuilt top asked (op_at ex p) f) after built)
+          ap (λ (o : Op). more (rose tt o (bare (plans_of grown x.trees))) no_roses) same_op
+          ∙ ap (λ r. more r no_roses) (subst (λ (f : Roses (Unit {0}) Op). rose tt (op_at ex q) f ≡ rebuilt top asked (op_at ex p) f) after built)
           ∙ ap (λ (f : Roses (Unit {0}) Op). more (rebuilt top asked (op_at ex p) f) no_roses) x.pruned
           ∙ ap₂ (λ (w : Bool) (l : List (List Name)). more (rebuilt top asked (op_at ex p) (pruned_all w l kids)) no_roses) low_is asks_is
           ∙ ap (λ (f : Roses (Unit {0}) Op). more (rebuilt top asked (op_at ex p) (pruned_all (top_below top (op_at ex p)) (asks_plans asked (op_at ex p) f) kids)) no_roses) before
@@ -109,8 +114,8 @@ finish top low asked names a b c ex n i p q d t h e taken one same valid roots o
     })
 
 -- from the input of a node to the node, where what stands at the input's number takes its place
-pub moves_up : (top low : Bool) (asked names : List Name) (a b c : List IR) (ex : List AExpr) (n i : Node) (p q d m : IR) (t : Trees IR) → StandsOnce plan_shape a (n ∷ []) t → slice_get a n.0 ≡ Some p → b ≡ slice_set a n.0 d → inputs_of p ≡ i ∷ [] → slice_get c i.0 ≡ Some q → is_closed (op_at ex p) ≡ false → low ≡ top_below top (op_at ex p) → names ∷ [] ≡ asks_plans asked (op_at ex p) (bare (plans_at b ex (i ∷ []))) → ((f : Roses (Unit {0}) Op) → one_plan f ≡ rebuilt top asked (op_at ex p) f) → PrunesAt low names b c ex i → Prunes top asked a (slice_set (slice_set c i.0 m) n.0 q) ex n t
-moves_up top low asked names a b c ex n i p q d m t h e taken one entry opens low_is asks_is built below =
+pub moves_up : (top low : Bool) (asked names : List Name) (a b c : List IR) (ex grown : List AExpr) (n i : Node) (p q d m : IR) (t : Trees IR) → StandsOnce plan_shape a (n ∷ []) t → slice_get a n.0 ≡ Some p → b ≡ slice_set a n.0 d → inputs_of p ≡ i ∷ [] → slice_get c i.0 ≡ Some q → is_closed (op_at ex p) ≡ false → low ≡ top_below top (op_at ex p) → names ∷ [] ≡ asks_plans asked (op_at ex p) (bare (plans_at b ex (i ∷ []))) → ((f : Roses (Unit {0}) Op) → one_plan f ≡ rebuilt top asked (op_at ex p) f) → PrunesAt low names b c ex grown i → Prunes top asked a (slice_set (slice_set c i.0 m) n.0 q) ex grown n t
+moves_up top low asked names a b c ex grown n i p q d m t h e taken one entry opens low_is asks_is built below =
     let o = opened plan_shape a n p t h e in
     let under : StandsOnce plan_shape b (inputs_of p) o.kids = rw taken (StandsOnce-set plan_shape a (inputs_of p) o.kids n.0 d o.inputs o.above) in
     let at_input : StandsOnce plan_shape b (i ∷ []) o.kids = subst (λ (ns : List Node). StandsOnce plan_shape b ns o.kids) one under in
@@ -124,15 +129,15 @@ moves_up top low asked names a b c ex n i p q d m t h e taken one entry opens lo
     elim (x.rewrites.within k (subst (λ (u : Trees IR). Reaches u k) (sym y.is) r)) as (λ _. Reaches o.kids k ⊎ (length a ≤ k)) [ inl u ↦ inl u | inr v ↦ inr (omega (arith, long)) ] in
     let up : Keeps a c whole = Keeps-trans plan_shape a b c whole o.kids (rw taken (Keeps-set plan_shape a n.0 d whole (inl refl))) x.rewrites.keeps (λ k r. inl (inr (inl r))) in
     let keeps : Keeps a (slice_set c i.0 m) whole = Keeps-trans plan_shape a c (slice_set c i.0 m) whole (more (rose i q y.kids) no_roses) up (Keeps-set plan_shape c i.0 m (more (rose i q y.kids) no_roses) (inl refl)) (λ k r. elim (reached k r) as (λ _. Reaches whole k ⊎ (length a ≤ k)) [ inl u ↦ inl (inr (inl u)) | inr v ↦ inr v ]) in
-    let there : TakePlace ex (roots_of q ++ (roots_in y.kids ++ [])) (roots_in o.kids) = subst (λ (u : Trees IR). TakePlace ex (roots_in u) (roots_in o.kids)) y.is x.exprs in
+    let there : TakePlace ex grown (roots_of q ++ (roots_in y.kids ++ [])) (roots_in o.kids) = subst (λ (u : Trees IR). TakePlace ex grown (roots_in u) (roots_in o.kids)) y.is x.exprs in
     rw o.is (record {
       trees = more (rose n q y.kids) no_roses;
       rewrites = Rewrites-above plan_shape a (slice_set c i.0 m) n p q o.kids y.kids (rw o.is at h) keeps (StandsOnce-set plan_shape c (inputs_of q) y.kids i.0 m y.inputs y.above) (λ k r. reached k (inr (inl r))) y.valid;
-      exprs = place_both ex [] (roots_of p) (roots_of q ++ (roots_in y.kids ++ [])) (roots_in o.kids ++ []) (place_without ex (roots_of p))
-          (place_trans ex (roots_of q ++ (roots_in y.kids ++ [])) (roots_in o.kids) (roots_in o.kids ++ []) there (place_equal ex (roots_in o.kids) (roots_in o.kids ++ []) (sym (append-nil (roots_in o.kids)))));
+      exprs = place_both ex ex grown [] (roots_of p) (roots_of q ++ (roots_in y.kids ++ [])) (roots_in o.kids ++ []) (place_without ex (roots_of p))
+          (place_trans ex ex grown (roots_of q ++ (roots_in y.kids ++ [])) (roots_in o.kids) (roots_in o.kids ++ []) there (place_equal ex (roots_in o.kids) (roots_in o.kids ++ []) (sym (append-nil (roots_in o.kids)))));
       pruned =
-          ap (λ (u : Trees IR). more (one_plan (bare (plans_of ex u))) no_roses) (sym y.is)
-          ∙ ap (λ r. more r no_roses) (built (bare (plans_of ex x.trees)))
+          ap (λ (u : Trees IR). more (one_plan (bare (plans_of grown u))) no_roses) (sym y.is)
+          ∙ ap (λ r. more r no_roses) (built (bare (plans_of grown x.trees)))
           ∙ ap (λ (f : Roses (Unit {0}) Op). more (rebuilt top asked (op_at ex p) f) no_roses) x.pruned
           ∙ ap₂ (λ (w : Bool) (l : List (List Name)). more (rebuilt top asked (op_at ex p) (pruned_all w l kids)) no_roses) low_is asks_is
           ∙ ap (λ (f : Roses (Unit {0}) Op). more (rebuilt top asked (op_at ex p) (pruned_all (top_below top (op_at ex p)) (asks_plans asked (op_at ex p) f) kids)) no_roses) before
@@ -150,8 +155,8 @@ stands_taken a b n i p d t h e taken one =
     let s = inputs_taken a b n p d t h e taken in
     (s.0, subst (λ (ns : List Node). StandsOnce plan_shape b ns s.0) one s.1)
 
-pub stands_after : (top : Bool) (names : List Name) (b c : List IR) (ex : List AExpr) (i : Node) → ((t : Trees IR) × StandsOnce plan_shape b (i ∷ []) t) → PrunesAt top names b c ex i → (t : Trees IR) × StandsOnce plan_shape c (i ∷ []) t
-stands_after top names b c ex i s below = let x = below s.0 s.1 in (x.trees, x.rewrites.stands)
+pub stands_after : (top : Bool) (names : List Name) (b c : List IR) (ex grown : List AExpr) (i : Node) → ((t : Trees IR) × StandsOnce plan_shape b (i ∷ []) t) → PrunesAt top names b c ex grown i → (t : Trees IR) × StandsOnce plan_shape c (i ∷ []) t
+stands_after top names b c ex grown i s below = let x = below s.0 s.1 in (x.trees, x.rewrites.stands)
 
 -- a number over which trees stand has an entry
 pub is_entry : (lp : List IR) (i : Node) → ((t : Trees IR) × StandsOnce plan_shape lp (i ∷ []) t) → i.0 < length lp
@@ -202,7 +207,7 @@ module _ (a b : List IR) (ex : List AExpr) (n : Node) (p d : IR) (t : Trees IR) 
       o.is ∙ ap (λ (kids : Trees IR). more (rose n p kids) no_roses) (no_trees a o.kids (subst (λ (ns : List Node). Stands plan_shape a ns o.kids) leaf o.inputs.stands))
 
   -- another node without inputs goes back to the number
-  pub stays : (top : Bool) (asked : List Name) (q : IR) → is_closed (op_at ex p) ≡ false → inputs_of q ≡ [] → is_invalid q ≡ false → roots_of q ≡ roots_of p → rose tt (op_at ex q) no_roses ≡ rebuilt top asked (op_at ex p) no_roses → Prunes top asked a (slice_set b n.0 q) ex n t
+  pub stays : (top : Bool) (asked : List Name) (q : IR) → is_closed (op_at ex p) ≡ false → inputs_of q ≡ [] → is_invalid q ≡ false → roots_of q ≡ roots_of p → rose tt (op_at ex q) no_roses ≡ rebuilt top asked (op_at ex p) no_roses → Prunes top asked a (slice_set b n.0 q) ex ex n t
   stays top asked q opens none valid roots is =
       let under : StandsOnce plan_shape b [] no_roses = record { stands = tt; once = tt } in
       rw alone (record {
@@ -213,7 +218,7 @@ module _ (a b : List IR) (ex : List AExpr) (n : Node) (p d : IR) (t : Trees IR) 
       })
 
   -- it goes to a new number, and a projection on top takes its number
-  goes_below : (asked : List Name) (q : IR) (cs : Columns) → is_closed (op_at ex p) ≡ false → inputs_of q ≡ [] → is_invalid q ≡ false → roots_of q ≡ roots_of p → rose tt (op_at ex (nodes.SimpleProjection n cs)) (more (rose tt (op_at ex q) no_roses) no_roses) ≡ rebuilt true asked (op_at ex p) no_roses → Prunes true asked a (with_top cs b n q) ex n t
+  goes_below : (asked : List Name) (q : IR) (cs : Columns) → is_closed (op_at ex p) ≡ false → inputs_of q ≡ [] → is_invalid q ≡ false → roots_of q ≡ roots_of p → rose tt (op_at ex (nodes.SimpleProjection n cs)) (more (rose tt (op_at ex q) no_roses) no_roses) ≡ rebuilt true asked (op_at ex p) no_roses → Prunes true asked a (with_top cs b n q) ex ex n t
   goes_below asked q cs opens none valid roots is =
       rw alone (record {
         trees = under n (record { 0 = length b }) cs q no_roses;
@@ -227,26 +232,25 @@ module _ (a b : List IR) (ex : List AExpr) (n : Node) (d : IR) (t : Trees IR) (h
   abbrev p : IR
   p = nodes.Scan sources info predicate output kind options
 
-  placed : (top : Bool) (asked : List Name) → Prunes top asked a (with_node (is_some_name asked && top) b n (kept_scan asked p)) ex n t
+  placed : (top : Bool) (asked : List Name) → Prunes top asked a (with_node (is_some_name asked && top) b n (kept_scan asked p)) ex ex n t
   placed top [] = stays a b ex n p d t h refl e taken top [] p refl refl refl refl refl
   placed true (x ∷ asked) = goes_below a b ex n p d t h refl e taken (x ∷ asked) (narrowed (x ∷ asked) p) (typed_names info.schema (x ∷ asked)) refl refl refl refl refl
   placed false (x ∷ asked) = stays a b ex n p d t h refl e taken false (x ∷ asked) (narrowed (x ∷ asked) p) refl refl refl refl refl
 
-  pub scan_pruned : (top : Bool) (asked : List Name) (c : List IR) → c ≡ with_node (is_some_name asked && top) b n (kept_scan asked p) → Prunes top asked a c ex n t
+  pub scan_pruned : (top : Bool) (asked : List Name) (c : List IR) → c ≡ with_node (is_some_name asked && top) b n (kept_scan asked p) → Prunes top asked a c ex ex n t
   scan_pruned top asked c is = rw is (placed top asked)
 
 -- what a pruned plan is
-module _ (top : Bool) (asked : List Name) (a c : List IR) (ex : List AExpr) (n : Node) (h : IsPlan a ex n) (x : Prunes top asked a c ex n h.nodes) where
-  pub pruned_is : bare (plans_at c ex (n ∷ [])) ≡ pruned_all top (asked ∷ []) (bare (plans_at a ex (n ∷ [])))
+module _ (top : Bool) (asked : List Name) (a c : List IR) (ex grown : List AExpr) (n : Node) (h : IsPlan a ex n) (x : Prunes top asked a c ex grown n h.nodes) where
+  pub pruned_is : bare (plans_at c grown (n ∷ [])) ≡ pruned_all top (asked ∷ []) (bare (plans_at a ex (n ∷ [])))
   pruned_is =
-      ap (λ (t : Trees IR). bare (plans_of ex t)) (trees_at-is plan_shape c (n ∷ []) x.trees x.rewrites.stands)
+      ap (λ (t : Trees IR). bare (plans_of grown t)) (trees_at-is plan_shape c (n ∷ []) x.trees x.rewrites.stands)
       ∙ x.pruned
       ∙ ap (λ (t : Trees IR). pruned_all top (asked ∷ []) (bare (plans_of ex t))) (sym (trees_at-is plan_shape a (n ∷ []) h.nodes h.stands.nodes))
 
-  pub pruned_stands : IsPlan c ex n
+  pub pruned_stands : IsPlan c grown n
   pruned_stands =
-      let alone : StandExprs ex (roots_in h.nodes ++ []) = (h.exprs, rw append-nil h.stands.exprs) in
-      let e : StandExprs ex (roots_in x.trees) = subst (λ (ns : List Node). StandExprs ex ns) (append-nil (roots_in x.trees)) (x.exprs [] [] alone) in
+      let e : StandExprs grown (roots_in x.trees) = place_alone ex grown (roots_in x.trees) (roots_in h.nodes) x.exprs (h.exprs, h.stands.exprs) in
       record {
         nodes = x.trees;
         exprs = e.0;

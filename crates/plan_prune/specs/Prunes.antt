@@ -16,20 +16,20 @@ use Rattle.plan_narrowing.specs.Pruned.{covered_each, pruned_all}
 abbrev pub StandExprs : List AExpr → List Node → Type 0
 StandExprs ex ns = (e : Trees AExpr) × StandsOnce expr_shape ex ns e
 
--- where expressions stand over the old numbers among others, expressions stand over the new ones in their place
-abbrev pub TakePlace : List AExpr → List Node → List Node → Type 0
-TakePlace ex new old = (before after : List Node) → StandExprs ex (before ++ (old ++ after)) → StandExprs ex (before ++ (new ++ after))
+-- where expressions stand over the old numbers among others in an arena, expressions stand over the new ones in their place in the arena that it grew to
+abbrev pub TakePlace : List AExpr → List AExpr → List Node → List Node → Type 0
+TakePlace ex grown new old = (before after : List Node) → StandExprs ex (before ++ (old ++ after)) → StandExprs grown (before ++ (new ++ after))
 
--- the tree t at a number became another, in place and over expressions of its own: t pruned to the asked names
-pub record Prunes (top : Bool) (asked : List Name) (old new : List IR) (ex : List AExpr) (n : Node) (t : Trees IR) : Type 0 where
+-- the tree t at a number became another, in place and over expressions of its own: t pruned to the asked names, while the arena of expressions grew
+pub record Prunes (top : Bool) (asked : List Name) (old new : List IR) (ex grown : List AExpr) (n : Node) (t : Trees IR) : Type 0 where
   pub trees : Trees IR
   pub rewrites : Rewrites plan_shape old new (n ∷ []) t trees
-  pub exprs : TakePlace ex (roots_in trees) (roots_in t)
-  pub pruned : bare (plans_of ex trees) ≡ pruned_all top (asked ∷ []) (bare (plans_of ex t))
+  pub exprs : TakePlace ex grown (roots_in trees) (roots_in t)
+  pub pruned : bare (plans_of grown trees) ≡ pruned_all top (asked ∷ []) (bare (plans_of ex t))
 
 -- what stands at a number is pruned in place to the asked names
-abbrev pub PrunesAt : Bool → List Name → List IR → List IR → List AExpr → Node → Type 0
-PrunesAt top asked old new ex n = (t : Trees IR) → StandsOnce plan_shape old (n ∷ []) t → Prunes top asked old new ex n t
+abbrev pub PrunesAt : Bool → List Name → List IR → List IR → List AExpr → List AExpr → Node → Type 0
+PrunesAt top asked old new ex grown n = (t : Trees IR) → StandsOnce plan_shape old (n ∷ []) t → Prunes top asked old new ex grown n t
 
 -- each of some plans under a projection to names, where there are names
 abbrev pub covered_by : Option (List Name) → Roses (Unit {0}) Op → Roses (Unit {0}) Op
@@ -37,15 +37,15 @@ covered_by None plans = plans
 covered_by (Some names) plans = covered_each names plans
 
 -- trees over numbers became others, in place and over expressions of their own: pruned each to a list of names, and under projections to names or none
-pub record PrunesEach (top : Bool) (covers : Option (List Name)) (lists : List (List Name)) (old new : List IR) (ex : List AExpr) (ns : List Node) (f : Trees IR) : Type 0 where
+pub record PrunesEach (top : Bool) (covers : Option (List Name)) (lists : List (List Name)) (old new : List IR) (ex grown : List AExpr) (ns : List Node) (f : Trees IR) : Type 0 where
   pub trees : Trees IR
   pub rewrites : Rewrites plan_shape old new ns f trees
-  pub exprs : TakePlace ex (roots_in trees) (roots_in f)
-  pub pruned : bare (plans_of ex trees) ≡ covered_by covers (pruned_all top lists (bare (plans_of ex f)))
+  pub exprs : TakePlace ex grown (roots_in trees) (roots_in f)
+  pub pruned : bare (plans_of grown trees) ≡ covered_by covers (pruned_all top lists (bare (plans_of ex f)))
 
 -- what stands at a number is pruned in place so, to the asked names
-abbrev pub PrunesUnder : Bool → Option (List Name) → List Name → List IR → List IR → List AExpr → Node → Type 0
-PrunesUnder top covers asked old new ex n = (t : Trees IR) → StandsOnce plan_shape old (n ∷ []) t → PrunesEach top covers (asked ∷ []) old new ex (n ∷ []) t
+abbrev pub PrunesUnder : Bool → Option (List Name) → List Name → List IR → List IR → List AExpr → List AExpr → Node → Type 0
+PrunesUnder top covers asked old new ex grown n = (t : Trees IR) → StandsOnce plan_shape old (n ∷ []) t → PrunesEach top covers (asked ∷ []) old new ex grown (n ∷ []) t
 
 -- the mark before became the one after: it is set where it was, or where what stands at a number counts rows
 abbrev pub MarksAt : Bool → Bool → List IR → List AExpr → Node → Type 0

@@ -13,6 +13,7 @@ ghost use Rattle.plan_meaning.specs.Scans.{nodes, scans};
 ghost use Rattle.plan_meaning.specs.Work.{made, kept};
 ghost use Rattle.plan_narrowing.specs.Pruned.{pruned_all};
 ghost use Rattle.plan_narrowing.specs.Reads.{ReadWithin, tops};
+ghost use Rattle.plan_renamed.specs.Renamed.{IsLonger};
 ghost use Rattle.plan_prune.specs.Prunes.{MarksAt, PrunesAt, PrunesUnder};
 
 mod cache;
@@ -63,27 +64,29 @@ impl ProjectionPushDown {
 
     /// Prunes the plan at `root`, of which every column is asked, and marks whether it counts rows. A projection goes on top of
     /// each narrowed scan, and on none from the first count of rows on; and on top of each cache that is asked names, and each of
-    /// several inputs of a union that is. What is below a cache stays as it is, and so does a join with what is below it. Refuses
-    /// for want of memory alone, and then nothing is known of what stands at `root`, and of the mark only that it isn't set back.
+    /// several inputs of a union that is. What is below a cache stays as it is, and so does a join with what is below it. The
+    /// expressions in `ex` stay as they are; others may be added behind them. Refuses for want of memory alone, and then nothing
+    /// is known of what stands at `root`, and of the mark only that it isn't set back.
     pub fn optimize(
         &mut self,
         alloc: Global,
         root: Node,
         lp: &mut Arena<IR>,
-        ex: &Arena<AExpr>,
+        ex: &mut Arena<AExpr>,
     ) -> Result<(), AllocError>
-        requires { IsPlan lp.old ex.now root }
+        requires { IsPlan lp.old ex.old root }
         ensures pruned { OnOk result (
-            bare (plans_at lp.new ex.now (root ∷ []))
-            ≡ pruned_all (not self.old.is_count_star) [] (bare (plans_at lp.old ex.now (root ∷ [])))) }
-        ensures in_place { OnOk result (PrunesAt (not self.old.is_count_star) [] lp.old lp.new ex.now root) }
-        ensures is_plan { OnOk result (IsPlan lp.new ex.now root) }
-        ensures refines { OnOk result (IsValid (plan_at lp.old ex.now root) → Refines (plan_at lp.new ex.now root) (plan_at lp.old ex.now root)) }
-        ensures reads { OnOk result (IsValid (plan_at lp.old ex.now root) → ReadWithin (scans (plan_at lp.new ex.now root)) (sites_of (plan_at lp.old ex.now root))) }
-        ensures nodes { OnOk result (IsValid (plan_at lp.old ex.now root) → nodes (plan_at lp.new ex.now root) ≤ nodes (plan_at lp.old ex.now root) + tops (plan_at lp.old ex.now root) all) }
-        ensures work { OnOk result (IsValid (plan_at lp.old ex.now root) → made (plan_at lp.new ex.now root) ≤ kept (plan_at lp.old ex.now root)) }
+            bare (plans_at lp.new ex.new (root ∷ []))
+            ≡ pruned_all (not self.old.is_count_star) [] (bare (plans_at lp.old ex.old (root ∷ [])))) }
+        ensures in_place { OnOk result (PrunesAt (not self.old.is_count_star) [] lp.old lp.new ex.old ex.new root) }
+        ensures is_plan { OnOk result (IsPlan lp.new ex.new root) }
+        ensures refines { OnOk result (IsValid (plan_at lp.old ex.old root) → Refines (plan_at lp.new ex.new root) (plan_at lp.old ex.old root)) }
+        ensures reads { OnOk result (IsValid (plan_at lp.old ex.old root) → ReadWithin (scans (plan_at lp.new ex.new root)) (sites_of (plan_at lp.old ex.old root))) }
+        ensures nodes { OnOk result (IsValid (plan_at lp.old ex.old root) → nodes (plan_at lp.new ex.new root) ≤ nodes (plan_at lp.old ex.old root) + tops (plan_at lp.old ex.old root) all) }
+        ensures work { OnOk result (IsValid (plan_at lp.old ex.old root) → made (plan_at lp.new ex.new root) ≤ kept (plan_at lp.old ex.old root)) }
         ensures grows { length lp.old ≤ length lp.new }
-        ensures marks { OnOk result (self.new.is_count_star ≡ (self.old.is_count_star || meets_count (plan_at lp.old ex.now root))) }
+        ensures longer { IsLonger ex.old ex.new }
+        ensures marks { OnOk result (self.new.is_count_star ≡ (self.old.is_count_star || meets_count (plan_at lp.old ex.old root))) }
         ensures stays { self.old.is_count_star ≡ true → self.new.is_count_star ≡ true }
     {
         let asked = Names::new(alloc);
@@ -99,13 +102,14 @@ impl ProjectionPushDown {
         node: Node,
         asked: Names,
         lp: &mut Arena<IR>,
-        ex: &Arena<AExpr>,
+        ex: &mut Arena<AExpr>,
     ) -> Result<(), AllocError>
-        requires { IsPlan lp.old ex.now node }
-        ensures prunes { OnOk result (PrunesAt (not self.old.is_count_star) asked lp.old lp.new ex.now node) }
-        ensures marks { OnOk result (MarksAt self.old.is_count_star self.new.is_count_star lp.old ex.now node) }
+        requires { IsPlan lp.old ex.old node }
+        ensures prunes { OnOk result (PrunesAt (not self.old.is_count_star) asked lp.old lp.new ex.old ex.new node) }
+        ensures marks { OnOk result (MarksAt self.old.is_count_star self.new.is_count_star lp.old ex.old node) }
         ensures stays { self.old.is_count_star ≡ true → self.new.is_count_star ≡ true }
         ensures grows { length lp.old ≤ length lp.new }
+        ensures longer { IsLonger ex.old ex.new }
     {
         let is_asked = asked.len() > 0;
         let on_top = !self.is_count_star;
@@ -148,13 +152,14 @@ impl ProjectionPushDown {
         asked: &Names,
         covered: &Option<Names>,
         lp: &mut Arena<IR>,
-        ex: &Arena<AExpr>,
+        ex: &mut Arena<AExpr>,
     ) -> Result<(), AllocError>
-        requires { IsPlan lp.old ex.now input }
-        ensures prunes { OnOk result (PrunesUnder (not self.old.is_count_star) covered.now asked.now lp.old lp.new ex.now input) }
-        ensures marks { OnOk result (MarksAt self.old.is_count_star self.new.is_count_star lp.old ex.now input) }
+        requires { IsPlan lp.old ex.old input }
+        ensures prunes { OnOk result (PrunesUnder (not self.old.is_count_star) covered.now asked.now lp.old lp.new ex.old ex.new input) }
+        ensures marks { OnOk result (MarksAt self.old.is_count_star self.new.is_count_star lp.old ex.old input) }
         ensures stays { self.old.is_count_star ≡ true → self.new.is_count_star ≡ true }
         ensures grows { length lp.old ≤ length lp.new }
+        ensures longer { IsLonger ex.old ex.new }
     {
         self.push_down(alloc, input, copied_names(alloc, asked)?, lp, ex)?;
         match covered {

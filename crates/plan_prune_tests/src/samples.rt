@@ -315,7 +315,7 @@ impl Sample {
     /// Checks the plan, and prunes it by a pass.
     pub fn optimize(&mut self, pass: &mut ProjectionPushDown) -> Result<(), Fail> {
         let _ = check_plan(self.alloc, self.root, &self.lp, &self.ex)?;
-        pass.optimize(self.alloc, self.root, &mut self.lp, &self.ex)?;
+        pass.optimize(self.alloc, self.root, &mut self.lp, &mut self.ex)?;
         Ok(())
     }
 

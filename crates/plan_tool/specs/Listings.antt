@@ -47,9 +47,10 @@ pub record IsListOf (lp : List IR) (ex : List AExpr) (root : Node) (rows : Optio
 -- the text lists the optimised plan of a document, and the rows of a frame that this plan, and so the given one, may give over the document's tables
 pub record IsListing (d : Document) (text : List ℕ) : Type 0 where
   pub nodes : List IR
-  pub promised : IsAnswer d.flags (plan_at nodes d.ex d.root) (plan_at d.lp d.ex d.root)
-  pub exact : bare (plans_at nodes d.ex (d.root ∷ [])) ≡ answered d.flags (bare (plans_at d.lp d.ex (d.root ∷ [])))
+  pub exprs : List AExpr
+  pub promised : IsAnswer d.flags (plan_at nodes exprs d.root) (plan_at d.lp d.ex d.root)
+  pub exact : bare (plans_at nodes exprs (d.root ∷ [])) ≡ answered d.flags (bare (plans_at d.lp d.ex (d.root ∷ [])))
   pub rows : Option Table
-  pub answered_rows : AreRows d.tables (plan_at nodes d.ex d.root) rows
+  pub answered_rows : AreRows d.tables (plan_at nodes exprs d.root) rows
   pub given_rows : AreRows d.tables (plan_at d.lp d.ex d.root) rows
-  pub lists : IsListOf nodes d.ex d.root rows text
+  pub lists : IsListOf nodes exprs d.root rows text

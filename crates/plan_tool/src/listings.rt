@@ -1,5 +1,5 @@
 //! From a document to the text that lists its optimised plan.
-ghost use Rattle.std.specs.Prelude.{◌≡◌, [], ◌∷◌, IfOk, option_copied, string_bytes};
+ghost use Rattle.std.specs.Prelude.{◌≡◌, [], ◌∷◌, IfOk, OnOk, option_copied, string_bytes};
 ghost use Rattle.plan_ir.specs.Parts.{IsPlan};
 ghost use Rattle.plan_ir.specs.Plans.{bare, plans_at};
 ghost use Rattle.plan_meaning.specs.PlanAt.{plan_at};
@@ -20,27 +20,28 @@ use plan_table::Table;
 use plan_text::write_listing;
 use std::alloc::{AllocError, Global};
 
-/// The nodes of a plan after the passes that the flags start.
+/// Changes a plan in place by the passes that the flags start. Refuses for want of memory alone, and then nothing is known of
+/// what stands at `root`.
 #[tactic(auto, using(crate::proofs::AnswerLemmas::given_answer, crate::proofs::AnswerLemmas::pruned_answer))]
-fn optimized(
+fn optimize(
     alloc: Global,
     root: Node,
     flags: OptFlags,
-    mut lp: Arena<IR>,
-    ex: &Arena<AExpr>,
-) -> Result<Arena<IR>, AllocError>
-    requires stands { IsPlan lp ex.now root }
-    requires valid { IsValid (plan_at lp ex.now root) }
-    ensures stands { IfOk result (λ nodes. IsPlan nodes ex.now root) }
-    ensures promised { IfOk result (λ nodes. IsAnswer flags (plan_at nodes ex.now root) (plan_at lp ex.now root)) }
-    ensures exact { IfOk result (λ nodes. bare (plans_at nodes ex.now (root ∷ []))
-        ≡ answered flags (bare (plans_at lp ex.now (root ∷ [])))) }
+    lp: &mut Arena<IR>,
+    ex: &mut Arena<AExpr>,
+) -> Result<(), AllocError>
+    requires stands { IsPlan lp.old ex.old root }
+    requires valid { IsValid (plan_at lp.old ex.old root) }
+    ensures stands { OnOk result (IsPlan lp.new ex.new root) }
+    ensures promised { OnOk result (IsAnswer flags (plan_at lp.new ex.new root) (plan_at lp.old ex.old root)) }
+    ensures exact { OnOk result (
+        bare (plans_at lp.new ex.new (root ∷ []))
+        ≡ answered flags (bare (plans_at lp.old ex.old (root ∷ [])))) }
 {
     if !flags.projection_pushdown() {
-        return Ok(lp);
+        return Ok(());
     }
-    ProjectionPushDown::new().optimize(alloc, root, &mut lp, ex)?;
-    Ok(lp)
+    ProjectionPushDown::new().optimize(alloc, root, lp, ex)
 }
 
 /// The text that lists a plan, what its scans read, and rows. The given columns move into the plan that is listed.
@@ -65,8 +66,8 @@ pub fn listing(alloc: Global, document: Document) -> Result<String, Stop>
 {
     let Document {
         root,
-        lp,
-        ex,
+        mut lp,
+        mut ex,
         flags,
         shared,
         tables,
@@ -74,7 +75,7 @@ pub fn listing(alloc: Global, document: Document) -> Result<String, Stop>
     let _ = shared;
     let _ = check(alloc, root, &lp, &ex)?;
     check_tables(root, &lp, &tables)?;
-    let lp = optimized(alloc, root, flags, lp, &ex)?;
+    optimize(alloc, root, flags, &mut lp, &mut ex)?;
     let rows = rows_of(alloc, root, &lp, &ex, &tables)?;
     Ok(list(alloc, root, lp, ex, rows.as_ref())?)
 }

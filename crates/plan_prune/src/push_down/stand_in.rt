@@ -1,7 +1,6 @@
 //! The column that stands in for the rows of a plan where they are counted: of a selection or an addition the first that
 //! isn't scalar, else the last that the plan says it has.
-ghost use Rattle.std.specs.Prelude.{◌≡◌, List, [], ◌∷◌, All, IfNone, IfOk, IfSome};
-ghost use Rattle.plan_tree.specs.Stands.{Trees, StandsOnce};
+ghost use Rattle.std.specs.Prelude.{◌≡◌, [], ◌∷◌, All, IfNone, IfOk, IfSome};
 ghost use Rattle.plan_expr.specs.declared.aexpr.AExpr.{AExpr};
 ghost use Rattle.plan_expr.specs.Operands.{IsExpr};
 ghost use Rattle.plan_ir.specs.declared.ir.IR.{IR};

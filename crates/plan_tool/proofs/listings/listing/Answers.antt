@@ -7,7 +7,7 @@ use Rattle.plan_tool.proofs.listings.listing.Goals as goal
 
 pub rows_of-requires-clause-fits : goal.rows_of-requires-clause-fits
 rows_of-requires-clause-fits c =
-    fits_answered c.args.document.tables _ _ c.in_ok-lp.ensures.promised.refines (c.in_ok-check_tables.ensures.frames c.args.document.ex c.in_ok-check.ensures.stands)
+    fits_answered c.args.document.tables _ _ c.in_ok-optimize.ensures.promised.refines (c.in_ok-check_tables.ensures.frames c.args.document.ex c.in_ok-check.ensures.stands)
 
 pub returns : goal.returns
 returns c =
@@ -18,12 +18,13 @@ returns c =
       checked = c.in_ok-check.ensures.checks;
       fit = c.in_ok-check_tables.ensures.fit d.ex c.in_ok-check.ensures.stands;
       is = record {
-        nodes = c.in_ok-lp.lp;
-        promised = c.in_ok-lp.ensures.promised;
-        exact = c.in_ok-lp.ensures.exact;
+        nodes = c.optimize.new.lp;
+        exprs = c.optimize.new.ex;
+        promised = c.in_ok-optimize.ensures.promised;
+        exact = c.in_ok-optimize.ensures.exact;
         rows = c.in_ok-rows.rows;
         answered_rows = c.in_ok-rows.ensures;
-        given_rows = rows_given d.tables _ _ c.in_ok-rows.rows c.in_ok-lp.ensures.promised.refines fits c.in_ok-rows.ensures;
-        lists = subst (λ (rows : Option Table). IsListOf c.in_ok-lp.lp d.ex d.root rows (string_bytes c.in_ok-list.field-0)) c.as_ref.ensures.value c.in_ok-list.ensures;
+        given_rows = rows_given d.tables _ _ c.in_ok-rows.rows c.in_ok-optimize.ensures.promised.refines fits c.in_ok-rows.ensures;
+        lists = subst (λ (rows : Option Table). IsListOf c.optimize.new.lp c.optimize.new.ex d.root rows (string_bytes c.in_ok-list.field-0)) c.as_ref.ensures.value c.in_ok-list.ensures;
       };
     }

@@ -17,6 +17,7 @@ use Rattle.plan_prune.proofs.PruneLemmas.{input_asks, is_entry, entry_stays, inp
 use Rattle.plan_expr.specs.Leaves.{Name}
 use Rattle.plan_prune.specs.Prunes.{PrunesAt, PrunesUnder}
 use Rattle.plan_prune.proofs.EachLemmas.{SoFar, each_marks, places, so_far_next, so_far_none}
+use Rattle.plan_prune.proofs.LongerLemmas.{longer_trans, plan_trees}
 use Rattle.plan_prune.proofs.ClosedPruned.{closed_step, closed_mark}
 use Rattle.plan_prune.proofs.StepLemmas.{each_call, each_left, none_some, one_more, some_same, each_step, each_mark, is_over, leaf_stands, over_stands, leaf_pruned, over_pruned, mark_set, mark_kept, top_marked}
 use Rattle.plan_prune.proofs.HStackPruned.{some_len}
@@ -68,7 +69,7 @@ push_down-put-requires-in-Over-clause-node t c = entry_stays c.args.lp.now c.tak
 
 pub push_down-put-requires-in-Over-clause-inputs : goal.push_down-put-requires-in-Over-clause-inputs
 push_down-put-requires-in-Over-clause-inputs t c =
-    over_stands (not c.if-is_count.self.is_count_star) c.args.asked c.in-Over.asked c.args.lp.now c.take-entry.new.self c.push_down.new.lp c.args.ex.now c.args.node c.in-Over.input c.take-entry.result c.in-Over.entry c.take-entry.ensures.after.0 c.requires.nodes c.requires.stands.nodes
+    over_stands (not c.if-is_count.self.is_count_star) c.args.asked c.in-Over.asked c.args.lp.now c.take-entry.new.self c.push_down.new.lp c.args.ex.now c.push_down.new.ex c.args.node c.in-Over.input c.take-entry.result c.in-Over.entry c.take-entry.ensures.after.0 c.requires.nodes c.requires.stands.nodes
     c.take-entry.ensures.given c.take-entry.ensures.after.2 (sym c.in-Over.is ∙ c.in_ok-entry.ensures) c.in_ok-push_down-in-Over.ensures.prunes
 
 pub push_down-returns-in_ok-push_down-in-Over-clause-prunes : goal.push_down-returns-in_ok-push_down-in-Over-clause-prunes
@@ -78,9 +79,9 @@ push_down-returns-in_ok-push_down-in-Over-clause-prunes t c = on_ok_weaker c.put
       | push_down-then-is_count w ↦ mark_set c.args.self.now.is_count_star (sym c.is_count.ensures ∙ w.if-is_count.true) (ap (λ (p : ProjectionPushDown). p.is_count_star) w.self-is)
       | push_down-else-is_count w ↦ mark_kept c.args.self.now.is_count_star (sym c.is_count.ensures ∙ w.if-is_count.false) (ap (λ (p : ProjectionPushDown). p.is_count_star) w.self-is)
     ] in
-    over_pruned top (not c.if-is_count.self.is_count_star) c.args.asked c.in-Over.asked c.args.lp.now c.take-entry.new.self c.push_down.new.lp c.put-in-Over.new.lp c.args.ex.now c.args.node c.in-Over.input c.in-Over.entry c.take-entry.ensures.after.0 t' h c.take-entry.ensures.after.2
+    over_pruned top (not c.if-is_count.self.is_count_star) c.args.asked c.in-Over.asked c.args.lp.now c.take-entry.new.self c.push_down.new.lp c.put-in-Over.new.lp c.args.ex.now c.push_down.new.ex c.in_ok-push_down-in-Over.ensures.longer c.args.node c.in-Over.input c.in-Over.entry c.take-entry.ensures.after.0 t' h (plan_trees c.args.lp.now c.args.ex.now c.args.node t' c.requires h) c.take-entry.ensures.after.2
     c.in_ok-push_down-in-Over.ensures.prunes
-    (back c.args.ex.now ∙ ap (λ (some : Bool). put_back top some c.push_down.new.lp c.args.ex.now c.args.node c.in-Over.entry) (some_len c.args.asked c.len-is_asked.result c.len-is_asked.ensures.value))
+    (back c.push_down.new.ex ∙ ap (λ (some : Bool). put_back top some c.push_down.new.lp c.push_down.new.ex c.args.node c.in-Over.entry) (some_len c.args.asked c.len-is_asked.result c.len-is_asked.ensures.value))
     c.take-entry.result c.take-entry.ensures.given (top_marked c.args.self.now.is_count_star (is_count (op_at c.args.ex.now c.take-entry.result)) c.if-is_count.self.is_count_star is) (sym c.in-Over.is ∙ c.in_ok-entry.ensures)) c.put-in-Over.ensures.placed
 
 pub push_down-returns-in_ok-push_down-in-Over-clause-marks : goal.push_down-returns-in_ok-push_down-in-Over-clause-marks
@@ -91,7 +92,7 @@ push_down-returns-in_ok-push_down-in-Over-clause-marks t c = on_ok_weaker c.put-
     ] in
     let o = is_over c.take-entry.new.self c.args.ex.now c.args.asked c.in-Over.asked c.take-entry.result c.in-Over.entry c.in-Over.input (sym c.in-Over.is ∙ c.in_ok-entry.ensures) in
     each_marks c.args.self.now.is_count_star c.if-is_count.self.is_count_star c.push_down.new.self.is_count_star c.args.lp.now c.take-entry.new.self c.args.ex.now c.args.node (c.in-Over.input ∷ []) c.take-entry.result c.take-entry.ensures.after.0
-    c.take-entry.ensures.given c.take-entry.ensures.after.2 o.one (o.opens c.args.ex.now) is c.in_ok-push_down-in-Over.ensures.marks) c.put-in-Over.ensures.placed
+    c.requires c.take-entry.ensures.given c.take-entry.ensures.after.2 o.one (o.opens c.args.ex.now) is (λ kids under stand. c.in_ok-push_down-in-Over.ensures.marks kids under)) c.put-in-Over.ensures.placed
 
 -- Closed
 
@@ -128,11 +129,11 @@ push_down-push_input-requires t c =
     let turn = zip_turn s.a.rest.now s.b.rest.now c.loop-input.yielded s c.loop-input.input-iterator c.next.new.self c.next.result refl refl c.loop-input.yielded_by (c.in-Some.input, c.in-Some.asked) c.in-Some.is c.next.ensures.steps in
     let here = places s.a.rest.now s.b.rest.now j c.in-Some.input.now c.in-Some.asked.now turn in
     let there : slice_get c.in-Each.inputs j ≡ Some c.in-Some.input.now = ap (λ (l : List Node). slice_get l j) (sym own) ∙ here.0 in
-    let so = subst (λ (l : List Node). SoFar c.if-is_count.self.is_count_star c.loop-input.self.is_count_star c.in-Each.covered c.in-Each.asked c.take-entry.new.self c.loop-input.lp c.args.ex.now l j) own
-    (subst (λ (l : List (List Name)). SoFar c.if-is_count.self.is_count_star c.loop-input.self.is_count_star c.in-Each.covered l c.take-entry.new.self c.loop-input.lp c.args.ex.now s.a.rest.now j) listed c.loop-input.invariant.0) in
-    let k = each_call c.args.asked c.args.lp.now c.take-entry.new.self c.args.ex.now c.args.node c.in-Each.inputs c.in-Each.asked c.in-Each.covered c.take-entry.result c.in-Each.entry c.take-entry.ensures.after.0
+    let so = subst (λ (l : List Node). SoFar c.if-is_count.self.is_count_star c.loop-input.self.is_count_star c.in-Each.covered c.in-Each.asked c.take-entry.new.self c.loop-input.lp c.args.ex.now c.loop-input.ex l j) own
+    (subst (λ (l : List (List Name)). SoFar c.if-is_count.self.is_count_star c.loop-input.self.is_count_star c.in-Each.covered l c.take-entry.new.self c.loop-input.lp c.args.ex.now c.loop-input.ex s.a.rest.now j) listed c.loop-input.invariant.0) in
+    let k = each_call c.args.asked c.args.lp.now c.take-entry.new.self c.args.ex.now c.args.node c.in-Each.inputs c.in-Each.asked c.in-Each.covered c.take-entry.result c.in-Each.entry c.take-entry.ensures.after.0 c.requires
     c.take-entry.ensures.given c.take-entry.ensures.after.2 (sym c.in-Each.is ∙ c.in_ok-entry.ensures)
-    c.if-is_count.self.is_count_star c.loop-input.self.is_count_star c.loop-input.lp c.in-Some.input.now j c.requires there so in
+    c.if-is_count.self.is_count_star c.loop-input.self.is_count_star c.loop-input.lp c.loop-input.ex c.in-Some.input.now j there so in
     (omega (arith, k.falls, c.decreases), k.plan)
 
 pub push_down-loop-input-preserved : goal.push_down-loop-input-preserved
@@ -143,10 +144,10 @@ push_down-loop-input-preserved t c =
     let j = length c.loop-input.yielded in
     let turn = zip_turn s.a.rest.now s.b.rest.now c.loop-input.yielded s c.loop-input.input-iterator c.next.new.self c.next.result refl refl c.loop-input.yielded_by (c.in-Some.input, c.in-Some.asked) c.in-Some.is c.next.ensures.steps in
     let here = places s.a.rest.now s.b.rest.now j c.in-Some.input.now c.in-Some.asked.now turn in
-    let next = so_far_next c.if-is_count.self.is_count_star c.loop-input.self.is_count_star c.push_input.new.self.is_count_star c.in-Each.covered s.b.rest.now c.in-Some.asked.now c.take-entry.new.self c.loop-input.lp c.push_input.new.lp c.args.ex.now s.a.rest.now c.in-Some.input.now j here.0 here.1 c.loop-input.invariant.0
-    (subst (λ (o : Option (List Name)). PrunesUnder (not c.loop-input.self.is_count_star) o c.in-Some.asked.now c.loop-input.lp c.push_input.new.lp c.args.ex.now c.in-Some.input.now) c.loop-input.invariant.1 c.in_ok-push_input-in-Each.ensures.prunes)
-    c.in_ok-push_input-in-Each.ensures.marks c.in_ok-push_input-in-Each.ensures.stays c.in_ok-push_input-in-Each.ensures.grows in (
-      subst (λ (k : ℕ). SoFar c.if-is_count.self.is_count_star c.push_input.new.self.is_count_star c.in-Each.covered s.b.rest.now c.take-entry.new.self c.push_input.new.lp c.args.ex.now s.a.rest.now k) (sym (length_push c.loop-input.yielded (c.in-Some.input, c.in-Some.asked))) next,
+    let next = so_far_next c.if-is_count.self.is_count_star c.loop-input.self.is_count_star c.push_input.new.self.is_count_star c.in-Each.covered s.b.rest.now c.in-Some.asked.now c.take-entry.new.self c.loop-input.lp c.push_input.new.lp c.args.ex.now c.loop-input.ex c.push_input.new.ex s.a.rest.now c.in-Some.input.now j here.0 here.1 c.loop-input.invariant.0
+    (subst (λ (o : Option (List Name)). PrunesUnder (not c.loop-input.self.is_count_star) o c.in-Some.asked.now c.loop-input.lp c.push_input.new.lp c.loop-input.ex c.push_input.new.ex c.in-Some.input.now) c.loop-input.invariant.1 c.in_ok-push_input-in-Each.ensures.prunes)
+    c.in_ok-push_input-in-Each.ensures.marks c.in_ok-push_input-in-Each.ensures.stays c.in_ok-push_input-in-Each.ensures.grows c.in_ok-push_input-in-Each.ensures.longer in (
+      subst (λ (k : ℕ). SoFar c.if-is_count.self.is_count_star c.push_input.new.self.is_count_star c.in-Each.covered s.b.rest.now c.take-entry.new.self c.push_input.new.lp c.args.ex.now c.push_input.new.ex s.a.rest.now k) (sym (length_push c.loop-input.yielded (c.in-Some.input, c.in-Some.asked))) next,
       c.loop-input.invariant.1,
       c.loop-input.invariant.2,
     )
@@ -160,14 +161,14 @@ push_down-put-requires-in-Each-clause-inputs t c =
     let own : s.a.rest.now ≡ c.in-Each.inputs = search rules in
     let listed : s.b.rest.now ≡ c.in-Each.asked = search rules in
     let j = length c.loop-input.yielded in
-    let so = subst (λ (l : List Node). SoFar c.if-is_count.self.is_count_star c.loop-input.self.is_count_star c.in-Each.covered c.in-Each.asked c.take-entry.new.self c.loop-input.lp c.args.ex.now l j) own
-    (subst (λ (l : List (List Name)). SoFar c.if-is_count.self.is_count_star c.loop-input.self.is_count_star c.in-Each.covered l c.take-entry.new.self c.loop-input.lp c.args.ex.now s.a.rest.now j) listed c.loop-input.invariant.0) in
+    let so = subst (λ (l : List Node). SoFar c.if-is_count.self.is_count_star c.loop-input.self.is_count_star c.in-Each.covered c.in-Each.asked c.take-entry.new.self c.loop-input.lp c.args.ex.now c.loop-input.ex l j) own
+    (subst (λ (l : List (List Name)). SoFar c.if-is_count.self.is_count_star c.loop-input.self.is_count_star c.in-Each.covered l c.take-entry.new.self c.loop-input.lp c.args.ex.now c.loop-input.ex s.a.rest.now j) listed c.loop-input.invariant.0) in
     let ended : j ≡ min (length c.in-Each.inputs) (length c.in-Each.asked) =
     zip_end s.a.rest.now s.b.rest.now c.loop-input.yielded s c.loop-input.input-iterator c.next.new.self c.next.result refl refl c.loop-input.yielded_by c.in-None.is c.next.ensures.steps
     ∙ ap₂ (λ (l : List Node) (m : List (List Name)). min (length l) (length m)) own listed in
-    let left = each_left c.args.asked c.args.lp.now c.take-entry.new.self c.args.ex.now c.args.node c.in-Each.inputs c.in-Each.asked c.in-Each.covered c.take-entry.result c.in-Each.entry c.take-entry.ensures.after.0
+    let left = each_left c.args.asked c.args.lp.now c.take-entry.new.self c.args.ex.now c.args.node c.in-Each.inputs c.in-Each.asked c.in-Each.covered c.take-entry.result c.in-Each.entry c.take-entry.ensures.after.0 c.requires
     c.take-entry.ensures.given c.take-entry.ensures.after.2 (sym c.in-Each.is ∙ c.in_ok-entry.ensures)
-    c.if-is_count.self.is_count_star c.loop-input.self.is_count_star c.loop-input.lp j c.requires ended so in
+    c.if-is_count.self.is_count_star c.loop-input.self.is_count_star c.loop-input.lp c.loop-input.ex j ended so in
     subst (λ (q : IR). (u : Trees IR) × StandsOnce plan_shape c.loop-input.lp (inputs_of q) u) (sym c.loop-input.invariant.2) left
 
 pub push_down-returns-in-None-clause-prunes : goal.push_down-returns-in-None-clause-prunes
@@ -176,8 +177,8 @@ push_down-returns-in-None-clause-prunes t c = on_ok_weaker c.put-in-Each.result 
     let own : s.a.rest.now ≡ c.in-Each.inputs = search rules in
     let listed : s.b.rest.now ≡ c.in-Each.asked = search rules in
     let j = length c.loop-input.yielded in
-    let so = subst (λ (l : List Node). SoFar c.if-is_count.self.is_count_star c.loop-input.self.is_count_star c.in-Each.covered c.in-Each.asked c.take-entry.new.self c.loop-input.lp c.args.ex.now l j) own
-    (subst (λ (l : List (List Name)). SoFar c.if-is_count.self.is_count_star c.loop-input.self.is_count_star c.in-Each.covered l c.take-entry.new.self c.loop-input.lp c.args.ex.now s.a.rest.now j) listed c.loop-input.invariant.0) in
+    let so = subst (λ (l : List Node). SoFar c.if-is_count.self.is_count_star c.loop-input.self.is_count_star c.in-Each.covered c.in-Each.asked c.take-entry.new.self c.loop-input.lp c.args.ex.now c.loop-input.ex l j) own
+    (subst (λ (l : List (List Name)). SoFar c.if-is_count.self.is_count_star c.loop-input.self.is_count_star c.in-Each.covered l c.take-entry.new.self c.loop-input.lp c.args.ex.now c.loop-input.ex s.a.rest.now j) listed c.loop-input.invariant.0) in
     let ended : j ≡ min (length c.in-Each.inputs) (length c.in-Each.asked) =
     zip_end s.a.rest.now s.b.rest.now c.loop-input.yielded s c.loop-input.input-iterator c.next.new.self c.next.result refl refl c.loop-input.yielded_by c.in-None.is c.next.ensures.steps
     ∙ ap₂ (λ (l : List Node) (m : List (List Name)). min (length l) (length m)) own listed in
@@ -186,13 +187,13 @@ push_down-returns-in-None-clause-prunes t c = on_ok_weaker c.put-in-Each.result 
       | push_down-else-is_count w ↦ mark_kept c.args.self.now.is_count_star (sym c.is_count.ensures ∙ w.if-is_count.false) (ap (λ (p : ProjectionPushDown). p.is_count_star) w.self-is)
     ] in
     let top = not c.args.self.now.is_count_star in
-    each_step c.args.asked c.args.lp.now c.take-entry.new.self c.args.ex.now c.args.node c.in-Each.inputs c.in-Each.asked c.in-Each.covered c.take-entry.result c.in-Each.entry c.take-entry.ensures.after.0
+    each_step c.args.asked c.args.lp.now c.take-entry.new.self c.args.ex.now c.args.node c.in-Each.inputs c.in-Each.asked c.in-Each.covered c.take-entry.result c.in-Each.entry c.take-entry.ensures.after.0 c.requires
     c.take-entry.ensures.given c.take-entry.ensures.after.2 (sym c.in-Each.is ∙ c.in_ok-entry.ensures)
-    top c.if-is_count.self.is_count_star c.loop-input.self.is_count_star c.loop-input.lp c.put-in-Each.new.lp j
+    top c.if-is_count.self.is_count_star c.loop-input.self.is_count_star c.loop-input.lp c.put-in-Each.new.lp c.loop-input.ex j
     (top_marked c.args.self.now.is_count_star (is_count (op_at c.args.ex.now c.take-entry.result)) c.if-is_count.self.is_count_star is) ended so
-    (back c.args.ex.now
-    ∙ ap (put_back top (ltb 0 c.len-is_asked.result) c.loop-input.lp c.args.ex.now c.args.node) c.loop-input.invariant.2
-    ∙ ap (λ (some : Bool). put_back top some c.loop-input.lp c.args.ex.now c.args.node c.in-Each.entry) (some_len c.args.asked c.len-is_asked.result c.len-is_asked.ensures.value))) c.put-in-Each.ensures.placed
+    (back c.loop-input.ex
+    ∙ ap (put_back top (ltb 0 c.len-is_asked.result) c.loop-input.lp c.loop-input.ex c.args.node) c.loop-input.invariant.2
+    ∙ ap (λ (some : Bool). put_back top some c.loop-input.lp c.loop-input.ex c.args.node c.in-Each.entry) (some_len c.args.asked c.len-is_asked.result c.len-is_asked.ensures.value))) c.put-in-Each.ensures.placed
 
 pub push_down-returns-in-None-clause-marks : goal.push_down-returns-in-None-clause-marks
 push_down-returns-in-None-clause-marks t c = on_ok_weaker c.put-in-Each.result (λ back.
@@ -200,8 +201,8 @@ push_down-returns-in-None-clause-marks t c = on_ok_weaker c.put-in-Each.result (
     let own : s.a.rest.now ≡ c.in-Each.inputs = search rules in
     let listed : s.b.rest.now ≡ c.in-Each.asked = search rules in
     let j = length c.loop-input.yielded in
-    let so = subst (λ (l : List Node). SoFar c.if-is_count.self.is_count_star c.loop-input.self.is_count_star c.in-Each.covered c.in-Each.asked c.take-entry.new.self c.loop-input.lp c.args.ex.now l j) own
-    (subst (λ (l : List (List Name)). SoFar c.if-is_count.self.is_count_star c.loop-input.self.is_count_star c.in-Each.covered l c.take-entry.new.self c.loop-input.lp c.args.ex.now s.a.rest.now j) listed c.loop-input.invariant.0) in
+    let so = subst (λ (l : List Node). SoFar c.if-is_count.self.is_count_star c.loop-input.self.is_count_star c.in-Each.covered c.in-Each.asked c.take-entry.new.self c.loop-input.lp c.args.ex.now c.loop-input.ex l j) own
+    (subst (λ (l : List (List Name)). SoFar c.if-is_count.self.is_count_star c.loop-input.self.is_count_star c.in-Each.covered l c.take-entry.new.self c.loop-input.lp c.args.ex.now c.loop-input.ex s.a.rest.now j) listed c.loop-input.invariant.0) in
     let ended : j ≡ min (length c.in-Each.inputs) (length c.in-Each.asked) =
     zip_end s.a.rest.now s.b.rest.now c.loop-input.yielded s c.loop-input.input-iterator c.next.new.self c.next.result refl refl c.loop-input.yielded_by c.in-None.is c.next.ensures.steps
     ∙ ap₂ (λ (l : List Node) (m : List (List Name)). min (length l) (length m)) own listed in
@@ -209,9 +210,9 @@ push_down-returns-in-None-clause-marks t c = on_ok_weaker c.put-in-Each.result (
       | push_down-then-is_count w ↦ mark_set c.args.self.now.is_count_star (sym c.is_count.ensures ∙ w.if-is_count.true) (ap (λ (p : ProjectionPushDown). p.is_count_star) w.self-is)
       | push_down-else-is_count w ↦ mark_kept c.args.self.now.is_count_star (sym c.is_count.ensures ∙ w.if-is_count.false) (ap (λ (p : ProjectionPushDown). p.is_count_star) w.self-is)
     ] in
-    each_mark c.args.asked c.args.lp.now c.take-entry.new.self c.args.ex.now c.args.node c.in-Each.inputs c.in-Each.asked c.in-Each.covered c.take-entry.result c.in-Each.entry c.take-entry.ensures.after.0
+    each_mark c.args.asked c.args.lp.now c.take-entry.new.self c.args.ex.now c.args.node c.in-Each.inputs c.in-Each.asked c.in-Each.covered c.take-entry.result c.in-Each.entry c.take-entry.ensures.after.0 c.requires
     c.take-entry.ensures.given c.take-entry.ensures.after.2 (sym c.in-Each.is ∙ c.in_ok-entry.ensures)
-    c.args.self.now.is_count_star c.if-is_count.self.is_count_star c.loop-input.self.is_count_star c.loop-input.lp j is ended so) c.put-in-Each.ensures.placed
+    c.args.self.now.is_count_star c.if-is_count.self.is_count_star c.loop-input.self.is_count_star c.loop-input.lp c.loop-input.ex j is ended so) c.put-in-Each.ensures.placed
 
 pub push_down-returns-in-None-clause-stays : goal.push_down-returns-in-None-clause-stays
 push_down-returns-in-None-clause-stays t c =
@@ -237,6 +238,10 @@ push_down-returns-in_err-push_input-in-Each-clause-stays t c =
     ] in
     λ e. c.in_err-push_input-in-Each.ensures.stays (c.loop-input.invariant.0.stays (set e))
 
+pub push_down-returns-in_err-push_input-in-Each-clause-longer : goal.push_down-returns-in_err-push_input-in-Each-clause-longer
+push_down-returns-in_err-push_input-in-Each-clause-longer t c =
+    longer_trans c.args.ex.now c.loop-input.ex c.push_input.new.ex c.loop-input.invariant.0.longer c.in_err-push_input-in-Each.ensures.longer
+
 -- an input
 
 pub push_input-push_down-requires : goal.push_input-push_down-requires
@@ -244,7 +249,7 @@ push_input-push_down-requires t c = (omega (arith, c.decreases), c.requires)
 
 pub push_input-cover-requires : goal.push_input-cover-requires
 push_input-cover-requires t c =
-    stands_after (not c.args.self.now.is_count_star) c.in_ok-copied_names.field-0 c.args.lp.now c.push_down.new.lp c.args.ex.now c.args.input (c.requires.nodes, c.requires.stands.nodes) c.in_ok-push_down.ensures.prunes
+    stands_after (not c.args.self.now.is_count_star) c.in_ok-copied_names.field-0 c.args.lp.now c.push_down.new.lp c.args.ex.now c.push_down.new.ex c.args.input (c.requires.nodes, c.requires.stands.nodes) c.in_ok-push_down.ensures.prunes
 
 pub push_input-returns-in-Some-clause-prunes : goal.push_input-returns-in-Some-clause-prunes
 push_input-returns-in-Some-clause-prunes t c = on_ok_weaker c.cover.result (λ placed.
@@ -254,11 +259,11 @@ push_input-returns-in-Some-clause-prunes t c = on_ok_weaker c.cover.result (λ p
     let names = c.in-Some.names in
     let below = c.in_ok-push_down.ensures.prunes in
     let some : covers ≡ Some names = c.in-Some.is in
-    one_more (not c.args.self.now.is_count_star) covers c.args.asked.now c.args.lp.now u c.cover.new.lp c.args.ex.now i
-    (subst (λ (l : List Name). PrunesAt (not c.args.self.now.is_count_star) l c.args.lp.now u c.args.ex.now i) c.in_ok-copied_names.ensures below)
-    (λ l e. placed c.args.ex.now ∙ ap (λ (m : List Name). covered_at (asked_columns m (columns_at u c.args.ex.now i)) u i) (some_same covers names l some e))
+    one_more (not c.args.self.now.is_count_star) covers c.args.asked.now c.args.lp.now u c.cover.new.lp c.args.ex.now c.push_down.new.ex i
+    (subst (λ (l : List Name). PrunesAt (not c.args.self.now.is_count_star) l c.args.lp.now u c.args.ex.now c.push_down.new.ex i) c.in_ok-copied_names.ensures below)
+    (λ l e. placed c.push_down.new.ex ∙ ap (λ (m : List Name). covered_at (asked_columns m (columns_at u c.push_down.new.ex i)) u i) (some_same covers names l some e))
     (λ e. absurd (none_some covers names e some))
-    (is_entry u i (stands_after (not c.args.self.now.is_count_star) c.in_ok-copied_names.field-0 c.args.lp.now u c.args.ex.now i (c.requires.nodes, c.requires.stands.nodes) below))) c.cover.ensures.placed
+    (is_entry u i (stands_after (not c.args.self.now.is_count_star) c.in_ok-copied_names.field-0 c.args.lp.now u c.args.ex.now c.push_down.new.ex i (c.requires.nodes, c.requires.stands.nodes) below))) c.cover.ensures.placed
 
 pub push_input-returns-in-None-clause-prunes : goal.push_input-returns-in-None-clause-prunes
 push_input-returns-in-None-clause-prunes t c =
@@ -266,8 +271,8 @@ push_input-returns-in-None-clause-prunes t c =
     let u = c.push_down.new.lp in
     let covers = c.args.covered.now in
     let below = c.in_ok-push_down.ensures.prunes in
-    one_more (not c.args.self.now.is_count_star) covers c.args.asked.now c.args.lp.now u u c.args.ex.now i
-    (subst (λ (l : List Name). PrunesAt (not c.args.self.now.is_count_star) l c.args.lp.now u c.args.ex.now i) c.in_ok-copied_names.ensures below)
+    one_more (not c.args.self.now.is_count_star) covers c.args.asked.now c.args.lp.now u u c.args.ex.now c.push_down.new.ex i
+    (subst (λ (l : List Name). PrunesAt (not c.args.self.now.is_count_star) l c.args.lp.now u c.args.ex.now c.push_down.new.ex i) c.in_ok-copied_names.ensures below)
     (λ l e. absurd (none_some covers l c.in-None.is e))
     (λ e. refl)
-    (is_entry u i (stands_after (not c.args.self.now.is_count_star) c.in_ok-copied_names.field-0 c.args.lp.now u c.args.ex.now i (c.requires.nodes, c.requires.stands.nodes) below))
+    (is_entry u i (stands_after (not c.args.self.now.is_count_star) c.in_ok-copied_names.field-0 c.args.lp.now u c.args.ex.now c.push_down.new.ex i (c.requires.nodes, c.requires.stands.nodes) below))

@@ -12,4 +12,4 @@ decreases-push_input l = 2 * height_at plan_shape l.lp.now l.input + 1
 
 -- the inputs up to here are pruned, the mark is set where they count rows, and the names that go on top and the node that goes back stay
 abbrev pub invariant-push_down-loop-input : goal.invariant-push_down-loop-input
-invariant-push_down-loop-input l = SoFar l.initial.self.is_count_star l.self.is_count_star l.initial.covered l.initial.input-iterator.b.rest.now l.initial.lp l.lp l.ex l.initial.input-iterator.a.rest.now (length l.yielded) × (l.covered ≡ l.initial.covered) × (l.entry ≡ l.initial.entry)
+invariant-push_down-loop-input l = SoFar l.initial.self.is_count_star l.self.is_count_star l.initial.covered l.initial.input-iterator.b.rest.now l.initial.lp l.lp l.initial.ex l.ex l.initial.input-iterator.a.rest.now (length l.yielded) × (l.covered ≡ l.initial.covered) × (l.entry ≡ l.initial.entry)
