@@ -23,9 +23,10 @@ use Rattle.plan_meaning.specs.Relating.{Asked, all, names, Holding, NarrowColumn
 use Rattle.plan_meaning.specs.Steps.{IsValid}
 use Rattle.plan_meaning.specs.Typing.{first_schema, rest_schemas, schema, schema_by, schemas, AllValid}
 use Rattle.plan_meaning.proofs.CheckParts.{known_leaf}
-use Rattle.plan_meaning.proofs.JoinLemmas.{JoinGood, join_good}
+use Rattle.plan_meaning.proofs.JoinLemmas.{differ_distinct, join_good, JoinGood}
 use Rattle.plan_meaning.proofs.Related.{LocalTo, relates_node}
-use Rattle.plan_join_narrowing.specs.JoinPruned.{called_now, narrowed_args, narrowed_told, pruned_join, topped_if}
+use Rattle.plan_join_narrowing.specs.JoinPruned.{called_now, first_of_each, narrowed_args, narrowed_told, pruned_join, topped_if}
+use Rattle.plan_join_narrowing.proofs.FirstColumns.{first-distinct}
 use Rattle.plan_join_narrowing.proofs.JoinColumns.{origin_called, origin_out, origin_some, out_named}
 use Rattle.plan_join_narrowing.proofs.JoinFrames.{lefts_less, now-is}
 use Rattle.plan_join_narrowing.proofs.JoinKept.{Kept, kept_args}
@@ -127,6 +128,10 @@ module _ (left_on right_on : List Named) (stored : Columns) (told : Told) (a0 : 
     asked_renamed : IsRenamed now wanted q p
     asked_renamed = renamed_fewer now (needed_of told wanted) wanted q p (λ a i. has_back (all_leaves (conditions told.options)) wanted a i) needed_renamed
 
+    -- no name comes twice among its columns, so that they are the first of each
+    columns_first : first_of_each columns ≡ columns
+    columns_first = first-distinct columns (differ_distinct (names_of columns) (join_good left_on right_on columns (narrowed_told now args told) r1 r2 needed_renamed.valid.0).differ)
+
     -- a join that puts out left columns alone calls them as they were
     module _ (hides : has_right told.args.how ≡ false) where
       not_right : (args' : JoinArgs) (keys : List Name) (u : Columns) (b : Name) → has_right args'.how ≡ false → has (names_of (right_rest args' keys u)) b ≡ true → ⊥
@@ -155,12 +160,15 @@ module _ (left_on right_on : List Named) (stored : Columns) (told : Told) (a0 : 
       bare_narrows : Narrows q p (names wanted)
       bare_narrows = bare_top now wanted q p v fair asked_renamed alike within
 
-    some_narrows : Narrows (topped_if (has_right told.args.how) now wanted columns q) p (names wanted)
-    some_narrows = at (has_right told.args.how) refl
+    all_columns : Narrows (topped_if (has_right told.args.how) now wanted columns q) p (names wanted)
+    all_columns = at (has_right told.args.how) refl
       where
         at : (b : Bool) → has_right told.args.how ≡ b → Narrows (topped_if b now wanted columns q) p (names wanted)
         at true e = topped_narrows now wanted q p v fair asked_renamed
         at false e = bare_narrows e
+
+    some_narrows : Narrows (topped_if (has_right told.args.how) now wanted (first_of_each columns) (rose tt (join left_on right_on (first_of_each columns) (narrowed_told now args told)) (more p1 (more p2 no_roses)))) p (names wanted)
+    some_narrows = subst (λ (cs : Columns). Narrows (topped_if (has_right told.args.how) now wanted cs (rose tt (join left_on right_on cs (narrowed_told now args told)) (more p1 (more p2 no_roses)))) p (names wanted)) (sym columns_first) all_columns
 
 -- asked everything
 
@@ -203,8 +211,8 @@ join_narrows (a ∷ l) left_on right_on stored told (rose m1 o1 us1) (rose m2 o2
     let by = origin_of left_on right_on told s (schema_by k2 (schemas ts2)) in
     let valid : AllValid rs = (h1.valid.0, h1.valid.1, (h2.valid.0, h2.valid.1, tt)) in
     subst (λ (us : List Columns). Narrows
-    (topped_if (has_right told.args.how) (called_now args (column_keys left_on) (first_schema us) by) (a ∷ l) (join_columns args (column_keys left_on) (column_keys right_on) (first_schema us) (first_schema (rest_schemas us)))
-    (rose tt (join left_on right_on (join_columns args (column_keys left_on) (column_keys right_on) (first_schema us) (first_schema (rest_schemas us))) (narrowed_told (called_now args (column_keys left_on) (first_schema us) by) args told)) rs))
+    (topped_if (has_right told.args.how) (called_now args (column_keys left_on) (first_schema us) by) (a ∷ l) (first_of_each (join_columns args (column_keys left_on) (column_keys right_on) (first_schema us) (first_schema (rest_schemas us))))
+    (rose tt (join left_on right_on (first_of_each (join_columns args (column_keys left_on) (column_keys right_on) (first_schema us) (first_schema (rest_schemas us)))) (narrowed_told (called_now args (column_keys left_on) (first_schema us) by) args told)) rs))
     (rose tt (join left_on right_on stored told) (more (rose n1 k1 ts1) (more (rose n2 k2 ts2) no_roses))) (names (a ∷ l)))
     (sym (stored-schemas rs valid))
     (some_narrows left_on right_on stored told a l m1 m2 n1 n2 o1 o2 k1 k2 us1 us2 ts1 ts2 v fair h1 h2 once1 once2)

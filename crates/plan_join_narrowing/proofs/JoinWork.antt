@@ -1,5 +1,5 @@
 -- A pruned join scans what its sides scan, has at most one node more, and makes nothing.
-use Rattle.std.proofs.Common.{◌≡◌, ℕ, ◌+◌, ◌≤◌, Bool, true, false, cond, List, [], ◌∷◌, map, refl, append-nil, arith}
+use Rattle.std.proofs.Common.{◌≡◌, ◌+◌, ◌≤◌, Bool, true, false, cond, List, [], ◌∷◌, map, refl, append-nil, arith}
 use Rattle.std.specs.List.{list_all}
 use Rattle.plan_core.specs.Columns.{Columns, names_of}
 use Rattle.plan_core.specs.Names.{has}

@@ -1,4 +1,5 @@
 -- The lemmas of this crate.
+pub mod FirstColumns
 mod SideLemmas
 mod JoinNames
 mod JoinColumns

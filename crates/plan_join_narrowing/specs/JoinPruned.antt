@@ -1,5 +1,5 @@
 -- What pruning makes of a join.
-use Rattle.std.specs.Prelude.{◌∷◌, not, ◌&&◌, Bool, true, false, List, [], map, Option, option_map, unwrap_or, is_some, if◌then◌else◌}
+use Rattle.std.specs.Prelude.{◌∷◌, not, ◌&&◌, Bool, true, false, List, [], fold, map, Option, option_map, unwrap_or, is_some, if◌then◌else◌}
 use Rattle.std.specs.List.{list_all}
 use Rattle.std.specs.Option.{option_map_or}
 use Rattle.std.specs.Str.{bytes_eq}
@@ -18,6 +18,7 @@ use Rattle.plan_expr.specs.declared.expr_ir.OutputName.{OutputName}
 use Rattle.plan_expr.specs.declared.expr_ir.OutputName.TheVariants as output
 use Rattle.plan_expr.specs.Exprs.{column, Expr, Named}
 use Rattle.plan_expr.specs.Leaves.{Name}
+use Rattle.plan_frame.specs.Beside.{with_new}
 use Rattle.plan_ir.specs.Plans.{Op, join, select, simple_projection, Plan}
 use Rattle.plan_join.specs.declared.origin.Side.{Side}
 use Rattle.plan_join.specs.Naming.{called, has_right, join_columns, left_rest, right_name}
@@ -109,10 +110,14 @@ abbrev pub name_now : List Name → (left_on right_on : List Named) → Told →
 name_now asked left_on right_on told s t inputs =
     called_now (narrowed_args told.args asked right_on s) (column_keys left_on) (first_schema (stored_all inputs)) (origin_of left_on right_on told s t)
 
--- the columns of a join over pruned sides
+-- columns, of each name the first
+abbrev pub first_of_each : Columns → Columns
+first_of_each cs = fold with_new [] cs
+
+-- the columns of a join over pruned sides, of each name the first
 abbrev pub columns_left : List Name → (left_on right_on : List Named) → Told → (left right : Columns) → Roses (Unit {0}) Op → Columns
 columns_left asked left_on right_on told s t inputs =
-    join_columns (narrowed_args told.args asked right_on s) (column_keys left_on) (column_keys right_on) (first_schema (stored_all inputs)) (first_schema (rest_schemas (stored_all inputs)))
+    first_of_each (join_columns (narrowed_args told.args asked right_on s) (column_keys left_on) (column_keys right_on) (first_schema (stored_all inputs)) (first_schema (rest_schemas (stored_all inputs))))
 
 -- a join over pruned sides, asked something, with nothing on top
 abbrev pub join_left : List Name → (left_on right_on : List Named) → Told → (left right : Columns) → Roses (Unit {0}) Op → Plan

@@ -6,11 +6,11 @@ use Rattle.std.proofs.lemmas.Slice.Eq.{bytes_eq-Decides, slice_eq-Decides}
 use Rattle.plan_core.specs.declared.arena.Node.{Node}
 use Rattle.plan_core.specs.Names.{has}
 use Rattle.plan_tree.specs.Read.{tree_at}
-use Rattle.plan_tree.specs.Rose.{Roses, rose, no_roses, more}
+use Rattle.plan_tree.specs.Rose.{rose, no_roses, more}
 use Rattle.plan_tree.specs.Stands.{Trees, StandsOnce}
 use Rattle.plan_tree.proofs.ReadLemmas.{tree_at-is}
 use Rattle.plan_expr.specs.declared.aexpr.AExpr.{AExpr}
-use Rattle.plan_expr.specs.Exprs.{bare_exprs, Expr, ExprOp, expr_at, one_expr}
+use Rattle.plan_expr.specs.Exprs.{bare_exprs, Expr, expr_at, one_expr}
 use Rattle.plan_expr.specs.Leaves.{Name, leaves, leaves_all}
 use Rattle.plan_expr.specs.Operands.{expr_shape, IsExpr}
 use Rattle.plan_meaning.specs.Functions.{renamed}

@@ -1,5 +1,5 @@
 -- The keys of a join, read at their numbers.
-use Rattle.std.proofs.Common.{◌≡◌, ◌∙◌, arith, ◌<◌, length, All, Bor, get_or, Bool, List, [], ◌∷◌, Option, None, Some, IfNone, IfSome, is_some, option_map, refl, sym, ap, ap₂}
+use Rattle.std.proofs.Common.{◌≡◌, ◌∙◌, arith, ◌<◌, length, All, get_or, List, [], ◌∷◌, Option, None, Some, option_map, refl, sym, ap, ap₂}
 use Rattle.std.specs.List.{cons_option, slice_get}
 use Rattle.std.proofs.lemmas.List.Elements.{All-tail}
 use Rattle.std.proofs.lemmas.Option.{slice_get_within}

@@ -1,22 +1,20 @@
 -- Lists that are made one item after another.
-use Rattle.std.proofs.Common.{◌≡◌, ◌∙◌, ◌&&◌, Bor, not, is_some, ℕ, ◌+◌, ◌<◌, ◌≤◌, length, Bool, true, false, List, [], ◌∷◌, ◌++◌, fold, map, take, Option, Some, None, unwrap_or, get_or, sym, ap, ap₂, refl, append-nil, append_assoc, subst}
-use Rattle.std.specs.List.{list_all, slice_get}
+use Rattle.std.proofs.Common.{◌≡◌, ◌∙◌, Bor, not, is_some, ℕ, ◌+◌, Bool, true, false, List, [], ◌∷◌, ◌++◌, fold, map, take, Option, Some, None, unwrap_or, sym, ap, ap₂, refl}
+use Rattle.std.specs.List.{slice_get}
 use Rattle.std.specs.Option.{option_copied}
-use Rattle.std.proofs.lemmas.List.{map-append, take_all}
-use Rattle.std.proofs.lemmas.List.Folds.{list_all_at, list_all_more}
+use Rattle.std.proofs.lemmas.List.{map-append}
 use Rattle.std.proofs.lemmas.List.Sums.{fold-append}
-use Rattle.plan_core.specs.Columns.{Columns, HasDistinctNames, names_of, type_of, with_type}
+use Rattle.plan_core.specs.Columns.{Columns, names_of, type_of, with_type}
 use Rattle.plan_core.specs.declared.data_type.DataType.{DataType}
 use Rattle.plan_core.specs.declared.data_type.DataType.TheVariants.{Int64}
 use Rattle.plan_core.specs.Names.{has, AreDistinct}
-use Rattle.plan_core.proofs.ColumnLemmas.{with_type-last}
 use Rattle.plan_expr.specs.Leaves.{Name}
 use Rattle.plan_expr.proofs.ListLemmas.{take-next}
 use Rattle.plan_frame.specs.Beside.{with_new}
-use Rattle.plan_join.proofs.ColumnLemmas.{has-typed, is_new, with_type-absent}
-use Rattle.plan_join_narrowing.specs.JoinPruned.{named_now}
+use Rattle.plan_join.proofs.ColumnLemmas.{has-typed, with_type-absent}
+use Rattle.plan_join_narrowing.specs.JoinPruned.{first_of_each, named_now}
+use Rattle.plan_join_narrowing.proofs.FirstColumns.{with_new-last}
 use Rattle.plan_narrowing.proofs.ListSteps.{before_differ, has-differs}
-use Rattle.plan_join_prune.specs.Left.{first_of_each}
 
 pub map-next : {A B : Type 0} (f : A → B) (xs : List A) (i : ℕ) (x : A) → slice_get xs i ≡ Some x → map f (take i xs) ++ f x ∷ [] ≡ map f (take (i + 1) xs)
 map-next f xs i x e = sym (ap (map f) (take-next xs i x e) ∙ map-append f (take i xs) (x ∷ []))
@@ -25,9 +23,6 @@ map-next f xs i x e = sym (ap (map f) (take-next xs i x e) ∙ map-append f (tak
 
 with_new-there : (s : Columns) (c : Name × DataType) → has (names_of s) c.0 ≡ true → with_new s c ≡ s
 with_new-there s c h = rw h refl
-
-with_new-last : (s : Columns) (c : Name × DataType) → has (names_of s) c.0 ≡ false → with_new s c ≡ s ++ c ∷ []
-with_new-last s c h = rw h refl
 
 -- a name that is there isn't added
 pub first-there : (made left whole : Columns) (c : Name × DataType) (all : Columns) → whole ≡ c ∷ left → has (names_of made) c.0 ≡ true → fold with_new made whole ≡ all → fold with_new made left ≡ all
@@ -56,17 +51,6 @@ named-next now columns made asked i a b d distinct here is same typed =
     names : (l : List Name) → names_of (named_now now columns l) ≡ l
     names [] = refl
     names (x ∷ l) = ap (λ (m : List Name). x ∷ m) (names l)
-
-distinct_on : (done cs : Columns) → HasDistinctNames (done ++ cs) → fold with_new done cs ≡ done ++ cs
-distinct_on done [] h = sym (append-nil done)
-distinct_on done (c ∷ cs) h =
-    ap (λ (s : Columns). fold with_new s cs) (with_new-last done c (is_new done c.0 c.1 cs h))
-    ∙ distinct_on (done ++ c ∷ []) cs (subst HasDistinctNames (sym (append_assoc done (c ∷ []) cs)) h)
-    ∙ append_assoc done (c ∷ []) cs
-
--- of columns whose names differ the first of each are all
-pub first-distinct : (cs : Columns) → HasDistinctNames cs → first_of_each cs ≡ cs
-first-distinct cs h = distinct_on [] cs h
 
 -- with others behind them
 pub first-behind : (cs others : Columns) → first_of_each cs ≡ cs → fold with_new cs others ≡ first_of_each (cs ++ others)

@@ -1,5 +1,5 @@
 -- What the columns of a join are called over pruned sides, by what it is told and by these sides.
-use Rattle.std.proofs.Common.{◌≡◌, ◌∙◌, All, List, Option, sym, ap, ap₂}
+use Rattle.std.proofs.Common.{◌≡◌, ◌∙◌, All, List, sym, ap, ap₂}
 use Rattle.std.specs.Option.{option_map_or}
 use Rattle.plan_core.specs.Columns.{Columns, names_of}
 use Rattle.plan_options.specs.declared.join.JoinArgs.{JoinArgs}

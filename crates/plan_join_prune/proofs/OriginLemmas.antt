@@ -1,5 +1,5 @@
 -- The first column that is put out under a name, found among the left columns, and else among the right ones by the name that they get.
-use Rattle.std.proofs.Common.{◌≡◌, ◌∙◌, ◌++◌, append_assoc, append-nil, Bool, true, false, cond, List, [], ◌∷◌, map, Option, Some, None, option_map, refl, sym, ap}
+use Rattle.std.proofs.Common.{◌≡◌, ◌∙◌, ◌++◌, append_assoc, append-nil, Bool, true, false, cond, List, [], ◌∷◌, map, Option, Some, option_map, refl, sym, ap}
 use Rattle.std.specs.List.{find}
 use Rattle.std.specs.Str.{bytes_eq}
 use Rattle.plan_core.specs.declared.data_type.DataType.{DataType}
@@ -11,7 +11,6 @@ use Rattle.plan_expr.specs.Leaves.{Name}
 use Rattle.plan_join.specs.declared.origin.Side.{Side}
 use Rattle.plan_join.specs.declared.origin.Side.TheVariants as sides
 use Rattle.plan_join.specs.Naming.{is_called, left_rest, origin, right_name, right_rest}
-use Rattle.plan_join.specs.Origins.{right_origin}
 use Rattle.plan_join.proofs.OriginLemmas.{origin-either}
 use Rattle.plan_join_prune.specs.declared.origins.Origins.{Origins}
 use Rattle.plan_join_prune.specs.Origins.{origin_in}

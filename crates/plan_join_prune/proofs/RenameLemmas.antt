@@ -1,12 +1,12 @@
 -- Expressions under other names: names that are alike on what it reads make of an expression the same.
-use Rattle.std.proofs.Common.{◌≡◌, ◌∙◌, Bool, true, false, cond, List, [], ◌∷◌, ◌++◌, ◌||◌, map, Option, Some, None, unwrap_or, refl, sym, ap, ap₂}
+use Rattle.std.proofs.Common.{◌≡◌, ◌∙◌, Bool, true, false, cond, List, [], ◌∷◌, ◌||◌, map, Option, Some, unwrap_or, refl, sym, ap, ap₂}
 use Rattle.std.specs.Str.{bytes_eq}
 use Rattle.std.proofs.lemmas.Slice.Eq.{bytes_eq-Decides}
 use Rattle.plan_core.specs.Names.{has}
 use Rattle.plan_tree.specs.Rose.{Roses, rose, no_roses, more}
-use Rattle.plan_expr.specs.Exprs.{ExprOp, column, literal, alias, binary, ternary, aggregate, call, window, len, Expr}
+use Rattle.plan_expr.specs.Exprs.{ExprOp, column, literal, alias, binary, ternary, aggregate, call, window, len}
 use Rattle.plan_expr.specs.Leaves.{Name, own_leaves, leaves, leaves_all}
-use Rattle.plan_frame.proofs.NameSets.{has_first, has_front, has_back, has_later}
+use Rattle.plan_frame.proofs.NameSets.{has_first, has_front, has_back}
 use Rattle.plan_meaning.specs.Functions.{new_name, renamed}
 use Rattle.plan_renamed.specs.Renamed.{renamed_exprs, renamed_op}
 

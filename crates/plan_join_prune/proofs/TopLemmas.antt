@@ -40,10 +40,13 @@ module _ (now : Name → Name) where
   columns-more ex (d ∷ es) (b ∷ names) e a h k n = (h.0, h.1, columns-more ex es names e a h.2 k n)
 
   column_stands : (ex : List AExpr) (n : Node) (b : Name) → slice_get ex n.0 ≡ Some (exprs.Column b) → IsExpr ex n
-  column_stands ex n b e = (more (rose n (exprs.Column b) no_roses) no_roses, record {
-    stands = (refl, e, refl, tt, tt);
-    once = ((λ r. r), (λ r. r), (λ k u v. v), tt, tt);
-  })
+  column_stands ex n b e = (
+    more (rose n (exprs.Column b) no_roses) no_roses,
+    record {
+      stands = (refl, e, refl, tt, tt);
+      once = ((λ r. r), (λ r. r), (λ k u v. v), tt, tt);
+    },
+  )
 
   -- so they read
   pub columns-named : (ex : List AExpr) (es : List ExprIR) (names : List Name) → ColumnsAt ex es names → all_named_at ex es ≡ map (renaming now) names

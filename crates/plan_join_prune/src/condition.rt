@@ -16,11 +16,7 @@ use plan_renamed::copy_renamed;
 use std::alloc::{AllocError, Global};
 
 /// The output name of an expression, where columns are called otherwise now.
-fn output_now(
-    alloc: Global,
-    name: OutputName,
-    names: &JoinNames,
-) -> Result<OutputName, AllocError>
+fn output_now(alloc: Global, name: OutputName, names: &JoinNames) -> Result<OutputName, AllocError>
     ensures { IfOk result (λ now. now ≡ renamed_output (name_now names.now) name) }
 {
     match name {

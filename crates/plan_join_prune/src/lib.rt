@@ -2,7 +2,6 @@
 #![tactic(auto)]
 
 mod arguments;
-
 mod condition;
 mod names;
 mod origins;
@@ -11,8 +10,8 @@ mod sides;
 mod top;
 
 pub use arguments::narrowed_args;
-pub use sides::{asks, asks_unasked};
 pub use names::JoinNames;
 pub use origins::Origins;
 pub use pruned::{PrunedJoin, pruned_join};
+pub use sides::{asks, asks_unasked};
 pub use top::Top;

@@ -6,8 +6,8 @@ ghost use Rattle.plan_ir.specs.Parts.{condition_of, list_of};
 ghost use Rattle.plan_ir.specs.Plans.{Plan};
 ghost use Rattle.plan_join.specs.Naming.{has_right, join_columns, with_right};
 ghost use Rattle.plan_join.specs.Told.{column_keys, told_at};
-ghost use Rattle.plan_join_narrowing.specs.JoinPruned.{called_now, narrowed_told, topped_if};
-ghost use Rattle.plan_join_prune.specs.Left.{first_of_each, name_now, put_on};
+ghost use Rattle.plan_join_narrowing.specs.JoinPruned.{called_now, first_of_each, narrowed_told, topped_if};
+ghost use Rattle.plan_join_prune.specs.Left.{name_now, put_on};
 ghost use Rattle.plan_join_prune.specs.Origins.{origin_in};
 ghost use Rattle.plan_renamed.specs.Renamed.{IsLonger};
 

@@ -76,18 +76,17 @@ fn named_columns(
     for i in 0..asked.len() {
         if let Some(name) = asked.get_at_index(i) {
             let now = names.now(alloc, name)?;
-            named.with_column(PlSmallStr::new(alloc, name)?, type_now(columns, now.as_str()))?;
+            named.with_column(
+                PlSmallStr::new(alloc, name)?,
+                type_now(columns, now.as_str()),
+            )?;
         }
     }
     Ok(named)
 }
 
 /// The output name of the column that a name is now: the column's, or the name itself where the column is called otherwise.
-fn output_of(
-    alloc: Global,
-    name: &PlSmallStr,
-    now: &PlSmallStr,
-) -> Result<OutputName, AllocError>
+fn output_of(alloc: Global, name: &PlSmallStr, now: &PlSmallStr) -> Result<OutputName, AllocError>
     ensures { IfOk result (λ output. output ≡ (if bytes_eq now.now name.now then ColumnLhs name.now else Alias name.now)) }
 {
     let name = name.try_clone(alloc)?;

@@ -1,13 +1,12 @@
-use Rattle.std.proofs.Common.{◌≡◌, ◌∙◌, ◌≤◌, Bool, true, false, not, List, Some, None, length, sym, ap, arith}
+use Rattle.std.proofs.Common.{◌∙◌, ◌≤◌, not, List, Some, None, length, sym, ap, arith}
 use Rattle.plan_core.specs.Columns.{names_of}
 use Rattle.plan_core.specs.Names.{has}
 use Rattle.plan_expr.specs.Leaves.{Name}
 use Rattle.plan_expr.specs.Operands.{IsExpr}
 use Rattle.plan_frame.proofs.ScalarExprs.{stands_here}
 use Rattle.plan_join.specs.Naming.{right_name}
-use Rattle.plan_options.specs.Join.{suffix_of}
 use Rattle.plan_join_prune.proofs.KeyLemmas.{number_within}
-use Rattle.plan_join_prune.proofs.KeyTests.{all_free, free_at, is_free, next_free, not_free}
+use Rattle.plan_join_prune.proofs.KeyTests.{all_free, free_at, next_free, not_free}
 use Rattle.plan_join_prune.proofs.arguments.are_unasked.Goals as goal
 
 key : (c : goal.After-get-arg-1) → IsExpr c.args.ex.now c.key-item.result.node

@@ -1,10 +1,9 @@
 use Rattle.std.proofs.Common.{◌≡◌, ◌∙◌, List, map, ap, ap₂, subst}
-use Rattle.std.specs.Str.{bytes_eq}
 use Rattle.plan_core.specs.declared.arena.Node.{Node}
 use Rattle.plan_expr.specs.declared.aexpr.AExpr.{AExpr}
 use Rattle.plan_expr.specs.declared.expr_ir.OutputName.{OutputName}
-use Rattle.plan_expr.specs.Exprs.{Expr, expr_at, Named}
-use Rattle.plan_expr.specs.Leaves.{Name, leaves}
+use Rattle.plan_expr.specs.Exprs.{Expr, expr_at}
+use Rattle.plan_expr.specs.Leaves.{Name}
 use Rattle.plan_meaning.specs.Functions.{renamed}
 use Rattle.plan_join_narrowing.specs.JoinPruned.{renamed_expr}
 use Rattle.plan_renamed.specs.Renamed.{IsRenamed}

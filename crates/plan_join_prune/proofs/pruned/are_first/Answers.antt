@@ -1,4 +1,4 @@
-use Rattle.plan_join_prune.proofs.ListSteps.{first-distinct}
+use Rattle.plan_join_narrowing.proofs.FirstColumns.{first-distinct}
 use Rattle.plan_join_prune.proofs.pruned.are_first.Goals as goal
 
 pub returns : goal.returns

@@ -3,12 +3,11 @@ use Rattle.plan_core.specs.Columns.{Columns}
 use Rattle.plan_options.specs.Join.{suffix_of}
 use Rattle.plan_expr.specs.Leaves.{Name}
 use Rattle.plan_ir.specs.Parts.{condition_of, list_of}
-use Rattle.plan_ir.specs.Plans.{Plan}
 use Rattle.plan_join.specs.Naming.{has_right, join_columns, with_right}
 use Rattle.plan_join.specs.Told.{column_keys, told_at}
 use Rattle.plan_expr.specs.Exprs.{all_named_at}
-use Rattle.plan_join_narrowing.specs.JoinPruned.{called_now, narrowed_told, topped_if}
-use Rattle.plan_join_prune.specs.Left.{first_of_each, name_now}
+use Rattle.plan_join_narrowing.specs.JoinPruned.{called_now, first_of_each, narrowed_told, topped_if}
+use Rattle.plan_join_prune.specs.Left.{name_now}
 use Rattle.plan_join_prune.specs.Origins.{origin_in}
 use Rattle.plan_join_prune.proofs.KeyLemmas.{columns_at, within}
 use Rattle.plan_join_prune.proofs.LongerLemmas.{conditions-longer, longer-longer, told-longer}

@@ -1,8 +1,6 @@
-use Rattle.std.proofs.Common.{◌≡◌, ◌∙◌, ◌++◌, ◌∷◌, [], List, Option, sym, ap, ap₂}
-use Rattle.plan_core.specs.Columns.{Columns}
+use Rattle.std.proofs.Common.{◌≡◌, ◌∙◌, ◌++◌, ◌∷◌, [], List, sym, ap, ap₂}
 use Rattle.plan_expr.specs.Exprs.{all_named_at, Named}
 use Rattle.plan_expr.specs.Leaves.{Name}
-use Rattle.plan_join.specs.declared.origin.Side.{Side}
 use Rattle.plan_join.specs.declared.origin.Side.TheVariants as sides
 use Rattle.plan_join.specs.Naming.{origin}
 use Rattle.plan_join.specs.Told.{told_at}

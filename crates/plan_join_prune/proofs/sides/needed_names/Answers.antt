@@ -1,4 +1,4 @@
-use Rattle.std.proofs.Common.{◌≡◌, ◌∙◌, ◌++◌, ◌∷◌, [], List, take, ap, ap₂, sym, append_assoc}
+use Rattle.std.proofs.Common.{◌∙◌, ◌++◌, ◌∷◌, [], List, take, ap, ap₂, sym, append_assoc}
 use Rattle.plan_expr.specs.Leaves.{Name}
 use Rattle.plan_expr.proofs.ListLemmas.{take-next}
 use Rattle.plan_frame.proofs.ScalarExprs.{item_here}

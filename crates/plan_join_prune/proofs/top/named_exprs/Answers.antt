@@ -1,4 +1,4 @@
-use Rattle.std.proofs.Common.{◌≡◌, ◌∙◌, ◌≤◌, List, [], ◌∷◌, ◌++◌, length, take, arith, cond, ap, ap₂, subst}
+use Rattle.std.proofs.Common.{◌∙◌, ◌≤◌, [], ◌∷◌, ◌++◌, length, arith, cond, ap, subst}
 use Rattle.std.specs.Str.{bytes_eq}
 use Rattle.std.proofs.lemmas.List.{take_all}
 use Rattle.plan_expr.specs.declared.aexpr.AExpr.TheVariants as exprs
@@ -18,9 +18,9 @@ loop-name-preserved c =
     let called = c.in_ok-now.ensures ∙ ap now c.as_str.ensures in
     let e : ExprIR = record { node = c.in_ok-node.node; output_name = c.in_ok-output_name.output_name } in (
       columns-next now c.loop-name.ex c.add.new.self c.loop-name.exprs c.push.new.self c.args.asked.now c.loop-name.name-index a e c.loop-name.invariant.0 here
-      (c.in_ok-node.ensures.added ∙ ap (λ (b : Name). c.loop-name.ex ++ exprs.Column b ∷ []) called)
-      c.in_ok-push.ensures.pushed c.in_ok-node.ensures.node
-      (c.in_ok-output_name.ensures ∙ ap (λ (b : Name). cond (bytes_eq b a) (output.ColumnLhs a) (output.Alias a)) called),
+          (c.in_ok-node.ensures.added ∙ ap (λ (b : Name). c.loop-name.ex ++ exprs.Column b ∷ []) called)
+          c.in_ok-push.ensures.pushed c.in_ok-node.ensures.node
+          (c.in_ok-output_name.ensures ∙ ap (λ (b : Name). cond (bytes_eq b a) (output.ColumnLhs a) (output.Alias a)) called),
       longer-next c.args.ex.now c.loop-name.ex c.add.new.self (exprs.Column c.in_ok-now.now) c.loop-name.invariant.1 c.in_ok-node.ensures.added,
     )
 

@@ -1,11 +1,7 @@
-use Rattle.std.proofs.Common.{◌≡◌, ◌∙◌, Bool, true, false, Option, None, Some, option_map, cond, sym, ap}
-use Rattle.plan_core.specs.Columns.{names_of}
-use Rattle.plan_core.specs.Names.{has}
+use Rattle.std.proofs.Common.{◌∙◌, true, false, Option, option_map, ap}
 use Rattle.plan_expr.specs.Leaves.{Name}
-use Rattle.plan_join.specs.declared.origin.Side.{Side}
 use Rattle.plan_join.specs.declared.origin.Side.TheVariants as sides
 use Rattle.plan_join.proofs.ColumnLemmas.{found}
-use Rattle.plan_join_prune.specs.Origins.{origin_in}
 use Rattle.plan_join_prune.proofs.OriginLemmas.{origin-left, origin-right}
 use Rattle.plan_join_prune.proofs.origins.Origins.get.Goals as goal
 

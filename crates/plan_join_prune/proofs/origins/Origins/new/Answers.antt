@@ -1,9 +1,9 @@
-use Rattle.std.proofs.Common.{◌≡◌, ◌∙◌, List, [], ◌∷◌, refl, sym, ap, ap₂, ◌++◌}
+use Rattle.std.proofs.Common.{◌≡◌, ◌∙◌, List, ap, ap₂, ◌++◌}
 use Rattle.plan_core.specs.declared.data_type.DataType.{DataType}
 use Rattle.plan_core.specs.Columns.{Columns, names_of}
 use Rattle.plan_options.specs.Join.{suffix_of}
 use Rattle.plan_expr.specs.Leaves.{Name}
-use Rattle.plan_join.specs.Naming.{key_columns, left_rest, right_name, right_rest}
+use Rattle.plan_join.specs.Naming.{key_columns, right_name, right_rest}
 use Rattle.plan_meaning.specs.Functions.{new_name}
 use Rattle.plan_join_prune.proofs.KeyLemmas.{within}
 use Rattle.plan_join_prune.proofs.OriginLemmas.{called_all, listed-next, listed-all, origin-found}
@@ -20,9 +20,9 @@ loop-name-preserved c =
     let names : List Name = names_of c.in_ok-rest.rest in
     let column : Name × DataType = (c.in-Some.name.now, c.in-Some.field-0-1.now) in (
       ap (λ (l : List Name). l ++ called_all (suffix_of c.args.args.now) names c.next.new.self) c.in_ok-push.ensures.pushed
-      ∙ listed-next (λ (x : Name × DataType). right_name (suffix_of c.args.args.now) names x.0) c.loop-name.called column c.next.new.self c.loop-name.name-iterator c.in_ok-right_name.field-0 c.in-Some.ensures.steps (c.in_ok-right_name.ensures ∙ ap (λ (s : Name). right_name s names c.in-Some.name.now) c.suffix.ensures) (called_all (suffix_of c.args.args.now) names c.into_iter-name-iterator.result) c.loop-name.invariant.0,
+          ∙ listed-next (λ (x : Name × DataType). right_name (suffix_of c.args.args.now) names x.0) c.loop-name.called column c.next.new.self c.loop-name.name-iterator c.in_ok-right_name.field-0 c.in-Some.ensures.steps (c.in_ok-right_name.ensures ∙ ap (λ (s : Name). right_name s names c.in-Some.name.now) c.suffix.ensures) (called_all (suffix_of c.args.args.now) names c.into_iter-name-iterator.result) c.loop-name.invariant.0,
       ap (λ (l : List Name). l ++ names_of c.next.new.self) c.in_ok-push-2.ensures.pushed
-      ∙ listed-next (λ (x : Name × DataType). x.0) c.loop-name.own column c.next.new.self c.loop-name.name-iterator c.in_ok-new.field-0 c.in-Some.ensures.steps c.in_ok-new.ensures (names_of c.into_iter-name-iterator.result) c.loop-name.invariant.1,
+          ∙ listed-next (λ (x : Name × DataType). x.0) c.loop-name.own column c.next.new.self c.loop-name.name-iterator c.in_ok-new.field-0 c.in-Some.ensures.steps c.in_ok-new.ensures (names_of c.into_iter-name-iterator.result) c.loop-name.invariant.1,
     )
 
 pub returns : goal.returns
