@@ -5,7 +5,7 @@ ghost use Rattle.plan_ir.specs.Plans.{frame_scan};
 ghost use Rattle.plan_meaning.specs.Typing.{columns_or, number_checks, frame_checks, first_fault, Says};
 ghost use Rattle.plan_meaning.specs.Typed.{IsNodeTyped};
 
-use crate::columns::{check_columns_known, check_columns_typed};
+use plan_check_exprs::{check_columns_known, check_columns_typed};
 use plan_core::{Node, PolarsError, PolarsResult, Schema, TryClone};
 use plan_function::at;
 use std::alloc::Global;

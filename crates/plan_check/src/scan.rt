@@ -11,7 +11,7 @@ ghost use Rattle.plan_meaning.specs.Typing.{columns_or, file_columns, put_out_ch
 ghost use Rattle.plan_frame.specs.Frames.{names_or};
 ghost use Rattle.plan_meaning.specs.Typed.{IsNodeTyped};
 
-use crate::columns::{all_read, check_columns_known, check_columns_read, check_stored};
+use plan_check_exprs::{all_read, check_columns_known, check_columns_read, check_stored};
 use plan_core::{
     Arena, FileScanOptions, Items, Names, Node, PlSmallStr, PolarsError, PolarsResult, Schema,
     TryClone,
