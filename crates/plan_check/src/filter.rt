@@ -1,5 +1,5 @@
 //! A filter: its predicate has a form, reads columns of the input, is Boolean, and is named as it may be.
-ghost use Rattle.std.specs.Prelude.{◌≡◌, [], ◌∷◌};
+ghost use Rattle.std.specs.Prelude.{[], ◌∷◌};
 ghost use Rattle.plan_expr.specs.Operands.{IsExpr};
 ghost use Rattle.plan_expr.specs.Exprs.{named_at};
 ghost use Rattle.plan_ir.specs.Plans.{filter};

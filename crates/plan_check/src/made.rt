@@ -1,6 +1,6 @@
 //! A selection, and an addition of columns to those of the input: a selection has expressions, and the expressions of both make
 //! the stored columns.
-ghost use Rattle.std.specs.Prelude.{◌≡◌, [], ◌∷◌, All};
+ghost use Rattle.std.specs.Prelude.{[], ◌∷◌, All};
 ghost use Rattle.plan_core.specs.declared.options.ProjectionOptions.{ProjectionOptions};
 ghost use Rattle.plan_expr.specs.Operands.{IsExpr};
 ghost use Rattle.plan_expr.specs.Exprs.{all_named_at};

@@ -1,5 +1,5 @@
 //! A simple projection: it has columns, and each is the input's.
-ghost use Rattle.std.specs.Prelude.{◌≡◌, [], ◌∷◌};
+ghost use Rattle.std.specs.Prelude.{[], ◌∷◌};
 ghost use Rattle.plan_ir.specs.Plans.{simple_projection};
 ghost use Rattle.plan_meaning.specs.Typing.{projection_checks, first_fault, Says};
 ghost use Rattle.plan_meaning.specs.Typed.{IsNodeTyped};

@@ -1,6 +1,6 @@
 //! A scan: it has a form that is built; what it puts out and reads are columns of its files, each read once; its stored
 //! columns are those of the files.
-ghost use Rattle.std.specs.Prelude.{◌≡◌, ◌+◌, ◌&&◌, [], ◌∷◌, length, suc, option_map, IfOk, Some, None};
+ghost use Rattle.std.specs.Prelude.{◌≡◌, ◌+◌, ◌&&◌, [], length, suc, option_map, IfOk, Some, None};
 ghost use Rattle.plan_core.specs.Names.{with_names};
 ghost use Rattle.plan_expr.specs.Exprs.{named_at};
 ghost use Rattle.plan_ir.specs.Plans.{scan};

@@ -1,6 +1,6 @@
 //! A sort: it has keys, and marks for them, one for each or one for all; the keys have forms, read columns of the input, have
 //! plain types there, and are named as they may be.
-ghost use Rattle.std.specs.Prelude.{◌≡◌, [], ◌∷◌, All, length};
+ghost use Rattle.std.specs.Prelude.{◌≡◌, [], ◌∷◌, All};
 ghost use Rattle.plan_expr.specs.Operands.{IsExpr};
 ghost use Rattle.plan_expr.specs.Exprs.{all_named_at};
 ghost use Rattle.plan_ir.specs.Plans.{sort};

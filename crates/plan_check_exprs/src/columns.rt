@@ -1,5 +1,5 @@
 //! Checks that go over columns in order.
-ghost use Rattle.std.specs.Prelude.{◌≡◌, ◌+◌, ◌<◌, ◌^◌, length, ◌&&◌};
+ghost use Rattle.std.specs.Prelude.{◌≡◌, ◌&&◌};
 ghost use Rattle.plan_core.specs.declared.error.PolarsError.TheVariants.{SchemaFieldNotFound, SchemaMismatch};
 ghost use Rattle.plan_meaning.specs.Checks.{each, is_column as is_one, is_known, stored_checks};
 ghost use Rattle.plan_meaning.specs.Typing.{all_read as are_all_read, has_columns, first_fault, Says};

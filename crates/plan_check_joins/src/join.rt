@@ -1,7 +1,7 @@
 //! A join: it has a form that is built; its keys and its condition have forms, read columns of their side or of the join, and have
 //! types that may stand there; no name comes twice, the stored columns are those of the join, and each expression is named as it
 //! may be. The left keys stand from place 1 on, then the right ones, and then the condition.
-ghost use Rattle.std.specs.Prelude.{◌≡◌, ◌++◌, ◌∷◌, [], All};
+ghost use Rattle.std.specs.Prelude.{◌∷◌, [], All};
 ghost use Rattle.plan_expr.specs.Exprs.{all_named_at};
 ghost use Rattle.plan_expr.specs.Operands.{IsExpr};
 ghost use Rattle.plan_ir.specs.Parts.{condition_of, list_of};
