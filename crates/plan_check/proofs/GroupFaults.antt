@@ -1,5 +1,5 @@
 -- The checks on the keys and the aggregates of a grouping, and the columns that they make, said of their numbers.
-use Rattle.std.proofs.Common.{◌≡◌, ℕ, zero, suc, ◌+◌, ◌&&◌, Bool, true, false, cond, List, [], ◌∷◌, ◌++◌, length, map, take, unwrap_or, All, subst, Option, Some, None, is_some, refl, sym, ap, ap₂, ◌∙◌, arith, add-one, add-zero}
+use Rattle.std.proofs.Common.{◌≡◌, ℕ, zero, suc, ◌+◌, ◌&&◌, Bool, true, false, cond, List, [], ◌∷◌, ◌++◌, length, map, take, unwrap_or, All, subst, Option, Some, None, is_some, refl, sym, ap, ap₂, ◌∙◌, add-one}
 use Rattle.std.specs.Prelude.{option_and_then}
 use Rattle.std.specs.List.{slice_get}
 use Rattle.std.proofs.lemmas.List.Elements.{All-append, All-take, All-drop}
@@ -31,6 +31,7 @@ use Rattle.plan_frame.specs.Made.{made_schema}
 use Rattle.plan_frame.specs.ExprLists.{out_names}
 use Rattle.plan_frame.proofs.GroupLemmas.{gathered-leaves, gathered-names}
 use Rattle.plan_function.proofs.CheckLemmas.{each-map, fault_append}
+use Rattle.plan_check_exprs.proofs.EachLemmas.{each-append}
 
 -- gathered expressions
 
@@ -71,12 +72,6 @@ gathered-type e s = at (is_scalar e)
     at false = lists (expr_type e s)
 
 -- checks on keys and on gathered aggregates
-
-pub each-append : {A : Type 0} (fault : At → PolarsError) (k : ℕ) (holds : A → Bool) (xs ys : List A) → each fault k holds (xs ++ ys) ≡ each fault k holds xs ++ each fault (k + length xs) holds ys
-each-append fault k holds [] ys = ap (λ (j : ℕ). each fault j holds ys) (sym (add-zero k))
-each-append fault k holds (x ∷ xs) ys =
-    let here : suc k + length xs ≡ k + length (x ∷ xs) = omega arith in
-    ap (λ (cs : List Check). check fault k (holds x) ∷ cs) (each-append fault (suc k) holds xs ys ∙ ap (λ (j : ℕ). each fault (suc k) holds xs ++ each fault j holds ys) here)
 
 module _ (fault : At → PolarsError) (holds : Named → Bool) (same : (e : Named) → holds (gathered e) ≡ holds e) where
   aggs_alike : (k : ℕ) (aggs : List Named) → each fault k holds (map gathered aggs) ≡ each fault k holds aggs

@@ -1,14 +1,13 @@
 -- A set of names has the names that the list has that it was made from.
-use Rattle.std.proofs.Common.{◌≡◌, ℕ, suc, Bool, true, false, ◌&&◌, ◌||◌, List, [], ◌∷◌, ◌++◌, Option, Some, None, option_map, refl, sym, ap, ap₂, ◌∙◌, if◌then◌else◌}
+use Rattle.std.proofs.Common.{◌≡◌, Bool, true, false, ◌&&◌, ◌||◌, List, [], ◌∷◌, ◌++◌, Option, Some, None, option_map, refl, sym, ap, ap₂, ◌∙◌, if◌then◌else◌}
 use Rattle.std.specs.Str.{bytes_eq}
 use Rattle.std.proofs.lemmas.Slice.Eq.{bytes_eq-Decides}
-use Rattle.plan_core.specs.declared.error.At.{At}
-use Rattle.plan_core.specs.declared.error.PolarsError.{PolarsError}
 use Rattle.plan_core.specs.Columns.{Columns}
 use Rattle.plan_core.specs.Names.{has, with_name, with_names}
 use Rattle.plan_expr.specs.Leaves.{Name}
-use Rattle.plan_meaning.specs.Checks.{Check, check, each, is_column}
+use Rattle.plan_meaning.specs.Checks.{is_column}
 use Rattle.plan_meaning.specs.Typing.{has_columns, all_read, put_out_checks}
+use Rattle.plan_check_exprs.proofs.EachLemmas.{each-same}
 
 or_assoc : (a b c : Bool) → ((a || b) || c) ≡ (a || (b || c))
 or_assoc true b c = refl
@@ -52,11 +51,6 @@ reads-same (Some names) a = has-with_names [] names a
 all-same : (reads : Option (List Name)) (cs : Columns) → all_read (as_set reads) cs ≡ all_read reads cs
 all-same reads [] = refl
 all-same reads (c ∷ cs) = ap₂ (λ (a b : Bool). a && b) (reads-same reads c.0) (all-same reads cs)
-
--- tests that say the same of each item are checked alike
-pub each-same : {A : Type 0} (fault : At → PolarsError) (k : ℕ) (f g : A → Bool) (xs : List A) → ((x : A) → f x ≡ g x) → each fault k f xs ≡ each fault k g xs
-each-same fault k f g [] h = refl
-each-same fault k f g (x ∷ xs) h = ap₂ (λ (b : Bool) (cs : List Check). check fault k b ∷ cs) (h x) (each-same fault (suc k) f g xs h)
 
 -- a list and the set of its names are checked alike
 pub put_out_same : (output : Option Columns) (reads : Option (List Name)) (file : Columns) → put_out_checks output (as_set reads) file ≡ put_out_checks output reads file

@@ -1,24 +1,16 @@
 //! A filter: its predicate has a form, reads columns of the input, is Boolean, and is named as it may be.
-ghost use Rattle.std.specs.Prelude.{◌≡◌, [], ◌∷◌};
+ghost use Rattle.std.specs.Prelude.{[], ◌∷◌};
 ghost use Rattle.plan_expr.specs.Operands.{IsExpr};
 ghost use Rattle.plan_expr.specs.Exprs.{named_at};
 ghost use Rattle.plan_ir.specs.Plans.{filter};
-ghost use Rattle.plan_frame.specs.Exprs.{is_type};
-ghost use Rattle.plan_core.specs.declared.data_type.DataType.TheVariants.{Boolean};
 ghost use Rattle.plan_meaning.specs.Typing.{filter_checks, first_fault, Says};
 ghost use Rattle.plan_meaning.specs.Typed.{IsNodeTyped};
 
-use plan_core::{Arena, DataType, Node, PolarsError, PolarsResult, Schema};
+use plan_check_exprs::is_boolean;
+use plan_core::{Arena, Node, PolarsError, PolarsResult, Schema};
 use plan_expr::{AExpr, ExprIR, has_form, may_be_named};
 use plan_frame::{expr_type, reads_only};
 use plan_function::at;
-
-/// Whether the type is Boolean.
-pub fn is_boolean(dtype: Option<DataType>) -> bool
-    ensures { result ≡ is_type dtype Boolean }
-{
-    matches!(dtype, Some(DataType::Boolean))
-}
 
 /// Checks a filter over the columns of its input. Each fault is at place 1: `InvalidOperation` where the predicate
 /// has no form, `SchemaFieldNotFound` where it reads another column, and then `SchemaMismatch` where it isn't Boolean or isn't

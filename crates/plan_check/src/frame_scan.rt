@@ -1,11 +1,11 @@
 //! A scan of a frame that is handed in: what it puts out are columns of the frame, with their types; without a number
 //! there are none.
-ghost use Rattle.std.specs.Prelude.{◌≡◌, []};
+ghost use Rattle.std.specs.Prelude.{[]};
 ghost use Rattle.plan_ir.specs.Plans.{frame_scan};
 ghost use Rattle.plan_meaning.specs.Typing.{columns_or, number_checks, frame_checks, first_fault, Says};
 ghost use Rattle.plan_meaning.specs.Typed.{IsNodeTyped};
 
-use crate::columns::{check_columns_known, check_columns_typed};
+use plan_check_exprs::{check_columns_known, check_columns_typed};
 use plan_core::{Node, PolarsError, PolarsResult, Schema, TryClone};
 use plan_function::at;
 use std::alloc::Global;

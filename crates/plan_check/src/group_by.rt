@@ -13,9 +13,8 @@ ghost use Rattle.plan_meaning.specs.Typing.{is_built_group, first_fault, Says, I
 ghost use Rattle.plan_frame.specs.Made.{made_schema as schema_made};
 ghost use Rattle.plan_meaning.specs.Typed.{IsNodeTyped};
 
-use crate::columns::check_stored;
-use crate::made::{
-    check_forms, check_leaves, check_namings, check_outputs, check_types, made_schema,
+use plan_check_exprs::{
+    check_forms, check_leaves, check_namings, check_outputs, check_stored, check_types, made_schema,
 };
 use plan_core::{
     Arena, DataType, Items, Node, PlSmallStr, PolarsError, PolarsResult, Schema, TryClone,

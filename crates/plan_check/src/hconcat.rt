@@ -8,7 +8,7 @@ ghost use Rattle.plan_meaning.specs.Checks.{check};
 ghost use Rattle.plan_meaning.specs.Typing.{first_fault, Says};
 ghost use Rattle.plan_meaning.specs.Typed.{IsNodeTyped};
 
-use crate::columns::check_stored;
+use plan_check_exprs::check_stored;
 use plan_core::{Node, PolarsError, PolarsResult, Schema};
 use plan_function::at;
 use plan_options::merge_schemas;

@@ -1,10 +1,10 @@
 //! A simple projection: it has columns, and each is the input's.
-ghost use Rattle.std.specs.Prelude.{◌≡◌, [], ◌∷◌};
+ghost use Rattle.std.specs.Prelude.{[], ◌∷◌};
 ghost use Rattle.plan_ir.specs.Plans.{simple_projection};
 ghost use Rattle.plan_meaning.specs.Typing.{projection_checks, first_fault, Says};
 ghost use Rattle.plan_meaning.specs.Typed.{IsNodeTyped};
 
-use crate::columns::{check_columns_known, check_columns_typed};
+use plan_check_exprs::{check_columns_known, check_columns_typed};
 use plan_core::{Node, PolarsError, PolarsResult, Schema, TryClone};
 use plan_function::at;
 use std::alloc::Global;

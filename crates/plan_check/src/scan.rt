@@ -1,6 +1,6 @@
 //! A scan: it has a form that is built; what it puts out and reads are columns of its files, each read once; its stored
 //! columns are those of the files.
-ghost use Rattle.std.specs.Prelude.{◌≡◌, ◌+◌, ◌&&◌, [], ◌∷◌, length, suc, option_map, IfOk, Some, None};
+ghost use Rattle.std.specs.Prelude.{◌≡◌, ◌+◌, ◌&&◌, [], length, suc, option_map, IfOk, Some, None};
 ghost use Rattle.plan_core.specs.Names.{with_names};
 ghost use Rattle.plan_expr.specs.Exprs.{named_at};
 ghost use Rattle.plan_ir.specs.Plans.{scan};
@@ -11,7 +11,7 @@ ghost use Rattle.plan_meaning.specs.Typing.{columns_or, file_columns, put_out_ch
 ghost use Rattle.plan_frame.specs.Frames.{names_or};
 ghost use Rattle.plan_meaning.specs.Typed.{IsNodeTyped};
 
-use crate::columns::{all_read, check_columns_known, check_columns_read, check_stored};
+use plan_check_exprs::{all_read, check_columns_known, check_columns_read, check_stored};
 use plan_core::{
     Arena, FileScanOptions, Items, Names, Node, PlSmallStr, PolarsError, PolarsResult, Schema,
     TryClone,

@@ -1,17 +1,15 @@
 //! A sort: it has keys, and marks for them, one for each or one for all; the keys have forms, read columns of the input, have
 //! plain types there, and are named as they may be.
-ghost use Rattle.std.specs.Prelude.{◌≡◌, [], ◌∷◌, All, length};
+ghost use Rattle.std.specs.Prelude.{◌≡◌, [], ◌∷◌, All};
 ghost use Rattle.plan_expr.specs.Operands.{IsExpr};
 ghost use Rattle.plan_expr.specs.Exprs.{all_named_at};
 ghost use Rattle.plan_ir.specs.Plans.{sort};
-ghost use Rattle.plan_meaning.specs.Checks.{is_plain_type, plain_checks};
 ghost use Rattle.plan_meaning.specs.Typing.{are_marks, is_built_sort, key_checks, first_fault, Says};
 ghost use Rattle.plan_meaning.specs.Typed.{IsNodeTyped};
 
-use crate::made::{check_forms, check_leaves, check_namings};
-use plan_core::{Arena, DataType, Node, PolarsError, PolarsResult, Schema};
+use plan_check_exprs::{check_forms, check_leaves, check_namings, check_plain};
+use plan_core::{Arena, Node, PolarsError, PolarsResult, Schema};
 use plan_expr::{AExpr, ExprIR};
-use plan_frame::expr_type;
 use plan_function::at;
 use plan_options::SortMultipleOptions;
 
@@ -32,30 +30,6 @@ fn is_built(keys: usize, slice: &Option<(i64, usize)>, options: &SortMultipleOpt
         && options.limit.is_none()
         && are_marks_of(options.descending.as_slice(), keys)
         && are_marks_of(options.nulls_last.as_slice(), keys)
-}
-
-/// Whether there is a type, and it is plain.
-pub fn is_plain(dtype: Option<DataType>) -> bool
-    ensures { result ≡ is_plain_type dtype }
-{
-    match dtype {
-        None => false,
-        Some(DataType::List(_)) => false,
-        Some(_) => true,
-    }
-}
-
-/// Each expression has a plain type; the first expression stands at place 1.
-fn check_plain(node: Node, exprs: &[ExprIR], ex: &Arena<AExpr>, schema: &Schema) -> PolarsResult<()>
-    requires { All (λ e. IsExpr ex.now e.node) exprs.now }
-    ensures { Says result (first_fault node (plain_checks (all_named_at ex.now exprs.now) schema.now)) }
-{
-    for (i, expr) in exprs.iter().enumerate() {
-        if !is_plain(expr_type(expr.node, ex, schema)) {
-            return Err(PolarsError::SchemaMismatch(at(node, 1 + i)));
-        }
-    }
-    Ok(())
 }
 
 /// Checks the keys of a sort over the columns of its input, key by key for each of these: `InvalidOperation` where a key has no

@@ -1,6 +1,6 @@
 //! Whether numbers lead to a plan: each to an entry, none twice. The walks keep stacks of their own.
 ghost use Rattle.std.specs.Prelude.{◌≡◌, ◌++◌, map, IfOk, OnOk};
-ghost use Rattle.plan_ir.specs.Parts.{exprs_of, IsPlan};
+ghost use Rattle.plan_ir.specs.Parts.{IsPlan};
 ghost use Rattle.plan_meaning.specs.Typing.{Says};
 ghost use Rattle.plan_meaning.specs.TreeFaults.{marked, marked_at, marked_exprs as marks_of, tree_fault};
 

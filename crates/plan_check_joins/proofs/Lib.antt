@@ -1,0 +1,5 @@
+-- The lemmas of this crate.
+mod JoinLemmas
+mod PairFaults
+mod FirstColumns
+mod JoinFaults

@@ -1,0 +1,8 @@
+//! The tests of plan_check. They stand apart from it, so that it is proved once, and not with its tests again.
+#![tactic(auto)]
+
+#[cfg(test)]
+mod joins;
+mod made;
+#[cfg(test)]
+mod plans;
