@@ -1,11 +1,11 @@
 //! The condition of a join over pruned sides.
-ghost use Rattle.std.specs.Prelude.{◌≡◌, All, IfOk};
+ghost use Rattle.std.specs.Prelude.{◌≡◌, ◌∷◌, [], All, IfOk};
 ghost use Rattle.plan_expr.specs.Exprs.{named_at};
 ghost use Rattle.plan_expr.specs.Operands.{IsExpr};
 ghost use Rattle.plan_ir.specs.Parts.{condition_of, list_of};
 ghost use Rattle.plan_join.specs.Told.{told_at};
 ghost use Rattle.plan_join_narrowing.specs.JoinPruned.{narrowed_told, renamed_condition, renamed_output};
-ghost use Rattle.plan_join_prune.specs.Left.{name_now};
+ghost use Rattle.plan_join_prune.specs.Left.{condition_nodes, name_now, StandFor};
 ghost use Rattle.plan_renamed.specs.Renamed.{IsLonger};
 
 use crate::names::JoinNames;
@@ -38,6 +38,7 @@ fn condition_now(
     requires { IsExpr ex.old predicate.node }
     ensures condition { IfOk result (λ now. named_at ex.new now ≡ renamed_condition (name_now names.now) (named_at ex.old predicate)) }
     ensures stands { IfOk result (λ now. IsExpr ex.new now.node) }
+    ensures place { IfOk result (λ now. StandFor ex.old ex.new (now.node ∷ []) (predicate.node ∷ [])) }
     ensures longer { IsLonger ex.old ex.new }
 {
     let from = aexpr_to_leaf_names(alloc, predicate.node, ex)?;
@@ -60,6 +61,7 @@ pub fn options_now(
     requires { All (λ e. IsExpr ex.old e.node) (list_of (condition_of options)) }
     ensures told { IfOk result (λ now. told_at ex.new now ≡ narrowed_told (name_now names.now) options.args (told_at ex.old options)) }
     ensures stands { IfOk result (λ now. All (λ e. IsExpr ex.new e.node) (list_of (condition_of now))) }
+    ensures place { IfOk result (λ now. StandFor ex.old ex.new (condition_nodes now) (condition_nodes options)) }
     ensures longer { IsLonger ex.old ex.new }
 {
     let JoinOptions {

@@ -1,5 +1,5 @@
 //! A join over pruned sides.
-ghost use Rattle.std.specs.Prelude.{◌≡◌, All, IfOk};
+ghost use Rattle.std.specs.Prelude.{◌≡◌, ◌++◌, [], All, IfOk};
 ghost use Rattle.plan_expr.specs.Exprs.{all_named_at};
 ghost use Rattle.plan_expr.specs.Operands.{IsExpr};
 ghost use Rattle.plan_ir.specs.Parts.{condition_of, list_of};
@@ -7,7 +7,7 @@ ghost use Rattle.plan_ir.specs.Plans.{Plan};
 ghost use Rattle.plan_join.specs.Naming.{has_right, join_columns, with_right};
 ghost use Rattle.plan_join.specs.Told.{column_keys, told_at};
 ghost use Rattle.plan_join_narrowing.specs.JoinPruned.{called_now, first_of_each, narrowed_told, topped_if};
-ghost use Rattle.plan_join_prune.specs.Left.{name_now, put_on};
+ghost use Rattle.plan_join_prune.specs.Left.{condition_nodes, name_now, put_on, top_nodes, StandFor};
 ghost use Rattle.plan_join_prune.specs.Origins.{origin_in};
 ghost use Rattle.plan_renamed.specs.Renamed.{IsLonger};
 
@@ -70,6 +70,7 @@ fn top_of(
     ex: &mut Arena<AExpr>,
 ) -> Result<Top, AllocError>
     ensures top { IfOk result (λ top. (plan : Plan) → put_on ex.new top plan ≡ topped_if (has_right how) (name_now names.now) asked.now columns.now plan) }
+    ensures place { IfOk result (λ top. StandFor ex.old ex.new (top_nodes top) []) }
     ensures longer { IsLonger ex.old ex.new }
 {
     if matches!(how, JoinType::Semi | JoinType::Anti) {
@@ -80,8 +81,8 @@ fn top_of(
 
 /// A join of which names are asked over pruned sides with these columns: what it is told, its condition under the names that its
 /// columns have now; its columns, of each name the first; and what goes on top, which is nothing where it puts out no columns of its
-/// right side. The columns of its sides were `origins`. Refuses for want of memory alone; entries that nothing reaches may have been
-/// added then.
+/// right side. The columns of its sides were `origins`. Expressions are only appended, and what is new stands over new entries. Refuses
+/// for want of memory alone; entries that nothing reaches may have been added then.
 pub fn pruned_join(
     alloc: Global,
     asked: &Names,
@@ -99,7 +100,7 @@ pub fn pruned_join(
     ensures told { IfOk result (λ join. told_at ex.new join.options ≡ narrowed_told (called_now options.args (column_keys (all_named_at ex.old left_on.now)) left.now (origin_in origins)) options.args (told_at ex.old options)) }
     ensures schema { IfOk result (λ join. join.schema ≡ first_of_each (join_columns options.args (column_keys (all_named_at ex.old left_on.now)) (column_keys (all_named_at ex.old right_on.now)) left.now right.now)) }
     ensures top { IfOk result (λ join. (plan : Plan) → put_on ex.new join.top plan ≡ topped_if (has_right options.args.how) (called_now options.args (column_keys (all_named_at ex.old left_on.now)) left.now (origin_in origins)) asked.now join.schema plan) }
-    ensures condition { IfOk result (λ join. All (λ e. IsExpr ex.new e.node) (list_of (condition_of join.options))) }
+    ensures place { IfOk result (λ join. StandFor ex.old ex.new (top_nodes join.top ++ condition_nodes join.options) (condition_nodes options)) }
     ensures longer { IsLonger ex.old ex.new }
 {
     let how = options.args.how;

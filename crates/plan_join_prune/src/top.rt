@@ -1,15 +1,16 @@
 //! What goes on top of a join over pruned sides.
-ghost use Rattle.std.specs.Prelude.{◌≡◌, IfOk, if◌then◌else◌, map, unwrap_or};
+ghost use Rattle.std.specs.Prelude.{◌≡◌, [], IfOk, if◌then◌else◌, map, unwrap_or};
 ghost use Rattle.std.specs.Str.{bytes_eq};
 ghost use Rattle.std.specs.List.{list_all};
 ghost use Rattle.plan_core.specs.Columns.{names_of, type_of};
 ghost use Rattle.plan_core.specs.declared.data_type.DataType.TheVariants.{Int64};
 ghost use Rattle.plan_core.specs.Names.{has};
+ghost use Rattle.plan_expr.specs.declared.expr_ir.ExprIR.{ExprIR};
 ghost use Rattle.plan_expr.specs.declared.expr_ir.OutputName.TheVariants.{Alias, ColumnLhs};
 ghost use Rattle.plan_expr.specs.Exprs.{all_named_at};
 ghost use Rattle.plan_ir.specs.Plans.{Plan};
 ghost use Rattle.plan_join_narrowing.specs.JoinPruned.{are_called_alike, named_now, renaming, topped};
-ghost use Rattle.plan_join_prune.specs.Left.{name_now, put_on};
+ghost use Rattle.plan_join_prune.specs.Left.{name_now, put_on, top_nodes, StandFor};
 ghost use Rattle.plan_renamed.specs.Renamed.{IsLonger};
 
 use crate::names::JoinNames;
@@ -105,6 +106,7 @@ fn named_exprs(
     names: &JoinNames,
     ex: &mut Arena<AExpr>,
 ) -> Result<Items<ExprIR>, AllocError>
+    ensures place { IfOk result (λ exprs. StandFor ex.old ex.new (map (λ (e : ExprIR). e.node) exprs) []) }
     ensures exprs { IfOk result (λ exprs. all_named_at ex.new exprs ≡ map (renaming (name_now names.now)) asked.now) }
     ensures longer { IsLonger ex.old ex.new }
 {
@@ -128,6 +130,7 @@ pub fn put_on_top(
     ex: &mut Arena<AExpr>,
 ) -> Result<Top, AllocError>
     ensures top { IfOk result (λ top. (plan : Plan) → put_on ex.new top plan ≡ topped (name_now names.now) asked.now columns.now plan) }
+    ensures place { IfOk result (λ top. StandFor ex.old ex.new (top_nodes top) []) }
     ensures longer { IsLonger ex.old ex.new }
 {
     let list = listed_names(alloc, asked)?;

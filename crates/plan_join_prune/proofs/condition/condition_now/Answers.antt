@@ -1,4 +1,4 @@
-use Rattle.std.proofs.Common.{◌≡◌, ◌∙◌, List, map, ap, ap₂, subst}
+use Rattle.std.proofs.Common.{◌≡◌, ◌∙◌, List, [], ◌∷◌, map, sym, ap, ap₂, subst}
 use Rattle.plan_core.specs.declared.arena.Node.{Node}
 use Rattle.plan_expr.specs.declared.aexpr.AExpr.{AExpr}
 use Rattle.plan_expr.specs.declared.expr_ir.OutputName.{OutputName}
@@ -7,8 +7,9 @@ use Rattle.plan_expr.specs.Leaves.{Name}
 use Rattle.plan_meaning.specs.Functions.{renamed}
 use Rattle.plan_join_narrowing.specs.JoinPruned.{renamed_expr}
 use Rattle.plan_renamed.specs.Renamed.{IsRenamed}
-use Rattle.plan_join_prune.specs.Left.{name_now}
+use Rattle.plan_join_prune.specs.Left.{name_now, StandFor}
 use Rattle.plan_join_prune.proofs.ConditionLemmas.{copy-renamed, own-renamed, same_lists}
+use Rattle.plan_join_prune.proofs.LongerLemmas.{copy_for, own_for}
 use Rattle.plan_join_prune.proofs.condition.condition_now.Goals.{then-ne+in_ok-node, else-ne}
 use Rattle.plan_join_prune.proofs.condition.condition_now.Goals as goal
 
@@ -29,3 +30,16 @@ expr_now c =
 
 pub returns-clause-condition : goal.returns-clause-condition
 returns-clause-condition c = ap₂ (λ (o : OutputName) (e : Expr). record { name = o; expr = e }) c.in_ok-output_name.ensures (expr_now c)
+
+pub returns-clause-place : goal.returns-clause-place
+returns-clause-place c =
+    elim c.if-ne.branch [
+      | then-ne+in_ok-node w ↦
+          subst (λ (l : List AExpr). StandFor c.args.ex.now l (c.if-ne.node ∷ []) (c.args.predicate.node ∷ [])) (sym w.ex-is)
+          (subst (λ (m : Node). StandFor c.args.ex.now w.copy_renamed.new.ex (m ∷ []) (c.args.predicate.node ∷ [])) (sym w.node-is)
+          (copy_for (renamed w.as_slice-then-ne.result.now w.as_slice-then-ne-2.result.now) c.args.ex.now w.copy_renamed.new.ex c.args.predicate.node w.in_ok-node.node w.in_ok-node.ensures.copied))
+      | else-ne w ↦
+          subst (λ (l : List AExpr). StandFor c.args.ex.now l (c.if-ne.node ∷ []) (c.args.predicate.node ∷ [])) (sym w.ex-is)
+          (subst (λ (m : Node). StandFor c.args.ex.now c.args.ex.now (m ∷ []) (c.args.predicate.node ∷ [])) (sym w.node-is)
+          (own_for c.args.ex.now (c.args.predicate.node ∷ [])))
+    ]

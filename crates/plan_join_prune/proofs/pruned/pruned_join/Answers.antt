@@ -2,16 +2,16 @@ use Rattle.std.proofs.Common.{◌≡◌, ◌∙◌, List, sym, ap, ap₂}
 use Rattle.plan_core.specs.Columns.{Columns}
 use Rattle.plan_options.specs.Join.{suffix_of}
 use Rattle.plan_expr.specs.Leaves.{Name}
-use Rattle.plan_ir.specs.Parts.{condition_of, list_of}
 use Rattle.plan_join.specs.Naming.{has_right, join_columns, with_right}
 use Rattle.plan_join.specs.Told.{column_keys, told_at}
 use Rattle.plan_expr.specs.Exprs.{all_named_at}
 use Rattle.plan_join_narrowing.specs.JoinPruned.{called_now, first_of_each, narrowed_told, topped_if}
-use Rattle.plan_join_prune.specs.Left.{name_now}
+use Rattle.plan_join_prune.specs.Left.{condition_nodes, name_now, top_nodes}
 use Rattle.plan_join_prune.specs.Origins.{origin_in}
 use Rattle.plan_join_prune.proofs.KeyLemmas.{columns_at, within}
-use Rattle.plan_join_prune.proofs.LongerLemmas.{conditions-longer, longer-longer, told-longer}
+use Rattle.plan_join_prune.proofs.LongerLemmas.{longer-longer, stand_before, told-longer}
 use Rattle.plan_join_prune.proofs.NameLemmas.{names_are}
+use Rattle.plan_join_prune.proofs.TopLemmas.{longer-length}
 use Rattle.plan_join_prune.proofs.pruned.pruned_join.Goals as goal
 
 pub left_rest-requires : goal.left_rest-requires
@@ -41,8 +41,10 @@ returns-clause-schema c =
 pub returns-clause-top : goal.returns-clause-top
 returns-clause-top c = λ plan. c.in_ok-top.ensures.top plan ∙ ap (λ (now : Name → Name). topped_if (has_right c.args.options.args.how) now c.args.asked.now c.in_ok-schema.schema plan) (names_now c)
 
-pub returns-clause-condition : goal.returns-clause-condition
-returns-clause-condition c = conditions-longer c.options_now.new.ex c.top_of.new.ex (list_of (condition_of c.in_ok-options.options)) c.in_ok-top.ensures.longer c.in_ok-options.ensures.stands
+pub returns-clause-place : goal.returns-clause-place
+returns-clause-place c =
+    stand_before c.args.ex.now c.options_now.new.ex c.top_of.new.ex (top_nodes c.in_ok-top.top) (condition_nodes c.in_ok-options.options) (condition_nodes c.args.options) c.in_ok-top.ensures.longer
+    (longer-length c.args.ex.now c.options_now.new.ex c.in_ok-options.ensures.longer) c.in_ok-options.ensures.place c.in_ok-top.ensures.place
 
 pub returns-clause-longer : goal.returns-clause-longer
 returns-clause-longer c = longer-longer c.args.ex.now c.options_now.new.ex c.top_of.new.ex c.in_ok-options.ensures.longer c.in_ok-top.ensures.longer
