@@ -25,7 +25,7 @@ use Rattle.plan_joined.specs.Joined.{filled_by, joined, side_value, value_or}
 use Rattle.plan_joined.specs.Sides.{fills, filler, partner}
 use Rattle.plan_joined.proofs.NameLemmas.{left-where, right-where}
 use Rattle.plan_pairs.specs.declared.pairs.RowPair.{RowPair}
-use Rattle.plan_join_narrowing.specs.JoinAsked.{left_asked, needed_of, of_side, origin_of, right_asked, side_asked, side_names}
+use Rattle.plan_meaning.specs.JoinAsked.{left_asked, needed_of, of_side, origin_of, right_asked, side_asked, side_names}
 use Rattle.plan_meaning.specs.Relating.{Holding}
 use Rattle.plan_join_narrowing.specs.JoinPruned.{called_now}
 use Rattle.plan_join_narrowing.proofs.JoinColumns.{IsOut, name_out, origin_called, origin_out, origin_some, out_type, out_values, type_of-where}

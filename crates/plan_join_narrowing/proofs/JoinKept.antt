@@ -21,7 +21,7 @@ use Rattle.plan_join.specs.Naming.{but_for, drops_left, has_right, left_rest, ri
 use Rattle.plan_join.specs.Origins.{puts_out_right}
 use Rattle.plan_join.specs.Told.{KindOptions, Told, column_keys, expr_column}
 use Rattle.plan_joined.specs.Sides.{fills}
-use Rattle.plan_join_narrowing.specs.JoinAsked.{needed_of, origin_of}
+use Rattle.plan_meaning.specs.JoinAsked.{needed_of, origin_of}
 use Rattle.plan_meaning.specs.JoinChecks.{are_paired, conditions, fits_kind, is_built_join, is_formed_key, right_keys_plain}
 use Rattle.plan_meaning.specs.Checks.{is_none}
 use Rattle.plan_meaning.proofs.JoinLemmas.{JoinGood}

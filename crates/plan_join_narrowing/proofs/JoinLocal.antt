@@ -38,14 +38,14 @@ use Rattle.plan_pairs.specs.Orders.{ArePicked}
 use Rattle.plan_pairs.specs.Pairs.{Test, both}
 use Rattle.plan_meaning.specs.Asked.{set_of}
 use Rattle.plan_meaning.specs.Checks.{is_none}
-use Rattle.plan_join_narrowing.specs.JoinAsked.{left_asked, needed_of, origin_of, right_asked}
+use Rattle.plan_meaning.specs.JoinAsked.{left_asked, needed_of, origin_of, right_asked}
 use Rattle.plan_meaning.specs.JoinChecks.{are_one_type, are_paired, conditions, fits_kind, is_built_join, is_formed_condition, is_formed_key, is_key_type, pair_checks}
 use Rattle.plan_meaning.specs.Relating.{Holding, AgreeOn, NarrowColumns}
 use Rattle.plan_meaning.specs.Steps.{OnTwo}
 use Rattle.plan_meaning.specs.Typing.{AllHold}
 use Rattle.plan_meaning.proofs.CheckParts.{is_same}
-use Rattle.plan_join_narrowing.proofs.SideLemmas.{distinct_differ, good_join}
-use Rattle.plan_meaning.proofs.JoinLemmas.{differ_distinct, JoinGood}
+use Rattle.plan_join_narrowing.proofs.SideLemmas.{good_join}
+use Rattle.plan_meaning.proofs.JoinLemmas.{differ_distinct, distinct_differ, JoinGood}
 use Rattle.plan_meaning.proofs.KeptExprs.{distinct_where}
 use Rattle.plan_meaning.proofs.Related.{FramesRelated, LocalTo}
 use Rattle.plan_join_narrowing.specs.JoinPruned.{called_now, narrowed_args, narrowed_told, renamed_condition, renamed_expr, renamed_kind}

@@ -17,12 +17,13 @@ use Rattle.plan_join.specs.declared.origin.Side.TheVariants as sides
 use Rattle.plan_join.specs.Naming.{has_right, join_columns, origin, right_rest}
 use Rattle.plan_join.specs.Told.{Told, column_keys}
 use Rattle.plan_meaning.specs.Asked.{set_of, Fair, IsFair}
-use Rattle.plan_join_narrowing.specs.JoinAsked.{left_asked, needed_of, origin_of, right_asked, left_names, right_names, unasked_right}
+use Rattle.plan_meaning.specs.JoinAsked.{left_asked, needed_of, origin_of, right_asked, left_names, right_names, unasked_right}
 use Rattle.plan_meaning.specs.JoinChecks.{conditions}
 use Rattle.plan_meaning.specs.Relating.{Asked, all, names, Holding, NarrowColumns, AgreeOn, Narrows}
 use Rattle.plan_meaning.specs.Steps.{IsValid}
 use Rattle.plan_meaning.specs.Typing.{first_schema, rest_schemas, schema, schema_by, schemas, AllValid}
 use Rattle.plan_meaning.proofs.CheckParts.{known_leaf}
+use Rattle.plan_meaning.proofs.DistinctColumns.{valid_once}
 use Rattle.plan_meaning.proofs.JoinLemmas.{differ_distinct, join_good, JoinGood}
 use Rattle.plan_meaning.proofs.Related.{LocalTo, relates_node}
 use Rattle.plan_join_narrowing.specs.JoinPruned.{called_now, first_of_each, narrowed_args, narrowed_told, pruned_join, topped_if}
@@ -201,10 +202,10 @@ all_narrows left_on right_on stored told m1 m2 n1 n2 o1 o2 k1 k2 us1 us2 ts1 ts2
         (left_local left_on right_on stored told s t r2 good once2 e (held_of (with_names [] (all_leaves right_on)) r2 t k.1.0)))
 
 -- a join over sides that narrow at what it asks narrows at what it is asked
-pub join_narrows : (l : List Name) (left_on right_on : List Named) (stored : Columns) (told : Told) (r1 r2 q1 q2 : Plan) → IsValid (rose tt (join left_on right_on stored told) (more q1 (more q2 no_roses))) → IsFair (set_of l) (schema (rose tt (join left_on right_on stored told) (more q1 (more q2 no_roses)))) → HasDistinctNames (schema r1) → HasDistinctNames (schema r2) → Narrows r1 q1 (set_of (left_names l left_on right_on told (schema q1) (schema q2))) → Narrows r2 q2 (set_of (right_names l left_on right_on told (schema q1) (schema q2))) → Narrows (pruned_join l left_on right_on stored told (schema q1) (schema q2) (more r1 (more r2 no_roses))) (rose tt (join left_on right_on stored told) (more q1 (more q2 no_roses))) (set_of l)
-join_narrows [] left_on right_on stored told (rose m1 o1 us1) (rose m2 o2 us2) (rose n1 k1 ts1) (rose n2 k2 ts2) v fair once1 once2 h1 h2 =
-    all_narrows left_on right_on stored told m1 m2 n1 n2 o1 o2 k1 k2 us1 us2 ts1 ts2 v h1 h2 once2
-join_narrows (a ∷ l) left_on right_on stored told (rose m1 o1 us1) (rose m2 o2 us2) (rose n1 k1 ts1) (rose n2 k2 ts2) v fair once1 once2 h1 h2 =
+pub join_narrows : (l : List Name) (left_on right_on : List Named) (stored : Columns) (told : Told) (r1 r2 q1 q2 : Plan) → IsValid (rose tt (join left_on right_on stored told) (more q1 (more q2 no_roses))) → IsFair (set_of l) (schema (rose tt (join left_on right_on stored told) (more q1 (more q2 no_roses)))) → Narrows r1 q1 (set_of (left_names l left_on right_on told (schema q1) (schema q2))) → Narrows r2 q2 (set_of (right_names l left_on right_on told (schema q1) (schema q2))) → Narrows (pruned_join l left_on right_on stored told (schema q1) (schema q2) (more r1 (more r2 no_roses))) (rose tt (join left_on right_on stored told) (more q1 (more q2 no_roses))) (set_of l)
+join_narrows [] left_on right_on stored told (rose m1 o1 us1) (rose m2 o2 us2) (rose n1 k1 ts1) (rose n2 k2 ts2) v fair h1 h2 =
+    all_narrows left_on right_on stored told m1 m2 n1 n2 o1 o2 k1 k2 us1 us2 ts1 ts2 v h1 h2 (valid_once (rose m2 o2 us2) h2.valid)
+join_narrows (a ∷ l) left_on right_on stored told (rose m1 o1 us1) (rose m2 o2 us2) (rose n1 k1 ts1) (rose n2 k2 ts2) v fair h1 h2 =
     let rs = more (rose m1 o1 us1) (more (rose m2 o2 us2) no_roses) in
     let s = schema_by k1 (schemas ts1) in
     let args = narrowed_args told.args (a ∷ l) right_on s in
@@ -215,4 +216,4 @@ join_narrows (a ∷ l) left_on right_on stored told (rose m1 o1 us1) (rose m2 o2
     (rose tt (join left_on right_on (first_of_each (join_columns args (column_keys left_on) (column_keys right_on) (first_schema us) (first_schema (rest_schemas us)))) (narrowed_told (called_now args (column_keys left_on) (first_schema us) by) args told)) rs))
     (rose tt (join left_on right_on stored told) (more (rose n1 k1 ts1) (more (rose n2 k2 ts2) no_roses))) (names (a ∷ l)))
     (sym (stored-schemas rs valid))
-    (some_narrows left_on right_on stored told a l m1 m2 n1 n2 o1 o2 k1 k2 us1 us2 ts1 ts2 v fair h1 h2 once1 once2)
+    (some_narrows left_on right_on stored told a l m1 m2 n1 n2 o1 o2 k1 k2 us1 us2 ts1 ts2 v fair h1 h2 (valid_once (rose m1 o1 us1) h1.valid) (valid_once (rose m2 o2 us2) h2.valid))

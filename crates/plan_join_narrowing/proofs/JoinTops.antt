@@ -33,7 +33,8 @@ use Rattle.plan_meaning.proofs.CheckParts.{good_made, is_same}
 use Rattle.plan_meaning.proofs.KeptColumns.{types_new}
 use Rattle.plan_meaning.proofs.Related.{relates_to, relates_top}
 use Rattle.plan_join_narrowing.specs.JoinPruned.{are_called_alike, named_now, renaming, topped}
-use Rattle.plan_join_narrowing.proofs.SideLemmas.{new_from, projection_good}
+use Rattle.plan_join_narrowing.proofs.SideLemmas.{new_from}
+use Rattle.plan_meaning.proofs.AskedSets.{columns_good}
 
 -- the asked columns have one type in both, under the names that they have now in the first
 pub record Renamed (now : Name → Name) (asked : List Name) (r s : Columns) : Type 0 where
@@ -153,7 +154,7 @@ module _ (now : Name → Name) (asked : List Name) (q p : Plan) (v : IsValid p) 
       let typed : (a : Name) → has asked a ≡ true → type_of r a ≡ Some (unwrap_or (type_of r (now a)) Int64) = λ a i.
       let k = h.schema.held a i in ap (type_of r) (sym (same a i)) ∙ k.1 ∙ sym (some_or (type_of r (now a)) k.0 k.1) in
       relates_top View SeeColumns SeeFrames (simple_projection columns) (renamed now asked) (seen (names asked)) q p
-      (projection_good r columns (not_empty asked fair.some)
+      (columns_good r columns (not_empty asked fair.some) (subst AreDistinct (sym (names-now now r asked)) fair.once)
       (each_now now r (λ (c : Name × DataType). is_column r c ≡ true) asked (λ a i. ap (λ (o : Option DataType). is_type o (unwrap_or (type_of r (now a)) Int64)) (typed a i) ∙ some_type_is (unwrap_or (type_of r (now a)) Int64))))
       holds (λ c. tt)
       (λ c f g x has' ag st. subst (λ (y : Frame). Agree asked y g) (sym (st ∙ ap (λ (l : List Name). cut l f) (names-now now r asked))) (agrees (column_or f) f g has'.0 ag (λ a i. ap (column_or f) (sym (same a i)))))

@@ -35,8 +35,8 @@ use Rattle.plan_meaning.specs.Functions.{all_differ}
 use Rattle.plan_meaning.specs.JoinChecks.{are_paired, conditions, fits_kind, is_built_join}
 use Rattle.plan_meaning.specs.Relating.{Asked, all, Holding, NarrowColumns, AgreeOn}
 use Rattle.plan_meaning.specs.Steps.{OnTwo}
-use Rattle.plan_meaning.proofs.JoinLemmas.{JoinGood}
-use Rattle.plan_join_narrowing.proofs.SideLemmas.{distinct_differ, good_join}
+use Rattle.plan_meaning.proofs.JoinLemmas.{distinct_differ, JoinGood}
+use Rattle.plan_join_narrowing.proofs.SideLemmas.{good_join}
 use Rattle.plan_meaning.proofs.Related.{FramesRelated, LocalTo}
 use Rattle.plan_join_narrowing.proofs.JoinLocal.{agree_of, same_pairs}
 use Rattle.plan_join_narrowing.proofs.SideLemmas.{SameLeaves, same_known}

@@ -4,12 +4,10 @@ mod SideLemmas
 mod JoinNames
 mod JoinColumns
 mod JoinTops
-mod JoinFairness
 mod JoinKept
 mod JoinFrames
 mod JoinRenames
 mod JoinLocal
 mod JoinWhole
-mod JoinNarrows
-mod DistinctColumns
-mod JoinWork
+pub mod JoinNarrows
+pub mod JoinWork

@@ -1,14 +1,12 @@
 -- What narrowed sides share with those of a join, and the checks on a join put together.
-use Rattle.std.proofs.Common.{◌≡◌, ℕ, suc, ◌+◌, Bool, true, false, not, ◌&&◌, ◌||◌, List, [], ◌∷◌, ◌++◌, length, Option, refl, sym, ap, ap₂, ◌∙◌, is_some, ⊎_elim}
-use Rattle.std.specs.List.{AllByRecursion, IsDistinct}
-use Rattle.std.specs.Str.{bytes_eq}
+use Rattle.std.proofs.Common.{◌≡◌, ℕ, suc, ◌+◌, Bool, true, false, not, ◌&&◌, List, [], ◌∷◌, ◌++◌, length, Option, refl, sym, ap, ap₂, ◌∙◌, is_some, ⊎_elim}
+use Rattle.std.specs.List.{AllByRecursion}
 use Rattle.std.proofs.lemmas.Bool.{both_ways}
 use Rattle.plan_core.specs.declared.data_type.DataType.{DataType}
 use Rattle.plan_core.specs.declared.data_type.DataType.TheVariants as types
 use Rattle.plan_core.specs.declared.error.PolarsError.TheVariants.{InvalidOperation, SchemaFieldNotFound, SchemaMismatch}
 use Rattle.plan_core.specs.Columns.{Columns, names_of, type_of}
 use Rattle.plan_core.specs.Names.{has, AreDistinct}
-use Rattle.plan_ir.specs.Plans.{simple_projection}
 use Rattle.plan_expr.specs.Exprs.{Named}
 use Rattle.plan_expr.specs.Leaves.{Name, leaves}
 use Rattle.plan_expr.specs.Naming.{naming, may_be_named}
@@ -22,28 +20,13 @@ use Rattle.plan_frame.proofs.FrameLemmas.{agree_fewer}
 use Rattle.plan_frame.proofs.NameSets.{has_back, has_cons, has_either, has_first, has_front, has_later, distinct_cons}
 use Rattle.plan_join.specs.Naming.{join_columns}
 use Rattle.plan_join.specs.Told.{Told, column_keys}
-use Rattle.plan_meaning.specs.Checks.{each, each_new, is_column, is_empty, is_known, naming_checks, stored_checks}
 use Rattle.plan_meaning.specs.Functions.{all_differ}
+use Rattle.plan_meaning.specs.Checks.{each, each_new, naming_checks, stored_checks}
 use Rattle.plan_meaning.specs.JoinChecks.{conditions, is_formed_condition, is_formed_key, is_key_type, join_checks, join_exprs, join_form_checks, join_leaf_checks, join_once_checks, join_type_checks, left_keys_plain, pair_checks, right_keys_plain}
 use Rattle.plan_meaning.specs.Relating.{Holding}
-use Rattle.plan_meaning.specs.Typing.{checks, AllHold}
+use Rattle.plan_meaning.specs.Typing.{AllHold}
 use Rattle.plan_meaning.proofs.CheckParts.{hold_join, pass_each}
-use Rattle.plan_meaning.proofs.Fairness.{known_some}
 use Rattle.plan_meaning.proofs.JoinLemmas.{JoinGood}
-
--- and distinct names all differ
-pub distinct_differ : (names : List Name) → AreDistinct names → all_differ names ≡ true
-unfolding IsDistinct
-distinct_differ [] d = refl
-distinct_differ (a ∷ names) d = both_are (not (has names a)) (all_differ names) (ap not (none_of a names d.0)) (distinct_differ names d.1)
-  where
-    none_of : (a : Name) (ys : List Name) → AllByRecursion (λ (y : Name). bytes_eq a y ≡ false) ys → has ys a ≡ false
-    none_of a [] h = refl
-    none_of a (y ∷ ys) h = ap (λ (b : Bool). b || has ys a) h.0 ∙ none_of a ys h.1
-
-    both_are : (x y : Bool) → x ≡ true → y ≡ true → (x && y) ≡ true
-    both_are true y p q = q
-    both_are false y p q = cc
 
 -- names that stand once are each new
 pub new_from : (k : ℕ) (before wanted : List Name) → ((a : Name) → has wanted a ≡ true → has before a ≡ false) → AreDistinct wanted → AllHold (each_new k before wanted)
@@ -64,19 +47,6 @@ new_from k before (a ∷ wanted) apart once =
         (λ h. absurd (both_ways (has before b) (apart b (has_later a wanted b i)) h))
         (λ h. absurd (both_ways (has wanted a) out (ap (has wanted) (sym (only b h)) ∙ i)))
         (has_either before (a ∷ []) b e)
-
--- columns that a projection takes are known
-known_all : (s ks : Columns) → AllByRecursion (λ (c : Name × DataType). is_column s c ≡ true) ks → AllByRecursion (λ (c : Name × DataType). is_known s c.0 ≡ true) ks
-known_all s [] h = tt
-known_all s (c ∷ ks) h = (known_some s c h.0, known_all s ks h.1)
-
--- a projection to columns of the input is valid
-pub projection_good : (s ks : Columns) → is_empty ks ≡ false → AllByRecursion (λ (c : Name × DataType). is_column s c ≡ true) ks → AllHold (checks (simple_projection ks) (s ∷ []))
-projection_good s ks some h = (
-  ap not some,
-  hold_join (each SchemaFieldNotFound 1 (λ (c : Name × DataType). is_known s c.0) ks) (each SchemaMismatch 1 (is_column s) ks)
-      (pass_each SchemaFieldNotFound 1 (λ (c : Name × DataType). is_known s c.0) ks (known_all s ks h)) (pass_each SchemaMismatch 1 (is_column s) ks h),
-)
 
 -- a name that is held has one type on both sides
 pub holding_same : (l : List Name) (r s : Columns) → Holding l r s → (a : Name) → has l a ≡ true → type_of r a ≡ type_of s a

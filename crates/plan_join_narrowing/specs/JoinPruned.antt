@@ -23,7 +23,7 @@ use Rattle.plan_ir.specs.Plans.{Op, join, select, simple_projection, Plan}
 use Rattle.plan_join.specs.declared.origin.Side.{Side}
 use Rattle.plan_join.specs.Naming.{called, has_right, join_columns, left_rest, right_name}
 use Rattle.plan_join.specs.Told.{KindOptions, inequalities, condition, Told, column_keys, expr_column}
-use Rattle.plan_join_narrowing.specs.JoinAsked.{origin_of}
+use Rattle.plan_meaning.specs.JoinAsked.{origin_of}
 use Rattle.plan_meaning.specs.Typing.{first_schema, rest_schemas}
 use Rattle.plan_renamed.specs.Renamed.{renamed_exprs, renamed_op}
 use Rattle.plan_schema.specs.Stored.{stored_all}

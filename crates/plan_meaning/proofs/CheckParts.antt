@@ -1,12 +1,12 @@
 -- What it takes that the checks on a node hold, part by part.
-use Rattle.std.proofs.Common.{◌≡◌, ℕ, suc, Bool, true, ◌||◌, List, [], ◌∷◌, ◌++◌, length, Option, refl, sym, ap, ◌∙◌, subst, is_some, ⊎_elim}
+use Rattle.std.proofs.Common.{◌≡◌, ℕ, suc, Bool, true, not, ◌||◌, List, [], ◌∷◌, ◌++◌, length, Option, refl, sym, ap, ◌∙◌, subst, is_some, ⊎_elim}
 use Rattle.std.specs.List.{AllByRecursion}
 use Rattle.std.proofs.lemmas.Bool.{and_parts}
 use Rattle.plan_core.specs.declared.error.At.{At}
 use Rattle.plan_core.specs.declared.error.PolarsError.{PolarsError}
 use Rattle.plan_core.specs.declared.error.PolarsError.TheVariants.{InvalidOperation, SchemaFieldNotFound, SchemaMismatch}
 use Rattle.plan_core.specs.declared.options.FileScanOptions.{FileScanOptions}
-use Rattle.plan_core.specs.Columns.{Columns, type_of, same_columns}
+use Rattle.plan_core.specs.Columns.{Columns, names_of, type_of, same_columns}
 use Rattle.plan_core.specs.Names.{has}
 use Rattle.plan_core.proofs.SameLemmas.{same_columns-Decides}
 use Rattle.plan_ir.specs.declared.scan.FileInfo.{FileInfo}
@@ -17,7 +17,8 @@ use Rattle.plan_expr.specs.Leaves.{Name, leaves}
 use Rattle.plan_expr.specs.Naming.{naming, may_be_named}
 use Rattle.plan_frame.specs.Exprs.{all_known, expr_type}
 use Rattle.plan_meaning.specs.Checks.{Check, each, each_new, is_known, is_column, is_empty, form_checks, leaf_checks, type_checks, once_checks, stored_checks, naming_checks, plain_checks, is_plain_type}
-use Rattle.plan_meaning.specs.Typing.{columns_or, file_columns, put_out_checks, scan_name_checks, is_built_scan, scan_column_checks, scan_checks, frame_checks, number_checks, made_checks, key_checks, AllHold}
+use Rattle.plan_meaning.specs.Typing.{columns_or, file_columns, put_out_checks, scan_name_checks, is_built_scan, scan_column_checks, scan_checks, frame_checks, number_checks, differ_checks, projection_checks, made_checks, key_checks, AllHold}
+use Rattle.plan_meaning.specs.Functions.{all_differ}
 use Rattle.plan_frame.specs.Frames.{names_or}
 use Rattle.plan_frame.specs.Made.{made_schema}
 use Rattle.plan_frame.specs.ExprLists.{out_names}
@@ -74,58 +75,99 @@ pub record ScanGood (predicate : Option Named) (output : Option Columns) (info :
   pub built : is_built_scan predicate info options ≡ true
   pub known : AllHold (scan_name_checks (columns_or output []) (names_or options.with_columns []) (file_columns info))
   pub put_out : AllHold (put_out_checks output options.with_columns (file_columns info))
+  pub differ : all_differ (names_of (columns_or output (file_columns info))) ≡ true
   pub once : AllHold (each_new (suc (length (columns_or output []))) [] (names_or options.with_columns []))
   pub stored : same_columns info.schema (file_columns info) ≡ true
 
 pub scan_good : (predicate : Option Named) (output : Option Columns) (info : FileInfo) (options : FileScanOptions) → AllHold (scan_checks predicate output info options) → ScanGood predicate output info options
-unfolding scan_column_checks stored_checks
+unfolding scan_column_checks differ_checks stored_checks
 scan_good predicate output info options h =
     let a = scan_name_checks (columns_or output []) (names_or options.with_columns []) (file_columns info) in
     let b = put_out_checks output options.with_columns (file_columns info) in
+    let e = differ_checks (columns_or output (file_columns info)) in
     let c = each_new (suc (length (columns_or output []))) [] (names_or options.with_columns []) in
     let d = stored_checks info.schema (file_columns info) in
-    let bcd = hold_back a (b ++ (c ++ d)) h.1 in
-    let cd = hold_back b (c ++ d) bcd in
-    let last = hold_back c d cd in
-    record { built = h.0; known = hold_front a (b ++ (c ++ d)) h.1; put_out = hold_front b (c ++ d) bcd; once = hold_front c d cd; stored = last.0 }
+    let becd = hold_back a (b ++ (e ++ (c ++ d))) h.1 in
+    let ecd = hold_back b (e ++ (c ++ d)) becd in
+    let last = hold_back c d ecd.1 in
+    record { built = h.0; known = hold_front a (b ++ (e ++ (c ++ d))) h.1; put_out = hold_front b (e ++ (c ++ d)) becd; differ = ecd.0; once = hold_front c d ecd.1; stored = last.0 }
 
 pub good_scan : (predicate : Option Named) (output : Option Columns) (info : FileInfo) (options : FileScanOptions) → ScanGood predicate output info options → AllHold (scan_checks predicate output info options)
-unfolding scan_column_checks stored_checks
+unfolding scan_column_checks differ_checks stored_checks
 good_scan predicate output info options g =
     let a = scan_name_checks (columns_or output []) (names_or options.with_columns []) (file_columns info) in
     let b = put_out_checks output options.with_columns (file_columns info) in
+    let e = differ_checks (columns_or output (file_columns info)) in
     let c = each_new (suc (length (columns_or output []))) [] (names_or options.with_columns []) in
     let d = stored_checks info.schema (file_columns info) in
-    (g.built, hold_join a (b ++ (c ++ d)) g.known (hold_join b (c ++ d) g.put_out (hold_join c d g.once (g.stored, tt))))
+    (g.built, hold_join a (b ++ (e ++ (c ++ d))) g.known (hold_join b (e ++ (c ++ d)) g.put_out (g.differ, hold_join c d g.once (g.stored, tt))))
 
 -- scans of frames
 
 -- what the checks on a scan of a frame say, part by part
-pub record FrameGood (df : Option ℕ) (schema outs : Columns) : Type 0 where
-  pub known : AllByRecursion (λ (c : Name × DataType). is_known schema c.0 ≡ true) outs
+pub record FrameGood (df : Option ℕ) (schema : Columns) (output : Option Columns) : Type 0 where
+  pub known : AllByRecursion (λ (c : Name × DataType). is_known schema c.0 ≡ true) (columns_or output [])
   pub number : (is_some df || is_empty schema) ≡ true
-  pub typed : AllByRecursion (λ (c : Name × DataType). is_column schema c ≡ true) outs
+  pub typed : AllByRecursion (λ (c : Name × DataType). is_column schema c ≡ true) (columns_or output [])
+  pub differ : all_differ (names_of (columns_or output schema)) ≡ true
 
-pub frame_good : (df : Option ℕ) (schema outs : Columns) → AllHold (frame_checks df schema outs) → FrameGood df schema outs
-unfolding frame_checks number_checks
-frame_good df schema outs h =
+pub frame_good : (df : Option ℕ) (schema : Columns) (output : Option Columns) → AllHold (frame_checks df schema output) → FrameGood df schema output
+unfolding frame_checks number_checks differ_checks
+frame_good df schema output h =
+    let outs = columns_or output [] in
     let a = each SchemaFieldNotFound 1 (λ (c : Name × DataType). is_known schema c.0) outs in
     let b = each SchemaMismatch 1 (is_column schema) outs in
     let n = number_checks df schema in
-    let rest = hold_back a (n ++ b) h in
+    let d = differ_checks (columns_or output schema) in
+    let rest = hold_back a (n ++ (b ++ d)) h in
     record {
-      known = each_pass SchemaFieldNotFound 1 (λ (c : Name × DataType). is_known schema c.0) outs (hold_front a (n ++ b) h);
+      known = each_pass SchemaFieldNotFound 1 (λ (c : Name × DataType). is_known schema c.0) outs (hold_front a (n ++ (b ++ d)) h);
       number = rest.0;
-      typed = each_pass SchemaMismatch 1 (is_column schema) outs rest.1;
+      typed = each_pass SchemaMismatch 1 (is_column schema) outs (hold_front b d rest.1);
+      differ = (hold_back b d rest.1).0;
     }
 
-pub good_frame : (df : Option ℕ) (schema outs : Columns) → FrameGood df schema outs → AllHold (frame_checks df schema outs)
-unfolding frame_checks number_checks
-good_frame df schema outs g =
+pub good_frame : (df : Option ℕ) (schema : Columns) (output : Option Columns) → FrameGood df schema output → AllHold (frame_checks df schema output)
+unfolding frame_checks number_checks differ_checks
+good_frame df schema output g =
+    let outs = columns_or output [] in
     let a = each SchemaFieldNotFound 1 (λ (c : Name × DataType). is_known schema c.0) outs in
     let b = each SchemaMismatch 1 (is_column schema) outs in
     let n = number_checks df schema in
-    hold_join a (n ++ b) (pass_each SchemaFieldNotFound 1 (λ (c : Name × DataType). is_known schema c.0) outs g.known) (g.number, pass_each SchemaMismatch 1 (is_column schema) outs g.typed)
+    let d = differ_checks (columns_or output schema) in
+    hold_join a (n ++ (b ++ d)) (pass_each SchemaFieldNotFound 1 (λ (c : Name × DataType). is_known schema c.0) outs g.known)
+    (g.number, hold_join b d (pass_each SchemaMismatch 1 (is_column schema) outs g.typed) (g.differ, tt))
+
+-- projections
+
+-- what the checks on a projection say, part by part
+pub record ProjectionGood (cs s : Columns) : Type 0 where
+  pub some : not (is_empty cs) ≡ true
+  pub known : AllByRecursion (λ (c : Name × DataType). is_known s c.0 ≡ true) cs
+  pub typed : AllByRecursion (λ (c : Name × DataType). is_column s c ≡ true) cs
+  pub differ : all_differ (names_of cs) ≡ true
+
+pub projection_good : (cs s : Columns) → AllHold (projection_checks cs s) → ProjectionGood cs s
+unfolding differ_checks
+projection_good cs s h =
+    let a = each SchemaFieldNotFound 1 (λ (c : Name × DataType). is_known s c.0) cs in
+    let b = each SchemaMismatch 1 (is_column s) cs in
+    let d = differ_checks cs in
+    let rest = hold_back a (b ++ d) h.1 in
+    record {
+      some = h.0;
+      known = each_pass SchemaFieldNotFound 1 (λ (c : Name × DataType). is_known s c.0) cs (hold_front a (b ++ d) h.1);
+      typed = each_pass SchemaMismatch 1 (is_column s) cs (hold_front b d rest);
+      differ = (hold_back b d rest).0;
+    }
+
+pub good_projection : (cs s : Columns) → ProjectionGood cs s → AllHold (projection_checks cs s)
+unfolding differ_checks
+good_projection cs s g =
+    let a = each SchemaFieldNotFound 1 (λ (c : Name × DataType). is_known s c.0) cs in
+    let b = each SchemaMismatch 1 (is_column s) cs in
+    let d = differ_checks cs in
+    (g.some, hold_join a (b ++ d) (pass_each SchemaFieldNotFound 1 (λ (c : Name × DataType). is_known s c.0) cs g.known) (hold_join b d (pass_each SchemaMismatch 1 (is_column s) cs g.typed) (g.differ, tt)))
 
 -- columns that expressions make
 

@@ -10,9 +10,9 @@ use Rattle.plan_tree.specs.Rose.{Roses, rose, no_roses, more}
 use Rattle.plan_expr.specs.Exprs.{Named}
 use Rattle.plan_ir.specs.Plans.{Op, slice, filter, scan, frame_scan, simple_projection, select, hstack, sort, group_by, join, distinct, map_function, sink, union, hconcat, cache, invalid, Plan}
 use Rattle.plan_expr.specs.Leaves.{Name, leaves}
-use Rattle.plan_frame.specs.Exprs.{all_known, is_type}
+use Rattle.plan_frame.specs.Exprs.{all_known}
 use Rattle.plan_frame.specs.Grouping.{gathered, group_exprs}
-use Rattle.plan_meaning.specs.Checks.{is_empty, each, is_known, is_column}
+use Rattle.plan_meaning.specs.Checks.{each, is_known, is_column}
 use Rattle.plan_meaning.specs.Typing.{has_columns, columns_or, file_columns, all_read, put_out_checks, scan_name_checks, subset_checks, first_schema, schema_by, schemas, checks, AllHold, AllValid}
 use Rattle.plan_frame.specs.Beside.{side_by_side}
 use Rattle.plan_frame.specs.Frames.{names_or}
@@ -21,32 +21,19 @@ use Rattle.plan_meaning.specs.Steps.{IsValid}
 use Rattle.plan_meaning.specs.Relating.{Asked, all, names, cached}
 use Rattle.plan_frame.specs.ExprLists.{counts_rows, all_leaves}
 use Rattle.plan_meaning.specs.Counting.{stand_ins, first_stand_in, stand_in_names}
-use Rattle.plan_meaning.specs.Asked.{asked_names, is_asked, set_of, with_more, kept, asks_columns, kept_exprs, selected_exprs, needed_names, asks_selected, asks_added, asks_stacked, asks_grouped, asks_held, asks_alike, asks, own_site, sites, reads, allowed, Fair, IsFair, SiteFair, AllSites}
+use Rattle.plan_meaning.specs.Asked.{asked_names, is_asked, set_of, with_more, kept, asks_columns, kept_exprs, selected_exprs, needed_names, asks_selected, asks_added, asks_stacked, asks_grouped, asks_held, asks_alike, asks_joined, asks, own_site, sites, reads, allowed, Fair, IsFair, SiteFair, AllSites}
 use Rattle.plan_frame.proofs.NameSets.{has_cons, has_first, has_later, some-type_of, keeps_names, from_names, distinct_names, distinct_none}
-use Rattle.plan_meaning.proofs.CheckParts.{hold_front, each_pass, name_passes, known_leaf, scan_good, made_good, keys_good}
+use Rattle.plan_meaning.proofs.CheckParts.{hold_front, each_pass, name_passes, known_leaf, scan_good, projection_good, made_good, keys_good}
+use Rattle.plan_join.specs.Told.{Told}
+use Rattle.plan_meaning.specs.JoinChecks.{join_checks}
+use Rattle.plan_meaning.proofs.AskedSets.{column_passes, some_name, has_some, fair_set}
+use Rattle.plan_meaning.proofs.JoinFairness.{fair_left, fair_right}
 use Rattle.plan_meaning.proofs.UnionLemmas.{union_inputs}
 use Rattle.plan_meaning.proofs.FunctionLemmas.{fair_function}
 use Rattle.plan_frame.proofs.GroupLemmas.{all_back, all_front, gathered_known}
 use Rattle.plan_meaning.proofs.KeptColumns.{types_kept}
 use Rattle.plan_meaning.proofs.StandIns.{IsStandIn, AreStandIns, first_stands, are_stand_ins}
 use Rattle.plan_meaning.proofs.KeptExprs.{all_append, all_kept_exprs, all_selected, known_leaves, where_has, distinct_where}
-
--- each column of a list that passes
-pub column_passes : (P : Name → Type 0) (cs : Columns) → AllByRecursion (λ (c : Name × DataType). P c.0) cs → (a : Name) → has (names_of cs) a ≡ true → P a
-column_passes P [] h a i = cc
-column_passes P (c ∷ cs) h a i = ⊎_elim (λ (e : a ≡ c.0). subst P (sym e) h.0) (λ (e : has (names_of cs) a ≡ true). column_passes P cs h.1 a e) (has_cons c.0 (names_of cs) a i)
-
-pub some_name : (wanted : List Name) (a : Name) → has wanted a ≡ true → is_empty wanted ≡ false
-some_name [] a h = cc
-some_name (b ∷ wanted) a h = refl
-
-pub has_some : (wanted : List Name) → is_empty wanted ≡ false → (a : Name) × (has wanted a ≡ true)
-has_some [] e = cc
-has_some (a ∷ wanted) e = (a, has_first a wanted)
-
-pub fair_set : (wanted : List Name) (s : Columns) → AreDistinct wanted → ((a : Name) → has wanted a ≡ true → is_some (type_of s a) ≡ true) → IsFair (set_of wanted) s
-fair_set [] s once known = tt
-fair_set (a ∷ wanted) s once known = record { some = refl; once = once; known = known }
 
 -- with the leaves of an expression over the columns, what is asked can be asked of them
 pub fair_more : (others : List Name) (a : Asked) (s : Columns) → ((b : Name) → has others b ≡ true → is_some (type_of s b) ≡ true) → IsFair a s → IsFair (with_more others a) s
@@ -82,14 +69,6 @@ kept_asked a (c ∷ cs) b i = at (is_asked a c.0) refl (λ j. kept_asked a cs b 
         (λ (q : has (names_of (kept a cs)) b ≡ true). (has_later c.0 (names_of cs) b (r q).0, (r q).1))
         (has_cons c.0 (names_of (kept a cs)) b i)
     at false e r i = (has_later c.0 (names_of cs) b (r i).0, (r i).1)
-
--- a column with its type is known
-pub known_some : (s : Columns) (c : Name × DataType) → is_column s c ≡ true → is_some (type_of s c.0) ≡ true
-known_some s c e = at (type_of s c.0) e
-  where
-    at : (o : Option DataType) → is_type o c.1 ≡ true → is_some o ≡ true
-    at None e = cc
-    at (Some t) e = refl
 
 kept_names_known : (a : Asked) (cs s : Columns) → AllByRecursion (λ (c : Name × DataType). is_known s c.0 ≡ true) cs → (b : Name) → has (with_names [] (names_of (kept a cs))) b ≡ true → is_some (type_of s b) ≡ true
 kept_names_known a cs s h b i =
@@ -189,20 +168,25 @@ fair_each : (a : Asked) (ss : List Columns) → Once a → FairAll (map (asks_he
 fair_each a [] f = tt
 fair_each a (s ∷ ss) f = (fair_held a s f, fair_each a ss f)
 
+-- what a join asks of its sides
+fair_joined : (left_on right_on : List Named) (stored : Columns) (told : Told) (a : Asked) (s t : Columns) → AllHold (join_checks left_on right_on stored told s t) → FairAll (asks_joined left_on right_on told a s t) (s ∷ t ∷ [])
+fair_joined left_on right_on stored told all s t good = (fair_left left_on right_on stored told s t good [], (fair_right left_on right_on stored told s t good [], tt))
+fair_joined left_on right_on stored told (names wanted) s t good = (fair_left left_on right_on stored told s t good wanted, (fair_right left_on right_on stored told s t good wanted, tt))
+fair_joined left_on right_on stored told cached s t good = (tt, (tt, tt))
+
 -- per node: what it asks can be asked of its inputs
 pub fair_asks : (op : Op) (a : Asked) (ss : List Columns) (os : List (Option Name)) → AllHold (checks op ss) → AreStandIns os ss → IsFair a (schema_by op ss) → FairAll (asks op a ss os) ss
 fair_asks (filter predicate) a (s ∷ []) os good k f = (fair_more (leaves predicate.expr) a s (λ b i. known_leaf (leaves predicate.expr) s b good.1.0 i) f, tt)
 fair_asks (scan sources info predicate output kind options) a [] os good k f = tt
 fair_asks (simple_projection cols) a (s ∷ []) os good k f =
-    let known = each_pass SchemaFieldNotFound 1 (λ (c : Name × DataType). is_known s c.0) cols (hold_front (each SchemaFieldNotFound 1 (λ (c : Name × DataType). is_known s c.0) cols) (each SchemaMismatch 1 (is_column s) cols) good.1) in
-    (fair_columns cols a s known, tt)
+    (fair_columns cols a s (projection_good cols s good).known, tt)
 fair_asks (slice offset len) a (s ∷ []) os good k f = (f, tt)
 fair_asks (frame_scan df schema output) a [] os good k f = tt
 fair_asks (select es stored options) a (s ∷ []) os good k f = (fair_selected es (first_stand_in os) a s (first_stands os s [] k) (made_good [] es stored s good.1).known, tt)
 fair_asks (hstack es stored options) a (s ∷ []) os good k f = (fair_stacked es a s (made_good s es stored s good).known f, tt)
 fair_asks (sort keys part options) a (s ∷ []) os good k f = (fair_more (all_leaves keys) a s (λ b i. known_leaves keys s (keys_good keys s good.1).known b i) f, tt)
 fair_asks (group_by keys aggs schema ordered options) a (s ∷ []) os good k f = (fair_grouped keys aggs a s (made_schema [] (group_exprs keys aggs) s) (made_good [] (group_exprs keys aggs) schema s good.1).known f, tt)
-fair_asks (join left_on right_on schema told) a (s ∷ t ∷ []) os good k f = (tt, (tt, tt))
+fair_asks (join left_on right_on schema told) a (s ∷ t ∷ []) os good k f = fair_joined left_on right_on schema told a s t good
 fair_asks (distinct options) a (s ∷ []) os good k f = (fair_more (names_or options.subset (names_of s)) a s (λ b i. told_known options.subset s good.1 b i) f, tt)
 fair_asks (map_function function) a (s ∷ []) os good k f = (fair_function function a s good f, tt)
 fair_asks (sink payload) a (s ∷ []) os good k f = (f, tt)

@@ -40,6 +40,20 @@ differ_distinct (a ∷ names) h =
       differ_distinct names p.1,
     )
 
+-- and distinct names all differ
+pub distinct_differ : (names : List Name) → AreDistinct names → all_differ names ≡ true
+unfolding IsDistinct
+distinct_differ [] d = refl
+distinct_differ (a ∷ names) d = both_are (not (has names a)) (all_differ names) (ap not (none_of a names d.0)) (distinct_differ names d.1)
+  where
+    none_of : (a : Name) (ys : List Name) → AllByRecursion (λ (y : Name). bytes_eq a y ≡ false) ys → has ys a ≡ false
+    none_of a [] h = refl
+    none_of a (y ∷ ys) h = ap (λ (b : Bool). b || has ys a) h.0 ∙ none_of a ys h.1
+
+    both_are : (x y : Bool) → x ≡ true → y ≡ true → (x && y) ≡ true
+    both_are true y p q = q
+    both_are false y p q = cc
+
 -- what the checks on a join say, part by part
 pub record JoinGood (left_on right_on : List Named) (stored : Columns) (told : Told) (s t : Columns) : Type 0 where
   pub built : is_built_join (length left_on) (length right_on) told ≡ true

@@ -9,10 +9,13 @@ pub mod KeptExprs
 pub mod UnpivotLemmas
 pub mod ExplodeLemmas
 pub mod FunctionLemmas
+pub mod DistinctColumns
 pub mod Runs
 pub mod Refining
 pub mod Related
 pub mod Validity
 pub mod StandIns
+pub mod AskedSets
+pub mod JoinFairness
 pub mod Fairness
 pub mod Keeping

@@ -4,7 +4,7 @@ use Rattle.std.specs.List.{AllByRecursion, range_with_len}
 use Rattle.std.proofs.lemmas.List.Sorted.{IsPermutation-refl}
 use Rattle.std.proofs.lemmas.Bool.{and_parts}
 use Rattle.plan_core.specs.declared.data_type.DataType.{DataType}
-use Rattle.plan_core.specs.declared.error.PolarsError.TheVariants.{SchemaFieldNotFound, SchemaMismatch}
+use Rattle.plan_core.specs.declared.error.PolarsError.TheVariants.{SchemaMismatch}
 use Rattle.plan_core.specs.Columns.{Columns, names_of, type_of}
 use Rattle.plan_tree.specs.Rose.{Roses, rose, no_roses, more}
 use Rattle.plan_expr.specs.Exprs.{Named}
@@ -16,7 +16,7 @@ use Rattle.plan_meaning.specs.Functions.{function_schema}
 use Rattle.plan_options.specs.declared.distinct.UniqueKeepStrategy.TheVariants.{First}
 use Rattle.plan_frame.specs.Grouping.{group_exprs}
 use Rattle.plan_meaning.specs.Mapped.{mapped}
-use Rattle.plan_meaning.specs.Checks.{each, is_known, is_column, is_plain_type}
+use Rattle.plan_meaning.specs.Checks.{is_column, is_plain_type}
 use Rattle.plan_meaning.specs.Typing.{columns_or, file_columns, has_columns, put_out_checks, first_schema, schema_by, schema, schemas, checks, AllHold, AllValid}
 use Rattle.plan_frame.specs.Made.{made_schema, made, selected, grouped}
 use Rattle.plan_frame.specs.Beside.{side_by_side}
@@ -28,7 +28,7 @@ use Rattle.plan_meaning.specs.Steps.{Step, MayAll, May, IsValid}
 use Rattle.plan_frame.specs.Rows.{filtered, true_rows, slice_rows}
 use Rattle.plan_frame.proofs.FrameLemmas.{rows_schema, schema_holds, all_hold, cut_schema, stack_has, is_type_some}
 use Rattle.plan_frame.proofs.Sound.{val_sound}
-use Rattle.plan_meaning.proofs.CheckParts.{hold_back, each_pass, scan_good, FrameGood, frame_good, made_good, keys_good}
+use Rattle.plan_meaning.proofs.CheckParts.{each_pass, scan_good, FrameGood, frame_good, projection_good, made_good, keys_good}
 use Rattle.plan_frame.proofs.KeptRows.{alike_equivalence, kept_exists}
 use Rattle.plan_frame.proofs.TurnLemmas.{HaveSchemas}
 use Rattle.plan_join.specs.Naming.{join_columns}
@@ -63,7 +63,7 @@ frames_hold c file out (s ∷ ss) by h =
     (subst (λ (g : Frame). HoldsAll g out) (sym is) (by h.0.given h.0.holds), frames_hold c file out ss by h.1)
 
 -- a frame that is handed in holds what is put out of it
-handed_holds : (c : Contents) (df : Option ℕ) (schema : Columns) (output : Option Columns) → FrameGood df schema (columns_or output []) → HasHandedIn c schema df → HoldsAll (handed_in c df) (columns_or output schema)
+handed_holds : (c : Contents) (df : Option ℕ) (schema : Columns) (output : Option Columns) → FrameGood df schema output → HasHandedIn c schema df → HoldsAll (handed_in c df) (columns_or output schema)
 handed_holds c (Some i) schema None g h = subst (λ (f : Frame). HoldsAll f schema) (sym (ap (λ (o : Option Frame). unwrap_or o no_frame) h.found)) h.holds
 handed_holds c (Some i) schema (Some out) g h =
     subst (λ (f : Frame). HoldsAll f out) (sym (ap (λ (o : Option Frame). unwrap_or o no_frame) h.found))
@@ -103,14 +103,13 @@ step_has c (slice offset len) (s ∷ []) (g ∷ []) f good fit has st =
     subst (λ (x : Frame). HasSchema x s) (sym st) (rows_schema (slice_rows offset len g.height) g s has.0)
 step_has c (frame_scan df schema output) [] [] f good fit has st =
     let out = columns_or output schema in
-    subst (λ (x : Frame). HasSchema x out) (sym st) (cut_schema (handed_in c df) out (handed_holds c df schema output (frame_good df schema (columns_or output []) good) fit))
+    subst (λ (x : Frame). HasSchema x out) (sym st) (cut_schema (handed_in c df) out (handed_holds c df schema output (frame_good df schema output good) fit))
 step_has c (select es stored options) (s ∷ []) (g ∷ []) f good fit has st =
     subst (λ (x : Frame). HasSchema x (made_schema [] es s)) (sym st) (selected_has g s es has.0 (made_good [] es stored s good.1).typed)
 step_has c (hstack es stored options) (s ∷ []) (g ∷ []) f good fit has st =
     subst (λ (x : Frame). HasSchema x (made_schema s es s)) (sym st) (made_have g.height g s es g.columns s has.0 (typed_fill g s es has.0 (made_good s es stored s good).typed))
 step_has c (simple_projection cols) (s ∷ []) (g ∷ []) f good fit has st =
-    let typed = each_pass SchemaMismatch 1 (is_column s) cols (hold_back (each SchemaFieldNotFound 1 (λ (c : Name × DataType). is_known s c.0) cols) (each SchemaMismatch 1 (is_column s) cols) good.1) in
-    subst (λ (x : Frame). HasSchema x cols) (sym st) (cut_schema g cols (among_hold (λ a t. Holds g (a, t)) s cols (λ a t e. schema_holds g s a t has.0 e) typed))
+    subst (λ (x : Frame). HasSchema x cols) (sym st) (cut_schema g cols (among_hold (λ a t. Holds g (a, t)) s cols (λ a t e. schema_holds g s a t has.0 e) (projection_good cols s good).typed))
 step_has c (sort keys part options) (s ∷ []) (g ∷ []) f good fit has st =
     subst (λ (x : Frame). HasSchema x s) (sym st.2) (rows_schema st.0 g s has.0)
 step_has c (group_by keys aggs schema ordered options) (s ∷ []) (g ∷ []) f good fit has st =

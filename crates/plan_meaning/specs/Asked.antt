@@ -10,7 +10,9 @@ use Rattle.plan_ir.specs.Plans.{Op, slice, filter, scan, frame_scan, simple_proj
 use Rattle.plan_expr.specs.Leaves.{Name, leaves}
 use Rattle.plan_expr.specs.Naming.{name_of}
 use Rattle.plan_meaning.specs.Checks.{is_empty}
-use Rattle.plan_meaning.specs.Typing.{columns_or, file_columns, first_schema, schema_by, schemas}
+use Rattle.plan_join.specs.Told.{Told}
+use Rattle.plan_meaning.specs.JoinAsked.{left_names, right_names}
+use Rattle.plan_meaning.specs.Typing.{columns_or, file_columns, first_schema, rest_schemas, schema_by, schemas}
 use Rattle.plan_frame.specs.Frames.{names_or}
 use Rattle.plan_ir.specs.declared.functions.FunctionIR.{FunctionIR}
 use Rattle.plan_ir.specs.declared.functions.FunctionIR.TheVariants.{Rename, RowIndex, Unpivot, Explode}
@@ -120,9 +122,11 @@ asks_held all s = all
 asks_held (names wanted) s = set_of (only_where (has (names_of s)) wanted)
 asks_held cached s = cached
 
--- everything, of each input alike, since nothing below the node is looked at
-abbrev pub asks_closed : List Columns → List Asked
-asks_closed ss = map (λ (s : Columns). cached) ss
+-- a join of these sides asks each for the names that it needs of it
+abbrev pub asks_joined : (left_on right_on : List Named) → Told → Asked → (left right : Columns) → List Asked
+asks_joined left_on right_on told all s t = set_of (left_names [] left_on right_on told s t) ∷ set_of (right_names [] left_on right_on told s t) ∷ []
+asks_joined left_on right_on told (names wanted) s t = set_of (left_names wanted left_on right_on told s t) ∷ set_of (right_names wanted left_on right_on told s t) ∷ []
+asks_joined left_on right_on told cached s t = cached ∷ cached ∷ []
 
 -- what a node asks of its inputs, by the columns of these and those that stand in for their rows
 abbrev pub asks : Op → Asked → List Columns → List (Option Name) → List Asked
@@ -135,7 +139,7 @@ asks (select exprs schema options) a ss os = asks_selected exprs (first_stand_in
 asks (hstack exprs schema options) a ss os = asks_stacked exprs a (first_schema ss) ∷ []
 asks (sort keys part options) a ss os = with_more (all_leaves keys) a ∷ []
 asks (group_by keys aggs schema ordered options) a ss os = asks_grouped keys aggs a (first_schema ss) ∷ []
-asks (join left_on right_on schema told) a ss os = asks_closed ss
+asks (join left_on right_on schema told) a ss os = asks_joined left_on right_on told a (first_schema ss) (first_schema (rest_schemas ss))
 asks (distinct options) a ss os = with_more (names_or options.subset (names_of (first_schema ss))) a ∷ []
 asks (map_function function) a ss os = asks_function function a (first_schema ss) ∷ []
 asks (sink payload) a ss os = a ∷ []

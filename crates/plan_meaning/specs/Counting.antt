@@ -5,7 +5,7 @@ use Rattle.plan_tree.specs.Rose.{Roses, rose, no_roses, more}
 use Rattle.plan_expr.specs.Exprs.{Named}
 use Rattle.plan_expr.specs.Leaves.{Name}
 use Rattle.plan_expr.specs.Naming.{name_of}
-use Rattle.plan_ir.specs.Plans.{Op, select, hstack, join, cache, Plan}
+use Rattle.plan_ir.specs.Plans.{Op, select, hstack, cache, Plan}
 use Rattle.plan_meaning.specs.Typing.{first_schema, rest_schemas}
 use Rattle.plan_frame.specs.ExprLists.{counts_rows, first_many}
 
@@ -14,18 +14,17 @@ abbrev pub is_count : Op → Bool
 is_count (select exprs schema options) = counts_rows exprs
 is_count op = false
 
--- whether nothing below a node is looked at: below a join and a cache nothing is
+-- whether nothing below a node is looked at: below a cache nothing is
 abbrev pub is_closed : Op → Bool
-is_closed (join left_on right_on schema told) = true
 is_closed (cache id hits) = true
 is_closed op = false
 
--- whether a node of some plans counts rows, and doesn't stand below a join or a cache
+-- whether a node of some plans counts rows, and doesn't stand below a cache
 abbrev pub meet_count : {N : Type 0} → Roses N Op → Bool
 meet_count no_roses = false
 meet_count (more (rose n op ts) rest) = is_count op || ((not (is_closed op) && meet_count ts) || meet_count rest)
 
--- whether a node of a plan counts rows, and doesn't stand below a join or a cache
+-- whether a node of a plan counts rows, and doesn't stand below a cache
 abbrev pub meets_count : Plan → Bool
 meets_count p = meet_count (more p no_roses)
 

@@ -11,6 +11,7 @@ pub mod Steps
 pub mod Relating
 pub mod PlanAt
 pub mod Counting
+pub mod JoinAsked
 pub mod Asked
 pub mod Work
 pub mod Scans

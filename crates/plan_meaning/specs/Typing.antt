@@ -102,12 +102,17 @@ filter_checks e s =
     ∷ check SchemaMismatch 1 (may_be_named e.name (naming e.expr))
     ∷ []
 
--- a projection has columns, and they are the input's
+-- no name comes twice among columns
+unfoldable pub differ_checks : Columns → List Check
+differ_checks cs = check Duplicate 0 (all_differ (names_of cs)) ∷ []
+
+-- a projection has columns, they are the input's, and no two have one name
 abbrev pub projection_checks : Columns → Columns → List Check
 projection_checks cs s =
     check InvalidOperation 0 (not (is_empty cs))
     ∷ (each SchemaFieldNotFound 1 (λ (c : Name × DataType). is_known s c.0) cs
-    ++ each SchemaMismatch 1 (is_column s) cs)
+    ++ (each SchemaMismatch 1 (is_column s) cs
+    ++ differ_checks cs))
 
 -- each column is read
 abbrev pub all_read : Option (List Name) → Columns → Bool
@@ -130,13 +135,14 @@ unfoldable pub is_built_scan : Option Named → FileInfo → FileScanOptions →
 is_built_scan predicate info options =
     is_some info.reader_schema && is_none predicate && is_none options.slice && is_none options.row_index && is_none options.include_file_paths
 
--- what a scan puts out and reads are columns of its files, each read once; its stored columns are those of the files
+-- what a scan puts out and reads are columns of its files, each put out once and read once; its stored columns are those of the files
 unfoldable pub scan_column_checks : Option Columns → Option (List Name) → Columns → Columns → List Check
 scan_column_checks output reads stored file =
     scan_name_checks (columns_or output []) (names_or reads []) file
     ++ (put_out_checks output reads file
+    ++ (differ_checks (columns_or output file)
     ++ (each_new (suc (length (columns_or output []))) [] (names_or reads [])
-    ++ stored_checks stored file))
+    ++ stored_checks stored file)))
 
 -- a scan has a form that is built, and its columns are as they must be
 abbrev pub scan_checks : Option Named → Option Columns → FileInfo → FileScanOptions → List Check
@@ -148,12 +154,13 @@ scan_checks predicate output info options =
 unfoldable pub number_checks : Option ℕ → Columns → List Check
 number_checks df schema = check SchemaMismatch 0 (is_some df || is_empty schema) ∷ []
 
--- what a scan of a frame puts out are columns of the frame; without a number there are none
-unfoldable pub frame_checks : Option ℕ → Columns → Columns → List Check
-frame_checks df schema outs =
-    each SchemaFieldNotFound 1 (λ (c : Name × DataType). is_known schema c.0) outs
+-- what a scan of a frame puts out are columns of the frame, each once; without a number there are none
+unfoldable pub frame_checks : Option ℕ → Columns → Option Columns → List Check
+frame_checks df schema output =
+    each SchemaFieldNotFound 1 (λ (c : Name × DataType). is_known schema c.0) (columns_or output [])
     ++ (number_checks df schema
-    ++ each SchemaMismatch 1 (is_column schema) outs)
+    ++ (each SchemaMismatch 1 (is_column schema) (columns_or output [])
+    ++ differ_checks (columns_or output schema)))
 
 -- expressions have forms, read some columns and have types there, no two have one name, the stored columns are those that they make beside others, and each is named as it may be
 unfoldable pub made_checks : Columns → List Named → Columns → Columns → List Check
@@ -278,7 +285,7 @@ abbrev pub checks : Op → List Columns → List Check
 checks (slice offset len) ss = with_one ss (λ s. [])
 checks (filter predicate) ss = with_one ss (filter_checks predicate)
 checks (scan sources info predicate output kind options) ss = with_none ss (scan_checks predicate output info options)
-checks (frame_scan df schema output) ss = with_none ss (frame_checks df schema (columns_or output []))
+checks (frame_scan df schema output) ss = with_none ss (frame_checks df schema output)
 checks (simple_projection columns) ss = with_one ss (projection_checks columns)
 checks (select exprs schema options) ss = with_one ss (λ s. check InvalidOperation 0 (not (is_empty exprs)) ∷ made_checks [] exprs schema s)
 checks (hstack exprs schema options) ss = with_one ss (λ s. made_checks s exprs schema s)

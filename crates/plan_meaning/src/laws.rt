@@ -1,7 +1,7 @@
 //! Laws of what plans mean, as the contracts of functions that do nothing.
 ghost use Rattle.std.specs.Prelude.{◌≡◌, List, None, Ok};
 ghost use Rattle.plan_core.specs.declared.arena.Node.{Node};
-ghost use Rattle.plan_core.specs.Columns.{Columns};
+ghost use Rattle.plan_core.specs.Columns.{Columns, HasDistinctNames};
 ghost use Rattle.plan_expr.specs.declared.aexpr.AExpr.{AExpr};
 ghost use Rattle.plan_ir.specs.declared.ir.IR.{IR};
 ghost use Rattle.plan_ir.specs.Parts.{IsPlan};
@@ -62,4 +62,9 @@ pub fn keeps_is_reflexive()
 /// What keeps the scans of a plan that keeps those of another keeps those of the other.
 pub fn keeps_is_transitive()
     ensures { (r q p : Plan) → Keeps r q → Keeps q p → Keeps r p }
+{}
+
+/// A valid plan has no name twice among its columns.
+pub fn valid_plans_have_distinct_names()
+    ensures { (p : Plan) → IsValid p → HasDistinctNames (schema p) }
 {}

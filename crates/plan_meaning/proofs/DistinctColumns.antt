@@ -1,4 +1,4 @@
--- The columns of a valid plan have distinct names, where those that its nodes list have.
+-- The columns of a valid plan have distinct names.
 use Rattle.std.proofs.Common.{◌≡◌, Bool, true, false, not, ◌&&◌, ◌||◌, cond, List, [], ◌∷◌, ◌++◌, map, fold, refl, sym, ap, ◌∙◌, subst}
 use Rattle.std.specs.List.{AllByRecursion, IsDistinct, list_any}
 use Rattle.std.specs.Str.{bytes_eq}
@@ -25,10 +25,9 @@ use Rattle.plan_frame.proofs.ReshapedLemmas.{names-exploded}
 use Rattle.plan_meaning.specs.Checks.{Check, check, each_new}
 use Rattle.plan_meaning.specs.Functions.{become_one, first_type, function_schema, renamed, stay_apart, unpivoted_columns, unpivoted_names, value_name, value_names, variable_name}
 use Rattle.plan_meaning.specs.Steps.{IsValid}
-use Rattle.plan_meaning.specs.Typing.{first_schema, schema, schema_by, schemas, checks, function_checks, rename_checks, row_index_checks, AllHold, AllValid}
-use Rattle.plan_meaning.proofs.CheckParts.{hold_back, pass_names}
+use Rattle.plan_meaning.specs.Typing.{columns_or, file_columns, first_schema, schema, schema_by, schemas, checks, function_checks, rename_checks, row_index_checks, AllHold, AllValid}
+use Rattle.plan_meaning.proofs.CheckParts.{hold_back, pass_names, scan_good, frame_good, projection_good}
 use Rattle.plan_meaning.proofs.JoinLemmas.{differ_distinct, join_good}
-use Rattle.plan_join_narrowing.specs.Once.{AllListOnce, ListsOnce}
 use Rattle.plan_meaning.proofs.UnpivotLemmas.{unpivot_good}
 use Rattle.plan_core.specs.declared.error.PolarsError.TheVariants.{Duplicate}
 
@@ -111,30 +110,30 @@ first_distinct [] d = HasDistinctNames-none
 first_distinct (s ∷ ss) d = d.0
 
 -- per node
-once_by : (op : Op) (ss : List Columns) → ListsOnce op → AllHold (checks op ss) → AllDistinct ss → HasDistinctNames (schema_by op ss)
-once_by (slice offset len) ss own good d = first_distinct ss d
-once_by (filter predicate) ss own good d = first_distinct ss d
-once_by (scan sources info predicate output kind options) [] own good d = own
-once_by (frame_scan df schema output) [] own good d = own
-once_by (simple_projection columns) (s ∷ []) own good d = own
-once_by (select es stored options) ss own good d = HasDistinctNames-with_types [] (map (made_column (first_schema ss)) es) HasDistinctNames-none
-once_by (hstack es stored options) ss own good d = HasDistinctNames-with_types (first_schema ss) (map (made_column (first_schema ss)) es) (first_distinct ss d)
-once_by (sort keys part options) ss own good d = first_distinct ss d
-once_by (group_by keys aggs stored ordered options) ss own good d = HasDistinctNames-with_types [] (map (made_column (first_schema ss)) (group_exprs keys aggs)) HasDistinctNames-none
-once_by (join left_on right_on stored told) (s ∷ t ∷ []) own good d = differ_distinct (names_of (schema_by (join left_on right_on stored told) (s ∷ t ∷ []))) (join_good left_on right_on stored told s t good).differ
-once_by (distinct options) ss own good d = first_distinct ss d
-once_by (map_function function) (s ∷ []) own good d = function_distinct function s good d.0
-once_by (sink payload) ss own good d = first_distinct ss d
-once_by (union options) ss own good d = first_distinct ss d
-once_by (hconcat schema options) ss own good d = row_distinct [] (in_a_row ss) HasDistinctNames-none
-once_by (cache id hits) ss own good d = first_distinct ss d
-once_by op ss own good d = cc
+once_by : (op : Op) (ss : List Columns) → AllHold (checks op ss) → AllDistinct ss → HasDistinctNames (schema_by op ss)
+once_by (slice offset len) ss good d = first_distinct ss d
+once_by (filter predicate) ss good d = first_distinct ss d
+once_by (scan sources info predicate output kind options) [] good d = differ_distinct (names_of (columns_or output (file_columns info))) (scan_good predicate output info options good).differ
+once_by (frame_scan df schema output) [] good d = differ_distinct (names_of (columns_or output schema)) (frame_good df schema output good).differ
+once_by (simple_projection columns) (s ∷ []) good d = differ_distinct (names_of columns) (projection_good columns s good).differ
+once_by (select es stored options) ss good d = HasDistinctNames-with_types [] (map (made_column (first_schema ss)) es) HasDistinctNames-none
+once_by (hstack es stored options) ss good d = HasDistinctNames-with_types (first_schema ss) (map (made_column (first_schema ss)) es) (first_distinct ss d)
+once_by (sort keys part options) ss good d = first_distinct ss d
+once_by (group_by keys aggs stored ordered options) ss good d = HasDistinctNames-with_types [] (map (made_column (first_schema ss)) (group_exprs keys aggs)) HasDistinctNames-none
+once_by (join left_on right_on stored told) (s ∷ t ∷ []) good d = differ_distinct (names_of (schema_by (join left_on right_on stored told) (s ∷ t ∷ []))) (join_good left_on right_on stored told s t good).differ
+once_by (distinct options) ss good d = first_distinct ss d
+once_by (map_function function) (s ∷ []) good d = function_distinct function s good d.0
+once_by (sink payload) ss good d = first_distinct ss d
+once_by (union options) ss good d = first_distinct ss d
+once_by (hconcat schema options) ss good d = row_distinct [] (in_a_row ss) HasDistinctNames-none
+once_by (cache id hits) ss good d = first_distinct ss d
+once_by op ss good d = cc
 
 -- of valid plans
-all_once : (ts : Roses (Unit {0}) Op) → AllListOnce ts → AllValid ts → AllDistinct (schemas ts)
-all_once no_roses own v = tt
-all_once (more (rose n op ts) rest) own v = (once_by op (schemas ts) own.0 v.0 (all_once ts own.1 v.1), all_once rest own.2 v.2)
+all_once : (ts : Roses (Unit {0}) Op) → AllValid ts → AllDistinct (schemas ts)
+all_once no_roses v = tt
+all_once (more (rose n op ts) rest) v = (once_by op (schemas ts) v.0 (all_once ts v.1), all_once rest v.2)
 
 -- of a valid plan
-pub valid_once : (p : Plan) → AllListOnce (more p no_roses) → IsValid p → HasDistinctNames (schema p)
-valid_once (rose n op ts) own v = once_by op (schemas ts) own.0 v.0 (all_once ts own.1 v.1)
+pub valid_once : (p : Plan) → IsValid p → HasDistinctNames (schema p)
+valid_once (rose n op ts) v = once_by op (schemas ts) v.0 (all_once ts v.1)

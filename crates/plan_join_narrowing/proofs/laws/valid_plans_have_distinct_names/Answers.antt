@@ -1,5 +1,0 @@
-use Rattle.plan_join_narrowing.proofs.DistinctColumns.{valid_once}
-use Rattle.plan_join_narrowing.proofs.laws.valid_plans_have_distinct_names.Goals as goal
-
-pub returns : goal.returns
-returns c = valid_once
