@@ -7,16 +7,19 @@ use Rattle.plan_expr.specs.Exprs.{Named}
 use Rattle.plan_ir.specs.declared.functions.FunctionIR.{FunctionIR}
 use Rattle.plan_ir.specs.Plans.{Op, slice, filter, scan, frame_scan, simple_projection, select, hstack, sort, group_by, join, distinct, map_function, sink, union, hconcat, cache, invalid}
 use Rattle.plan_meaning.specs.Checks.{is_empty}
-use Rattle.plan_meaning.specs.Typing.{first_schema, schema_by, schemas, checks, AllHold, AllValid}
+use Rattle.plan_meaning.specs.Typing.{first_schema, rest_schemas, schema_by, schemas, checks, AllHold, AllValid}
 use Rattle.plan_frame.specs.Frames.{names_or}
 use Rattle.plan_meaning.specs.Relating.{Asked, all, names, cached}
-use Rattle.plan_meaning.specs.Asked.{set_of, with_more, asks_columns, kept_exprs, selected_exprs, needed_names, asks_selected, asks_added, asks_stacked, asks_function, asks_grouped, asks_held, grouping_names, asks_alike, asks as asks_of, IsFair}
+use Rattle.plan_meaning.specs.Asked.{set_of, with_more, asks_columns, kept_exprs, selected_exprs, needed_names, asks_selected, asks_added, asks_stacked, asks_function, asks_grouped, asks_held, grouping_names, asks_alike, asks_joined, asks as asks_of, IsFair}
 use Rattle.plan_frame.specs.ExprLists.{all_leaves}
+use Rattle.plan_join.specs.Told.{Told}
+use Rattle.plan_meaning.specs.JoinAsked.{left_names, right_names}
 use Rattle.plan_meaning.specs.Asked as asked
 use Rattle.plan_meaning.specs.Counting.{is_closed, stand_ins, first_stand_in}
 use Rattle.plan_frame.proofs.NameSets.{has_first, keeps_names}
 use Rattle.plan_meaning.proofs.StandIns.{are_stand_ins}
-use Rattle.plan_meaning.proofs.Fairness.{some_name, fair_asks, FairAll}
+use Rattle.plan_meaning.proofs.Fairness.{fair_asks, FairAll}
+use Rattle.plan_meaning.proofs.AskedSets.{some_name}
 use Rattle.plan_expr.specs.Leaves.{Name, leaves}
 use Rattle.plan_narrowing.specs.Pruned.{asked_with, kept, added_names, stacked_names, mapped_names, names_alike, held_names, asks_plans}
 use Rattle.plan_schema.specs.Stored.{stored_all}
@@ -110,6 +113,11 @@ alike_stored l ts v = alike_sets l (schemas ts) ∙ ap (λ (ss : List Columns). 
 pub stored_each : (l : List Name) (ts : Roses (Unit {0}) Op) → AllValid ts → sets_of (names_alike l (stored_all ts)) ≡ each_asked (set_of l) ts
 stored_each l ts v = sym (alike_stored l ts v) ∙ alike_each (set_of l) ts
 
+-- what a join asks of its sides
+joined_asks : (left_on right_on : List Named) (told : Told) (l : List Name) (s t : Columns) → asks_joined left_on right_on told (set_of l) s t ≡ sets_of (left_names l left_on right_on told s t ∷ right_names l left_on right_on told s t ∷ [])
+joined_asks left_on right_on told [] s t = refl
+joined_asks left_on right_on told (a ∷ l) s t = refl
+
 -- the same asked of one input
 one_asked : {a b : Asked} → a ≡ b → a ∷ [] ≡ b ∷ []
 one_asked e = ap (λ (x : Asked). x ∷ []) e
@@ -129,7 +137,9 @@ asks-each l (hstack es schema options) ts opens v =
 asks-each l (sort keys part options) ts opens v = one_asked (more-is l (all_leaves keys))
 asks-each l (group_by keys aggs schema ordered options) ts opens v =
     one_asked (grouped_asks keys aggs l (first_schema (schemas ts)) ∙ ap (λ (ss : List Columns). set_of (grouping_names keys (kept_exprs (set_of l) aggs) l (first_schema ss))) (sym (stored-schemas ts v)))
-asks-each l (join left_on right_on schema told) ts opens v = cc
+asks-each l (join left_on right_on schema told) ts opens v =
+    joined_asks left_on right_on told l (first_schema (schemas ts)) (first_schema (rest_schemas (schemas ts)))
+    ∙ ap (λ (ss : List Columns). sets_of (left_names l left_on right_on told (first_schema ss) (first_schema (rest_schemas ss)) ∷ right_names l left_on right_on told (first_schema ss) (first_schema (rest_schemas ss)) ∷ [])) (sym (stored-schemas ts v))
 asks-each l (distinct options) ts opens v =
     one_asked (more-is l (names_or options.subset (names_of (first_schema (schemas ts)))) ∙ ap (λ (ss : List Columns). set_of (asked_with l (names_or options.subset (names_of (first_schema ss))))) (sym (stored-schemas ts v)))
 asks-each l (map_function function) ts opens v =

@@ -1,4 +1,4 @@
--- Below a cache or a join everything is asked as cached: all that is there is read and made.
+-- Below a cache everything is asked as cached: all that is there is read and made.
 use Rattle.std.proofs.Common.{◌≡◌, ◌≤◌, List, [], ◌∷◌, ◌++◌, length, map, refl, sym, ap, subst, arith, append_assoc}
 use Rattle.plan_core.specs.Columns.{Columns}
 use Rattle.plan_tree.specs.Rose.{Roses, rose, no_roses, more}
@@ -6,7 +6,7 @@ use Rattle.plan_ir.specs.Plans.{Op, slice, filter, scan, frame_scan, simple_proj
 use Rattle.plan_meaning.specs.Typing.{schemas, checks, AllHold, AllValid}
 use Rattle.plan_meaning.specs.Relating.{Asked, cached}
 use Rattle.plan_meaning.specs.Scans.{own_scan, scans_in}
-use Rattle.plan_meaning.specs.Asked.{asks, asks_alike, asks_closed, asks_held, own_site, sites, Site}
+use Rattle.plan_meaning.specs.Asked.{asks, asks_alike, asks_held, own_site, sites, Site}
 use Rattle.plan_meaning.specs.Counting.{stand_ins}
 use Rattle.plan_meaning.specs.Work.{reckoned_exprs, own_made, made_in, own_kept, kept_in}
 use Rattle.plan_meaning.proofs.KeptExprs.{kept-all, selected-all}
@@ -16,11 +16,7 @@ held_cached : (ss : List Columns) → map (asks_held cached) ss ≡ asks_alike c
 held_cached [] = refl
 held_cached (s ∷ ss) = ap (λ (x : List Asked). cached ∷ x) (held_cached ss)
 
-closed_cached : (ss : List Columns) → asks_closed ss ≡ asks_alike cached ss
-closed_cached [] = refl
-closed_cached (s ∷ ss) = ap (λ (x : List Asked). cached ∷ x) (closed_cached ss)
-
--- a valid node below a cache or a join asks each of its inputs the same
+-- a valid node below a cache asks each of its inputs the same
 pub asks-cached : (op : Op) (ts : Roses (Unit {0}) Op) → AllHold (checks op (schemas ts)) → asks op cached (schemas ts) (stand_ins ts (schemas ts)) ≡ asks_alike cached (schemas ts)
 asks-cached (slice offset len) (more (rose n o us) no_roses) good = refl
 asks-cached (filter p) (more (rose n o us) no_roses) good = refl
@@ -29,7 +25,9 @@ asks-cached (select es stored options) (more (rose n o us) no_roses) good = refl
 asks-cached (hstack es stored options) (more (rose n o us) no_roses) good = refl
 asks-cached (sort keys part options) (more (rose n o us) no_roses) good = refl
 asks-cached (group_by keys aggs schema ordered options) (more (rose n o us) no_roses) good = refl
-asks-cached (join left_on right_on schema told) ts good = closed_cached (schemas ts)
+asks-cached (join left_on right_on schema told) (more (rose n o us) (more (rose m q vs) no_roses)) good = refl
+asks-cached (join left_on right_on schema told) (more (rose n o us) no_roses) good = cc
+asks-cached (join left_on right_on schema told) (more (rose n o us) (more (rose m q vs) (more (rose k r ws) rest))) good = cc
 asks-cached (distinct options) (more (rose n o us) no_roses) good = refl
 asks-cached (map_function function) (more (rose n o us) no_roses) good = refl
 asks-cached (sink payload) (more (rose n o us) no_roses) good = refl
@@ -71,7 +69,7 @@ own_reads (hconcat schema options) = tt
 own_reads (cache id hits) = tt
 own_reads invalid = tt
 
--- plans as they are read what they may below a cache or a join
+-- plans as they are read what they may below a cache
 pub cached_reads : (ts : Roses (Unit {0}) Op) → AllValid ts → ReadWithin (scans_in ts) (sites ts (asks_alike cached (schemas ts)))
 cached_reads no_roses v = tt
 cached_reads (more (rose n op us) rest) v =
@@ -102,7 +100,7 @@ own_makes (hconcat schema options) = omega arith
 own_makes (cache id hits) = omega arith
 own_makes invalid = omega arith
 
--- plans as they are make what is kept below a cache or a join
+-- plans as they are make what is kept below a cache
 pub cached_made : (ts : Roses (Unit {0}) Op) → AllValid ts → made_in ts ≤ kept_in ts (asks_alike cached (schemas ts))
 cached_made no_roses v = omega arith
 cached_made (more (rose n op us) rest) v =

@@ -3,7 +3,7 @@ use Rattle.std.proofs.Common.{◌≡◌, true, false, List, [], ◌∷◌, Optio
 use Rattle.std.specs.List.{AllByRecursion, cons_option}
 use Rattle.plan_core.specs.declared.data_type.DataType.{DataType}
 use Rattle.plan_core.specs.Columns.{Columns, names_of, type_of}
-use Rattle.plan_core.specs.Names.{has}
+use Rattle.plan_core.specs.Names.{has, AreDistinct}
 use Rattle.plan_tree.specs.Rose.{rose, no_roses, more}
 use Rattle.plan_expr.specs.Leaves.{Name}
 use Rattle.plan_ir.specs.Plans.{simple_projection, Plan}
@@ -14,7 +14,7 @@ use Rattle.plan_meaning.specs.Typing.{first_schema, schema, checks, AllHold}
 use Rattle.plan_frame.specs.Frames.{Frame, HasSchema, column_or, cut, Agree}
 use Rattle.plan_meaning.specs.Steps.{IsValid}
 use Rattle.plan_meaning.specs.Relating.{Asked, all, names, Holding, NarrowColumns, AgreeOn, Narrows, Relates}
-use Rattle.plan_meaning.specs.Asked.{set_of, Fair, IsFair}
+use Rattle.plan_meaning.specs.Asked.{Fair}
 use Rattle.plan_frame.proofs.NameSets.{has_first, has_later, some-type_of}
 use Rattle.plan_frame.proofs.FrameLemmas.{cut_same, found-table, schema_holds, some_type_is}
 use Rattle.plan_meaning.proofs.Runs.{valid_runs}
@@ -22,7 +22,8 @@ use Rattle.plan_meaning.proofs.Related.{relates_top}
 use Rattle.plan_narrowing.specs.Pruned.{covered, typed_names}
 use Rattle.plan_schema.specs.Stored.{stored_all}
 use Rattle.plan_narrowing.proofs.NarrowLemmas.{holding_same}
-use Rattle.plan_narrowing.proofs.ProjectionNarrows.{some_is, projection_good}
+use Rattle.plan_narrowing.proofs.ProjectionNarrows.{some_is}
+use Rattle.plan_meaning.proofs.AskedSets.{columns_good}
 use Rattle.plan_narrowing.proofs.ScanNarrows.{type_or, columns_at, some_or, typed-known, names-columns_at, type_of-columns_at, each_column}
 use Rattle.plan_schema.proofs.StoredLemmas.{stored-schemas}
 
@@ -94,7 +95,7 @@ module _ (wanted : List Name) (s : Columns) (fair : Fair wanted s) where
     pub typed_good : AllHold (checks (simple_projection (typed_names r wanted)) (r ∷ []))
     typed_good =
         subst (λ (cs : Columns). AllHold (checks (simple_projection cs) (r ∷ []))) (sym typed_are)
-        (projection_good r (typed_names s wanted) some_left
+        (columns_good r (typed_names s wanted) some_left (subst AreDistinct (sym names-are) fair.once)
         (subst (AllByRecursion (λ (c : Name × DataType). is_column r c ≡ true)) (sym cols-are)
         (each_column (λ (c : Name × DataType). is_column r c ≡ true) s wanted (λ a i.
         ap (λ (o : Option DataType). is_type o (type_or s a)) (holding_same wanted r s h a i ∙ some_or (type_of s a) (fair.known a i)) ∙ some_type_is (type_or s a)))))
@@ -136,14 +137,3 @@ module _ (a : Name) (l : List Name) (p : Plan) (v : IsValid p) (fair : Fair (a �
 -- a plan narrows itself where everything is asked
 pub narrows_self : (p : Plan) → IsValid p → Narrows p p all
 narrows_self p v = record { valid = v; schema = refl; fits = λ c k. k; run = λ c k. valid_runs c p v k; may = λ c f k m. (f, m, refl) }
-
--- a plan narrows itself at what can be asked of it
-pub narrows_fair : (l : List Name) (p : Plan) → IsValid p → IsFair (set_of l) (schema p) → Narrows p p (set_of l)
-narrows_fair [] p v fair = narrows_self p v
-narrows_fair (a ∷ l) p v fair = record {
-  valid = v;
-  schema = own_holds (a ∷ l) (schema p) fair;
-  fits = λ c k. k;
-  run = λ c k. valid_runs c p v k;
-  may = λ c f k m. (f, m, record { height = refl; same = λ b i. refl });
-}

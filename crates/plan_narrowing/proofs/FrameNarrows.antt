@@ -3,7 +3,7 @@ use Rattle.std.proofs.Common.{◌≡◌, ℕ, true, List, [], ◌∷◌, Option,
 use Rattle.std.specs.List.{AllByRecursion}
 use Rattle.plan_core.specs.declared.data_type.DataType.{DataType}
 use Rattle.plan_core.specs.Columns.{Columns, names_of, type_of}
-use Rattle.plan_core.specs.Names.{has}
+use Rattle.plan_core.specs.Names.{has, AreDistinct}
 use Rattle.plan_ir.specs.Plans.{frame_scan}
 use Rattle.plan_expr.specs.Leaves.{Name}
 use Rattle.plan_frame.specs.Exprs.{is_type}
@@ -17,19 +17,20 @@ use Rattle.plan_meaning.specs.Asked.{Fair}
 use Rattle.plan_frame.proofs.NameSets.{some-type_of}
 use Rattle.plan_frame.proofs.FrameLemmas.{agree_tables, some_type_is}
 use Rattle.plan_meaning.proofs.CheckParts.{FrameGood, frame_good, good_frame}
+use Rattle.plan_meaning.proofs.JoinLemmas.{distinct_differ}
 use Rattle.plan_narrowing.specs.Pruned.{typed_names}
 use Rattle.plan_narrowing.proofs.NarrowLemmas.{Local, AgreeOnAll}
 use Rattle.plan_narrowing.proofs.ProjectionNarrows.{some_is}
 use Rattle.plan_narrowing.proofs.ScanNarrows.{type_or, columns_at, some_or, typed-known, names-columns_at, type_of-columns_at, each_column, all_typed}
 
 -- what is put out has the frame's types
-out_type : (df : Option ℕ) (schema : Columns) (output : Option Columns) (a : Name) (t : DataType) → FrameGood df schema (columns_or output []) → type_of (columns_or output schema) a ≡ Some t → type_of schema a ≡ Some t
+out_type : (df : Option ℕ) (schema : Columns) (output : Option Columns) (a : Name) (t : DataType) → FrameGood df schema output → type_of (columns_or output schema) a ≡ Some t → type_of schema a ≡ Some t
 out_type df schema None a t g e = e
 out_type df schema (Some out) a t g e = all_typed schema out a t g.typed e
 
 module _ (df : Option ℕ) (schema : Columns) (output : Option Columns) (wanted : List Name) (good : AllHold (checks (frame_scan df schema output) [])) (fair : Fair wanted (columns_or output schema)) where
-  parts : FrameGood df schema (columns_or output [])
-  parts = frame_good df schema (columns_or output []) good
+  parts : FrameGood df schema output
+  parts = frame_good df schema output good
 
   -- an asked name has one type in what is put out and in the frame
   typed : (a : Name) → has wanted a ≡ true → (t : DataType) × (type_of (columns_or output schema) a ≡ Some t) × (type_of schema a ≡ Some t)
@@ -56,10 +57,11 @@ module _ (df : Option ℕ) (schema : Columns) (output : Option Columns) (wanted 
   each-col P h = subst (AllByRecursion P) (sym cols-are) (each_column P schema wanted h)
 
   left_good : AllHold (checks (frame_scan df schema (Some (typed_names schema wanted))) [])
-  left_good = good_frame df schema (typed_names schema wanted) (record {
+  left_good = good_frame df schema (Some (typed_names schema wanted)) (record {
     known = each-col (λ (c : Name × DataType). is_known schema c.0 ≡ true) known;
     number = parts.number;
     typed = each-col (λ (c : Name × DataType). is_column schema c ≡ true) frame-column;
+    differ = distinct_differ (names_of (typed_names schema wanted)) (subst AreDistinct (sym names-are) fair.once);
   })
 
   left_holds : Holding wanted (typed_names schema wanted) (columns_or output schema)

@@ -1,23 +1,25 @@
 -- A projection that keeps what is asked narrows.
-use Rattle.std.proofs.Common.{◌≡◌, Bool, true, false, cond, not, [], ◌∷◌, Option, Some, None, refl, sym, ap, ap₂, ◌∙◌, subst, is_some}
-use Rattle.std.specs.List.{AllByRecursion}
+use Rattle.std.proofs.Common.{◌≡◌, Bool, true, false, cond, not, List, [], ◌∷◌, Option, Some, None, refl, sym, ap, ap₂, ◌∙◌, subst, is_some}
+use Rattle.std.specs.List.{AllByRecursion, filter as only_where}
 use Rattle.std.specs.Str.{bytes_eq}
 use Rattle.std.proofs.lemmas.Bool.{both_ways}
 use Rattle.plan_core.specs.declared.data_type.DataType.{DataType}
-use Rattle.plan_core.specs.declared.error.PolarsError.TheVariants.{SchemaFieldNotFound, SchemaMismatch}
 use Rattle.plan_core.specs.Columns.{Columns, names_of, type_of}
-use Rattle.plan_core.specs.Names.{has, with_names}
+use Rattle.plan_core.specs.Names.{has, with_names, AreDistinct}
 use Rattle.plan_ir.specs.Plans.{simple_projection}
 use Rattle.plan_frame.specs.Exprs.{is_type}
-use Rattle.plan_meaning.specs.Checks.{is_empty, is_known, is_column, each}
+use Rattle.plan_meaning.specs.Checks.{is_empty, is_column}
 use Rattle.plan_meaning.specs.Typing.{checks, AllHold}
 use Rattle.plan_frame.specs.Frames.{Frame, cut, column_or, Agree}
 use Rattle.plan_meaning.specs.Relating.{Asked, all, names, cached, Holding, NarrowColumns, AgreeOn}
 use Rattle.plan_meaning.specs.Asked.{is_asked, kept, IsFair}
 use Rattle.plan_frame.proofs.NameSets.{named, has_first, has_later, some-type_of, adds_names}
 use Rattle.plan_frame.proofs.FrameLemmas.{agree_tables, agree_fewer, or_same, cut_same}
-use Rattle.plan_meaning.proofs.CheckParts.{hold_back, hold_join, each_pass, pass_each}
-use Rattle.plan_meaning.proofs.Fairness.{has_some, some_name, kept_asked, known_some}
+use Rattle.plan_meaning.proofs.AskedSets.{columns_good, has_some, some_name}
+use Rattle.plan_meaning.proofs.CheckParts.{projection_good}
+use Rattle.plan_meaning.proofs.Fairness.{kept_asked}
+use Rattle.plan_meaning.proofs.JoinLemmas.{differ_distinct}
+use Rattle.plan_meaning.proofs.KeptExprs.{distinct_where}
 use Rattle.plan_expr.specs.Leaves.{Name}
 use Rattle.plan_narrowing.proofs.AskedNames.{kept_all, kept_cached}
 use Rattle.plan_narrowing.proofs.NarrowLemmas.{Local, holding_same, one_step}
@@ -49,20 +51,14 @@ columns_same r s (c ∷ ks) same h = (
   columns_same r s ks (λ b i. same b (has_later c.0 (names_of ks) b i)) h.1,
 )
 
-known_all : (s ks : Columns) → AllByRecursion (λ (c : Name × DataType). is_column s c ≡ true) ks → AllByRecursion (λ (c : Name × DataType). is_known s c.0 ≡ true) ks
-known_all s [] h = tt
-known_all s (c ∷ ks) h = (known_some s c h.0, known_all s ks h.1)
-
--- a projection to columns of the input is valid
-pub projection_good : (s ks : Columns) → is_empty ks ≡ false → AllByRecursion (λ (c : Name × DataType). is_column s c ≡ true) ks → AllHold (checks (simple_projection ks) (s ∷ []))
-projection_good s ks some h = (
-  ap not some,
-  hold_join (each SchemaFieldNotFound 1 (λ (c : Name × DataType). is_known s c.0) ks) (each SchemaMismatch 1 (is_column s) ks)
-      (pass_each SchemaFieldNotFound 1 (λ (c : Name × DataType). is_known s c.0) ks (known_all s ks h)) (pass_each SchemaMismatch 1 (is_column s) ks h),
-)
-
-pub good_projection : (s cs : Columns) → AllHold (checks (simple_projection cs) (s ∷ [])) → AllByRecursion (λ (c : Name × DataType). is_column s c ≡ true) cs
-good_projection s cs good = each_pass SchemaMismatch 1 (is_column s) cs (hold_back (each SchemaFieldNotFound 1 (λ (c : Name × DataType). is_known s c.0) cs) (each SchemaMismatch 1 (is_column s) cs) good.1)
+-- the names that are kept of columns
+names-kept : (a : Asked) (cs : Columns) → names_of (kept a cs) ≡ only_where (is_asked a) (names_of cs)
+names-kept a [] = refl
+names-kept a (c ∷ cs) = at (is_asked a c.0) (names-kept a cs)
+  where
+    at : (t : Bool) → names_of (kept a cs) ≡ only_where (is_asked a) (names_of cs) → names_of (cond t (c ∷ kept a cs) (kept a cs)) ≡ cond t (c.0 ∷ only_where (is_asked a) (names_of cs)) (only_where (is_asked a) (names_of cs))
+    at true r = ap (λ (l : List Name). c.0 ∷ l) r
+    at false r = r
 
 not_false : (b : Bool) → not b ≡ true → b ≡ false
 not_false true e = cc
@@ -111,7 +107,9 @@ local_columns cs a r s good fair h =
     let wanted = with_names [] (names_of ks) in
     let same : (b : Name) → has (names_of ks) b ≡ true → type_of r b ≡ type_of s b = λ b i. holding_same wanted r s h b (adds_names [] (names_of ks) b i) in
     record {
-      good = projection_good r ks (kept_some a cs (not_false (is_empty cs) good.0) fair) (columns_same r s ks same (all_kept a (λ (c : Name × DataType). is_column s c ≡ true) cs (good_projection s cs good)));
+      good = columns_good r ks (kept_some a cs (not_false (is_empty cs) good.0) fair)
+          (subst AreDistinct (sym (names-kept a cs)) (distinct_where (is_asked a) (names_of cs) (differ_distinct (names_of cs) (projection_good cs s good).differ)))
+          (columns_same r s ks same (all_kept a (λ (c : Name × DataType). is_column s c ≡ true) cs (projection_good cs s good).typed));
       schema = kept_narrows a cs fair;
       fits = λ c k. k;
       step = λ c fs gs f k hr has ag st. one_step c (simple_projection ks) (simple_projection cs) (names wanted) a r s

@@ -15,7 +15,7 @@ use Rattle.plan_ir.specs.declared.scan.ScanSources.{ScanSources}
 use Rattle.plan_expr.specs.Exprs.{Named}
 use Rattle.plan_ir.specs.declared.functions.FunctionIR.{FunctionIR}
 use Rattle.plan_ir.specs.Plans.{Op, slice, filter, scan, frame_scan, simple_projection, select, hstack, sort, group_by, join, distinct, map_function, sink, union, hconcat, cache, invalid, Plan}
-use Rattle.plan_meaning.specs.Typing.{columns_or, file_columns, first_schema, schema_by, schema, schemas, checks, AllHold, AllValid}
+use Rattle.plan_meaning.specs.Typing.{columns_or, file_columns, first_schema, rest_schemas, schema_by, schema, schemas, checks, AllHold, AllValid}
 use Rattle.plan_frame.specs.Frames.{names_or, Agree}
 use Rattle.plan_frame.specs.ExprLists.{out_names, all_leaves}
 use Rattle.plan_frame.specs.Made.{made_schema, made}
@@ -31,12 +31,16 @@ use Rattle.plan_meaning.proofs.Related.{SchemasRelated, AllRelate, relates_node,
 use Rattle.plan_meaning.proofs.Fairness.{FairAll}
 use Rattle.plan_meaning.proofs.KeptExprs.{selected-all}
 use Rattle.plan_expr.specs.Leaves.{Name, leaves}
+use Rattle.plan_join.specs.Told.{Told}
+use Rattle.plan_meaning.specs.JoinAsked.{left_names, right_names}
+use Rattle.plan_join_narrowing.specs.JoinPruned.{pruned_join}
+use Rattle.plan_join_narrowing.proofs.JoinNarrows.{join_narrows}
 use Rattle.plan_narrowing.specs.Pruned.{asked_with, kept, pruned_output, typed_names, reading, projected, stacked_names, mapped_names, held_names, pruned_select, pruned_group_by, stacked, pruned_hstack, asks_plans, left_below, rebuilt, top_below, top_after, pruned, pruned_all}
 use Rattle.plan_schema.specs.Stored.{stored_all}
 use Rattle.plan_narrowing.proofs.AskedNames.{set_some, kept-is, more-is, stacked_asks, function_asks, sets_of, stored_each, fair_each}
 use Rattle.plan_narrowing.proofs.NarrowLemmas.{Local, same_one, same_none, local_filter, local_slice}
 use Rattle.plan_narrowing.proofs.MadeNarrows.{SameLeaves, none_selected, needed_types, needed_frames}
-use Rattle.plan_narrowing.proofs.CoverNarrows.{narrows_self, narrows_fair, covered_narrows}
+use Rattle.plan_narrowing.proofs.CoverNarrows.{narrows_self, covered_narrows}
 use Rattle.plan_narrowing.proofs.UnionNarrows.{union_narrows}
 use Rattle.plan_narrowing.proofs.GroupNarrows.{local_grouped, whole_grouped}
 use Rattle.plan_narrowing.proofs.BesideNarrows.{hconcat_narrows}
@@ -124,7 +128,7 @@ module _ (sources : ScanSources) (info : FileInfo) (predicate : Option Named) (o
         (top_good sources info predicate output kind options wanted v.0 fair) (left_holds sources info predicate output kind options wanted v.0 fair) (λ c. tt)
         (λ c f g x has ag st. top_agrees sources info predicate output kind options wanted v.0 fair f g x has.0 ag st) v bare_scan
 
-scan_narrows : (top : Bool) (l : List Name) (sources : ScanSources) (info : FileInfo) (predicate : Option Named) (output : Option Columns) (kind : FileScan) (options : FileScanOptions) (rs : Roses (Unit {0}) Op) → IsValid (rose tt (scan sources info predicate output kind options) no_roses) → IsFair (set_of l) (columns_or output (file_columns info)) → AllNarrow [] rs no_roses → Narrows (rebuilt top l (scan sources info predicate output kind options) rs) (rose tt (scan sources info predicate output kind options) no_roses) (set_of l)
+scan_narrows : (top : Bool) (l : List Name) (sources : ScanSources) (info : FileInfo) (predicate : Option Named) (output : Option Columns) (kind : FileScan) (options : FileScanOptions) (rs : Roses (Unit {0}) Op) → IsValid (rose tt (scan sources info predicate output kind options) no_roses) → IsFair (set_of l) (columns_or output (file_columns info)) → AllNarrow [] rs no_roses → Narrows (rebuilt top l (scan sources info predicate output kind options) [] rs) (rose tt (scan sources info predicate output kind options) no_roses) (set_of l)
 scan_narrows top [] sources info predicate output kind options rs v fair h = whole_scan sources info predicate output kind options rs v h
 scan_narrows top (a ∷ l) sources info predicate output kind options rs v fair h = top_scan sources info predicate output kind options rs v h (a ∷ l) fair top
 
@@ -251,8 +255,29 @@ frame_narrows (a ∷ l) df columns output rs v fair h =
     let left = frame_scan df columns (Some (typed_names columns (a ∷ l))) in
     relates_node Asked NarrowColumns AgreeOn left given [] (names (a ∷ l)) rs no_roses v h (λ k. none_here left given (names (a ∷ l)) (schemas rs) k (local_frame df columns output (a ∷ l) v.0 fair))
 
+-- joins
+
+sides_narrow : (l : List Name) (left_on right_on : List Named) (stored : Columns) (told : Told) (rs : Roses (Unit {0}) Op) (q1 q2 : Plan) → IsValid (rose tt (join left_on right_on stored told) (more q1 (more q2 no_roses))) → IsFair (set_of l) (schema (rose tt (join left_on right_on stored told) (more q1 (more q2 no_roses)))) → AllNarrow (set_of (left_names l left_on right_on told (schema q1) (schema q2)) ∷ set_of (right_names l left_on right_on told (schema q1) (schema q2)) ∷ []) rs (more q1 (more q2 no_roses)) → Narrows (pruned_join l left_on right_on stored told (schema q1) (schema q2) rs) (rose tt (join left_on right_on stored told) (more q1 (more q2 no_roses))) (set_of l)
+sides_narrow l left_on right_on stored told (more r1 (more r2 no_roses)) q1 q2 v fair h = join_narrows l left_on right_on stored told r1 r2 q1 q2 v fair h.0 h.1.0
+sides_narrow l left_on right_on stored told (more r1 (more r2 (more r3 rs))) q1 q2 v fair h = absurd h.1.1
+sides_narrow l left_on right_on stored told (more r1 no_roses) q1 q2 v fair h = absurd h.1
+sides_narrow l left_on right_on stored told no_roses q1 q2 v fair h = absurd h
+
+module _ (l : List Name) (left_on right_on : List Named) (stored : Columns) (told : Told) (rs : Roses (Unit {0}) Op) (n m : Unit {0}) (o o' : Op) (us us' : Roses (Unit {0}) Op) where
+  abbrev sides : Roses (Unit {0}) Op
+  sides = more (rose n o us) (more (rose m o' us') no_roses)
+
+  abbrev joined : Plan
+  joined = rose tt (join left_on right_on stored told) sides
+
+  joined_narrows : IsValid joined → IsFair (set_of l) (schema joined) → AllNarrow (sets_of (asks_plans l (join left_on right_on stored told) sides)) rs sides → Narrows (pruned_join l left_on right_on stored told (first_schema (stored_all sides)) (first_schema (rest_schemas (stored_all sides))) rs) joined (set_of l)
+  joined_narrows v fair h =
+      subst (λ (ss : List Columns). Narrows (pruned_join l left_on right_on stored told (first_schema ss) (first_schema (rest_schemas ss)) rs) joined (set_of l)) (sym (stored-schemas sides v.1))
+      (sides_narrow l left_on right_on stored told rs (rose n o us) (rose m o' us') v fair
+      (subst (λ (ss : List Columns). AllNarrow (set_of (left_names l left_on right_on told (first_schema ss) (first_schema (rest_schemas ss))) ∷ set_of (right_names l left_on right_on told (first_schema ss) (first_schema (rest_schemas ss))) ∷ []) rs sides) (stored-schemas sides v.1) h))
+
 -- a node that is rebuilt over inputs that narrow at what it asks narrows at what it is asked
-rebuilt_narrows : (top : Bool) (l : List Name) (op : Op) (rs ts : Roses (Unit {0}) Op) → is_closed op ≡ false → IsValid (rose tt op ts) → IsFair (set_of l) (schema_by op (schemas ts)) → AllNarrow (sets_of (asks_plans l op ts)) rs ts → Narrows (rebuilt top l op rs) (rose tt op ts) (set_of l)
+rebuilt_narrows : (top : Bool) (l : List Name) (op : Op) (rs ts : Roses (Unit {0}) Op) → is_closed op ≡ false → IsValid (rose tt op ts) → IsFair (set_of l) (schema_by op (schemas ts)) → AllNarrow (sets_of (asks_plans l op ts)) rs ts → Narrows (rebuilt top l op (stored_all ts) rs) (rose tt op ts) (set_of l)
 rebuilt_narrows top l (filter p) rs (more (rose n o us) no_roses) opens v fair h = filter_narrows p l rs (rose n o us) (schema_by o (schemas us)) refl v h
 rebuilt_narrows top l (filter p) rs (more (rose n o us) (more (rose m o' us') rest)) opens v fair h = cc
 rebuilt_narrows top l (filter p) rs no_roses opens v fair h = cc
@@ -275,7 +300,10 @@ rebuilt_narrows top l (hstack es stored options) rs no_roses opens v fair h = cc
 rebuilt_narrows top l (sort keys part options) rs (more (rose n o us) no_roses) opens v fair h = sort_narrows keys part options l rs (rose n o us) (schema_by o (schemas us)) refl v h
 rebuilt_narrows top l (sort keys part options) rs (more (rose n o us) (more (rose m o' us') rest)) opens v fair h = cc
 rebuilt_narrows top l (sort keys part options) rs no_roses opens v fair h = cc
-rebuilt_narrows top l (join left_on right_on schema told) rs ts opens v fair h = cc
+rebuilt_narrows top l (join left_on right_on stored told) rs (more (rose n o us) (more (rose m o' us') no_roses)) opens v fair h = joined_narrows l left_on right_on stored told rs n m o o' us us' v fair h
+rebuilt_narrows top l (join left_on right_on stored told) rs no_roses opens v fair h = cc
+rebuilt_narrows top l (join left_on right_on stored told) rs (more (rose n o us) no_roses) opens v fair h = cc
+rebuilt_narrows top l (join left_on right_on stored told) rs (more (rose n o us) (more (rose m o' us') (more (rose k q ws) rest))) opens v fair h = cc
 rebuilt_narrows top l (distinct options) rs (more (rose n o us) no_roses) opens v fair h =
     distinct_narrows options l rs (rose n o us) (schema_by o (schemas us)) refl v
     (subst (λ (ss : List Columns). AllNarrow (set_of (asked_with l (names_or options.subset (names_of (first_schema ss)))) ∷ []) rs (more (rose n o us) no_roses)) (stored-schemas (more (rose n o us) no_roses) v.1) h)
@@ -301,17 +329,16 @@ rebuilt_narrows top l (cache id hits) rs ts opens v fair h = cc
 rebuilt_narrows top l invalid rs ts opens v fair h = cc
 
 -- a closed node over inputs as they are narrows at what it is asked
-closed_narrows : (top : Bool) (l : List Name) (op : Op) (ts : Roses (Unit {0}) Op) → is_closed op ≡ true → IsValid (rose tt op ts) → IsFair (set_of l) (schema_by op (schemas ts)) → Narrows (rebuilt top l op ts) (rose tt op ts) (set_of l)
+closed_narrows : (top : Bool) (l : List Name) (op : Op) (ts : Roses (Unit {0}) Op) → is_closed op ≡ true → IsValid (rose tt op ts) → IsFair (set_of l) (schema_by op (schemas ts)) → Narrows (rebuilt top l op (stored_all ts) ts) (rose tt op ts) (set_of l)
 closed_narrows top [] (cache id hits) ts closed v fair = narrows_self (rose tt (cache id hits) ts) v
 closed_narrows top (a ∷ l) (cache id hits) ts closed v fair = covered_narrows a l (rose tt (cache id hits) ts) v fair
-closed_narrows top l (join left_on right_on schema told) ts closed v fair = narrows_fair l (rose tt (join left_on right_on schema told) ts) v fair
 closed_narrows top l op ts closed v fair = absurd (cc)
 
 -- a node over inputs that are left as they are below it
-left_narrows : (top : Bool) (l : List Name) (op : Op) (rs ts : Roses (Unit {0}) Op) → IsValid (rose tt op ts) → IsFair (set_of l) (schema_by op (schemas ts)) → (is_closed op ≡ false → AllNarrow (sets_of (asks_plans l op ts)) rs ts) → Narrows (rebuilt top l op (left_below (is_closed op) ts rs)) (rose tt op ts) (set_of l)
+left_narrows : (top : Bool) (l : List Name) (op : Op) (rs ts : Roses (Unit {0}) Op) → IsValid (rose tt op ts) → IsFair (set_of l) (schema_by op (schemas ts)) → (is_closed op ≡ false → AllNarrow (sets_of (asks_plans l op ts)) rs ts) → Narrows (rebuilt top l op (stored_all ts) (left_below (is_closed op) ts rs)) (rose tt op ts) (set_of l)
 left_narrows top l op rs ts v fair h = at (is_closed op) refl
   where
-    at : (b : Bool) → is_closed op ≡ b → Narrows (rebuilt top l op (left_below b ts rs)) (rose tt op ts) (set_of l)
+    at : (b : Bool) → is_closed op ≡ b → Narrows (rebuilt top l op (stored_all ts) (left_below b ts rs)) (rose tt op ts) (set_of l)
     at true e = closed_narrows top l op ts e v fair
     at false e = rebuilt_narrows top l op rs ts e v fair (h e)
 

@@ -9,16 +9,18 @@ use Rattle.plan_frame.proofs.NameSets.{has_cons, has_first, has_later}
 use Rattle.plan_tree.specs.Rose.{Roses, rose, no_roses, more, size}
 use Rattle.plan_expr.specs.Exprs.{Named}
 use Rattle.plan_ir.specs.Plans.{Op, slice, filter, scan, frame_scan, simple_projection, select, hstack, sort, group_by, join, distinct, map_function, sink, union, hconcat, cache, invalid, Plan}
-use Rattle.plan_meaning.specs.Typing.{schemas, checks, AllHold, AllValid}
+use Rattle.plan_meaning.specs.Typing.{first_schema, rest_schemas, schemas, checks, AllHold, AllValid}
 use Rattle.plan_meaning.specs.PlanAt.{one_plan}
 use Rattle.plan_meaning.specs.Steps.{IsValid}
 use Rattle.plan_meaning.specs.Relating.{Asked, all, names, cached}
-use Rattle.plan_meaning.specs.Asked.{set_of, kept_exprs, asks_closed, asks as asks_of, Site, SiteFair, own_site, sites, sites_of}
+use Rattle.plan_meaning.specs.Asked.{set_of, kept_exprs, asks as asks_of, Site, SiteFair, own_site, sites, sites_of}
 use Rattle.plan_meaning.specs.Counting.{is_closed, stand_ins}
 use Rattle.plan_meaning.specs.Scans.{scans, scans_in, KeepScans, Keeps, nodes}
 use Rattle.plan_meaning.proofs.Fairness.{plan_sites_fair}
 use Rattle.plan_meaning.proofs.Keeping.{sites-scans}
 use Rattle.plan_expr.specs.Leaves.{Name}
+use Rattle.plan_schema.specs.Stored.{stored_all}
+use Rattle.plan_join_narrowing.proofs.JoinWork.{join_scans, join_nodes}
 use Rattle.plan_narrowing.specs.Pruned.{are_several, covered, covered_each, covered_if, left_below, typed_names, stacked, asks_plans, rebuilt, top_below, top_after, first_names, rest_names, pruned, pruned_all}
 use Rattle.plan_narrowing.specs.Reads.{ReadWithin, tops_each, own_tops, tops_in, tops}
 use Rattle.plan_narrowing.proofs.AskedNames.{sets_of, asks-each}
@@ -89,48 +91,47 @@ if_scans true l rs = each_scans l rs
 if_scans false l rs = refl
 
 -- per node that isn't closed: what it scans
-rebuilt_reads : (top : Bool) (l : List Name) (op : Op) (rs : Roses (Unit {0}) Op) (zs : List Site) → FewFor op rs → ReadWithin (scans_in rs) zs → ReadWithin (scans (rebuilt top l op rs)) (own_site op (set_of l) ++ zs)
-rebuilt_reads top l (slice o n) rs zs few h = h
-rebuilt_reads top [] (select es schema options) rs zs few h = h
-rebuilt_reads top (b ∷ l) (select es schema options) rs zs few h = h
-rebuilt_reads top [] (hstack es schema options) rs zs few h = h
-rebuilt_reads top (b ∷ l) (hstack es schema options) rs zs few h = stacked_reads (kept_exprs (names (b ∷ l)) es) schema options rs zs few h
-rebuilt_reads top [] (frame_scan df schema output) rs zs few h = (refl, (λ a i. i), h)
-rebuilt_reads top (b ∷ l) (frame_scan df schema output) rs zs few h = (refl, (λ a i. typed_asked schema (b ∷ l) a i), h)
-rebuilt_reads top l (filter p) rs zs few h = h
-rebuilt_reads top l (simple_projection cs) rs zs few h = h
-rebuilt_reads top l (sort keys part options) rs zs few h = h
-rebuilt_reads top [] (group_by keys aggs schema ordered options) rs zs few h = h
-rebuilt_reads top (b ∷ l) (group_by keys aggs schema ordered options) rs zs few h = h
-rebuilt_reads top l (join left_on right_on schema told) rs zs few h = h
-rebuilt_reads top l (distinct options) rs zs few h = h
-rebuilt_reads top l (map_function function) rs zs few h = h
-rebuilt_reads top l (sink payload) rs zs few h = h
-rebuilt_reads top l (union options) rs zs few h = subst (λ (os : List Op). ReadWithin os zs) (sym (if_scans (are_several rs) l rs)) h
-rebuilt_reads top [] (hconcat schema options) rs zs few h = h
-rebuilt_reads top (b ∷ l) (hconcat schema options) rs zs few h = h
-rebuilt_reads top l (cache id hits) rs zs few h = subst (λ (os : List Op). ReadWithin os zs) (sym (covered_scans l (rose tt (cache id hits) rs))) h
-rebuilt_reads top l invalid rs zs few h = h
-rebuilt_reads top [] (scan sources info predicate output kind options) rs zs few h = ((refl, refl), (λ a i. i), h)
-rebuilt_reads false (b ∷ l) (scan sources info predicate output kind options) rs zs few h = ((refl, refl), (λ a i. i), h)
-rebuilt_reads true (b ∷ l) (scan sources info predicate output kind options) rs zs few h =
+rebuilt_reads : (top : Bool) (l : List Name) (op : Op) (ss : List Columns) (rs : Roses (Unit {0}) Op) (zs : List Site) → FewFor op rs → ReadWithin (scans_in rs) zs → ReadWithin (scans (rebuilt top l op ss rs)) (own_site op (set_of l) ++ zs)
+rebuilt_reads top l (slice o n) ss rs zs few h = h
+rebuilt_reads top [] (select es schema options) ss rs zs few h = h
+rebuilt_reads top (b ∷ l) (select es schema options) ss rs zs few h = h
+rebuilt_reads top [] (hstack es schema options) ss rs zs few h = h
+rebuilt_reads top (b ∷ l) (hstack es schema options) ss rs zs few h = stacked_reads (kept_exprs (names (b ∷ l)) es) schema options rs zs few h
+rebuilt_reads top [] (frame_scan df schema output) ss rs zs few h = (refl, (λ a i. i), h)
+rebuilt_reads top (b ∷ l) (frame_scan df schema output) ss rs zs few h = (refl, (λ a i. typed_asked schema (b ∷ l) a i), h)
+rebuilt_reads top l (filter p) ss rs zs few h = h
+rebuilt_reads top l (simple_projection cs) ss rs zs few h = h
+rebuilt_reads top l (sort keys part options) ss rs zs few h = h
+rebuilt_reads top [] (group_by keys aggs schema ordered options) ss rs zs few h = h
+rebuilt_reads top (b ∷ l) (group_by keys aggs schema ordered options) ss rs zs few h = h
+rebuilt_reads top l (join left_on right_on schema told) ss rs zs few h = subst (λ (os : List Op). ReadWithin os zs) (sym (join_scans left_on right_on schema told (first_schema ss) (first_schema (rest_schemas ss)) rs l)) h
+rebuilt_reads top l (distinct options) ss rs zs few h = h
+rebuilt_reads top l (map_function function) ss rs zs few h = h
+rebuilt_reads top l (sink payload) ss rs zs few h = h
+rebuilt_reads top l (union options) ss rs zs few h = subst (λ (os : List Op). ReadWithin os zs) (sym (if_scans (are_several rs) l rs)) h
+rebuilt_reads top [] (hconcat schema options) ss rs zs few h = h
+rebuilt_reads top (b ∷ l) (hconcat schema options) ss rs zs few h = h
+rebuilt_reads top l (cache id hits) ss rs zs few h = subst (λ (os : List Op). ReadWithin os zs) (sym (covered_scans l (rose tt (cache id hits) rs))) h
+rebuilt_reads top l invalid ss rs zs few h = h
+rebuilt_reads top [] (scan sources info predicate output kind options) ss rs zs few h = ((refl, refl), (λ a i. i), h)
+rebuilt_reads false (b ∷ l) (scan sources info predicate output kind options) ss rs zs few h = ((refl, refl), (λ a i. i), h)
+rebuilt_reads true (b ∷ l) (scan sources info predicate output kind options) ss rs zs few h =
     ((refl, refl), (λ a i. i), subst (λ (os : List Op). ReadWithin os zs) (sym (append-nil (scans_in rs))) h)
 
 -- a node over inputs that are left as they are below it
-left_reads : (top : Bool) (l : List Name) (op : Op) (rs ts : Roses (Unit {0}) Op) → AllHold (checks op (schemas ts)) → AllValid ts → FewFor op rs → (is_closed op ≡ false → ReadWithin (scans_in rs) (sites ts (sets_of (asks_plans l op ts)))) → ReadWithin (scans (rebuilt top l op (left_below (is_closed op) ts rs))) (own_site op (set_of l) ++ sites ts (asks_of op (set_of l) (schemas ts) (stand_ins ts (schemas ts))))
+left_reads : (top : Bool) (l : List Name) (op : Op) (rs ts : Roses (Unit {0}) Op) → AllHold (checks op (schemas ts)) → AllValid ts → FewFor op rs → (is_closed op ≡ false → ReadWithin (scans_in rs) (sites ts (sets_of (asks_plans l op ts)))) → ReadWithin (scans (rebuilt top l op (stored_all ts) (left_below (is_closed op) ts rs))) (own_site op (set_of l) ++ sites ts (asks_of op (set_of l) (schemas ts) (stand_ins ts (schemas ts))))
 left_reads top l op rs ts good v few h = at (is_closed op) refl
   where
     below : List Site
     below = sites ts (asks_of op (set_of l) (schemas ts) (stand_ins ts (schemas ts)))
 
-    closed : (o : Op) → is_closed o ≡ true → AllHold (checks o (schemas ts)) → ReadWithin (scans (rebuilt top l o ts)) (own_site o (set_of l) ++ sites ts (asks_of o (set_of l) (schemas ts) (stand_ins ts (schemas ts))))
-    closed (cache id hits) e g = rebuilt_reads top l (cache id hits) ts (sites ts (cached ∷ [])) tt (subst (λ (x : List Asked). ReadWithin (scans_in ts) (sites ts x)) (sym (asks-cached (cache id hits) ts g)) (cached_reads ts v))
-    closed (join left_on right_on schema told) e g = rebuilt_reads top l (join left_on right_on schema told) ts (sites ts (asks_closed (schemas ts))) tt (subst (λ (x : List Asked). ReadWithin (scans_in ts) (sites ts x)) (sym (asks-cached (join left_on right_on schema told) ts g)) (cached_reads ts v))
+    closed : (o : Op) → is_closed o ≡ true → AllHold (checks o (schemas ts)) → ReadWithin (scans (rebuilt top l o (stored_all ts) ts)) (own_site o (set_of l) ++ sites ts (asks_of o (set_of l) (schemas ts) (stand_ins ts (schemas ts))))
+    closed (cache id hits) e g = rebuilt_reads top l (cache id hits) (stored_all ts) ts (sites ts (cached ∷ [])) tt (subst (λ (x : List Asked). ReadWithin (scans_in ts) (sites ts x)) (sym (asks-cached (cache id hits) ts g)) (cached_reads ts v))
     closed o e g = absurd (cc)
 
-    at : (b : Bool) → is_closed op ≡ b → ReadWithin (scans (rebuilt top l op (left_below b ts rs))) (own_site op (set_of l) ++ below)
+    at : (b : Bool) → is_closed op ≡ b → ReadWithin (scans (rebuilt top l op (stored_all ts) (left_below b ts rs))) (own_site op (set_of l) ++ below)
     at true e = closed op e good
-    at false e = rebuilt_reads top l op rs below few (subst (λ (x : List Asked). ReadWithin (scans_in rs) (sites ts x)) (sym (asks-each l op ts e v)) (h e))
+    at false e = rebuilt_reads top l op (stored_all ts) rs below few (subst (λ (x : List Asked). ReadWithin (scans_in rs) (sites ts x)) (sym (asks-each l op ts e v)) (h e))
 
 -- the scans of pruned plans stand one for one for those of the plans, and read what is asked of them
 all_read : (top : Bool) (lists : List (List Name)) (ts : Roses (Unit {0}) Op) → AllValid ts → ReadWithin (scans_in (pruned_all top lists ts)) (sites ts (sets_of lists))
@@ -215,41 +216,42 @@ union_nodes l (s ∷ ss) no_roses w = absurd (omega (arith, w))
 union_nodes l (s ∷ []) (more r (more q rs)) w = absurd (omega (arith, w))
 union_nodes l (s ∷ t ∷ ss) (more r no_roses) w = absurd (omega (arith, w))
 
--- per node: a projection more on a scan or a cache that is asked names, and on each of several inputs of a union
-rebuilt_nodes : (top : Bool) (l : List Name) (op : Op) (ss : List Columns) (rs : Roses (Unit {0}) Op) → (is_closed op ≡ false → width rs ≡ length ss) → nodes (rebuilt top l op rs) ≤ 1 + own_tops op (set_of l) ss + size rs
-rebuilt_nodes top l (slice o n) ss rs w = omega arith
-rebuilt_nodes top l (frame_scan df schema output) ss rs w = omega arith
-rebuilt_nodes top [] (select es schema options) ss rs w = omega arith
-rebuilt_nodes top (b ∷ l) (select es schema options) ss rs w = omega arith
-rebuilt_nodes top [] (hstack es schema options) ss rs w = omega arith
-rebuilt_nodes top (b ∷ l) (hstack es schema options) ss rs w = let h = stacked_nodes (kept_exprs (names (b ∷ l)) es) schema options rs in omega arith
-rebuilt_nodes top l (filter p) ss rs w = omega arith
-rebuilt_nodes top l (simple_projection cs) ss rs w = omega arith
-rebuilt_nodes top l (sort keys part options) ss rs w = omega arith
-rebuilt_nodes top [] (group_by keys aggs schema ordered options) ss rs w = omega arith
-rebuilt_nodes top (b ∷ l) (group_by keys aggs schema ordered options) ss rs w = omega arith
-rebuilt_nodes top l (join left_on right_on schema told) ss rs w = omega arith
-rebuilt_nodes top l (distinct options) ss rs w = omega arith
-rebuilt_nodes top l (map_function function) ss rs w = omega arith
-rebuilt_nodes top l (sink payload) ss rs w = omega arith
-rebuilt_nodes top l invalid ss rs w = omega arith
-rebuilt_nodes top l (union options) ss rs w = let e = union_nodes l ss rs (w refl) in omega (arith, e)
-rebuilt_nodes top [] (hconcat schema options) ss rs w = omega arith
-rebuilt_nodes top (b ∷ l) (hconcat schema options) ss rs w = omega arith
-rebuilt_nodes top [] (cache id hits) ss rs w = omega arith
-rebuilt_nodes top (b ∷ l) (cache id hits) ss rs w = omega arith
-rebuilt_nodes top [] (scan sources info predicate output kind options) ss rs w = omega arith
-rebuilt_nodes false (b ∷ l) (scan sources info predicate output kind options) ss rs w = omega arith
-rebuilt_nodes true (b ∷ l) (scan sources info predicate output kind options) ss rs w = omega arith
+-- per node: a projection more on a scan or a cache that is asked names, and on each of several inputs of a union; and a projection or a selection more on a join
+rebuilt_nodes : (top : Bool) (l : List Name) (op : Op) (us ss : List Columns) (rs : Roses (Unit {0}) Op) → (is_closed op ≡ false → width rs ≡ length ss) → nodes (rebuilt top l op us rs) ≤ 1 + own_tops op (set_of l) ss + size rs
+rebuilt_nodes top l (slice o n) us ss rs w = omega arith
+rebuilt_nodes top l (frame_scan df schema output) us ss rs w = omega arith
+rebuilt_nodes top [] (select es schema options) us ss rs w = omega arith
+rebuilt_nodes top (b ∷ l) (select es schema options) us ss rs w = omega arith
+rebuilt_nodes top [] (hstack es schema options) us ss rs w = omega arith
+rebuilt_nodes top (b ∷ l) (hstack es schema options) us ss rs w = let h = stacked_nodes (kept_exprs (names (b ∷ l)) es) schema options rs in omega arith
+rebuilt_nodes top l (filter p) us ss rs w = omega arith
+rebuilt_nodes top l (simple_projection cs) us ss rs w = omega arith
+rebuilt_nodes top l (sort keys part options) us ss rs w = omega arith
+rebuilt_nodes top [] (group_by keys aggs schema ordered options) us ss rs w = omega arith
+rebuilt_nodes top (b ∷ l) (group_by keys aggs schema ordered options) us ss rs w = omega arith
+rebuilt_nodes top [] (join left_on right_on schema told) us ss rs w = omega arith
+rebuilt_nodes top (b ∷ l) (join left_on right_on schema told) us ss rs w = let e = join_nodes left_on right_on schema told (first_schema us) (first_schema (rest_schemas us)) rs (b ∷ l) in omega (arith, e)
+rebuilt_nodes top l (distinct options) us ss rs w = omega arith
+rebuilt_nodes top l (map_function function) us ss rs w = omega arith
+rebuilt_nodes top l (sink payload) us ss rs w = omega arith
+rebuilt_nodes top l invalid us ss rs w = omega arith
+rebuilt_nodes top l (union options) us ss rs w = let e = union_nodes l ss rs (w refl) in omega (arith, e)
+rebuilt_nodes top [] (hconcat schema options) us ss rs w = omega arith
+rebuilt_nodes top (b ∷ l) (hconcat schema options) us ss rs w = omega arith
+rebuilt_nodes top [] (cache id hits) us ss rs w = omega arith
+rebuilt_nodes top (b ∷ l) (cache id hits) us ss rs w = omega arith
+rebuilt_nodes top [] (scan sources info predicate output kind options) us ss rs w = omega arith
+rebuilt_nodes false (b ∷ l) (scan sources info predicate output kind options) us ss rs w = omega arith
+rebuilt_nodes true (b ∷ l) (scan sources info predicate output kind options) us ss rs w = omega arith
 
 -- a node over inputs that are left as they are below it
-left_nodes : (top : Bool) (l : List Name) (op : Op) (rs ts : Roses (Unit {0}) Op) → AllValid ts → width rs ≡ length (schemas ts) → size rs ≤ size ts + tops_in ts (sets_of (asks_plans l op ts)) → nodes (rebuilt top l op (left_below (is_closed op) ts rs)) ≤ 1 + own_tops op (set_of l) (schemas ts) + (size ts + tops_in ts (asks_of op (set_of l) (schemas ts) (stand_ins ts (schemas ts))))
+left_nodes : (top : Bool) (l : List Name) (op : Op) (rs ts : Roses (Unit {0}) Op) → AllValid ts → width rs ≡ length (schemas ts) → size rs ≤ size ts + tops_in ts (sets_of (asks_plans l op ts)) → nodes (rebuilt top l op (stored_all ts) (left_below (is_closed op) ts rs)) ≤ 1 + own_tops op (set_of l) (schemas ts) + (size ts + tops_in ts (asks_of op (set_of l) (schemas ts) (stand_ins ts (schemas ts))))
 left_nodes top l op rs ts v w h = at (is_closed op) refl
   where
-    at : (b : Bool) → is_closed op ≡ b → nodes (rebuilt top l op (left_below b ts rs)) ≤ 1 + own_tops op (set_of l) (schemas ts) + (size ts + tops_in ts (asks_of op (set_of l) (schemas ts) (stand_ins ts (schemas ts))))
-    at true e = let k = rebuilt_nodes top l op (schemas ts) ts (λ (opens : is_closed op ≡ false). cc) in omega (arith, k)
+    at : (b : Bool) → is_closed op ≡ b → nodes (rebuilt top l op (stored_all ts) (left_below b ts rs)) ≤ 1 + own_tops op (set_of l) (schemas ts) + (size ts + tops_in ts (asks_of op (set_of l) (schemas ts) (stand_ins ts (schemas ts))))
+    at true e = let k = rebuilt_nodes top l op (stored_all ts) (schemas ts) ts (λ (opens : is_closed op ≡ false). cc) in omega (arith, k)
     at false e =
-        let k = rebuilt_nodes top l op (schemas ts) rs (λ opens. w) in
+        let k = rebuilt_nodes top l op (stored_all ts) (schemas ts) rs (λ opens. w) in
         let under : size rs ≤ size ts + tops_in ts (asks_of op (set_of l) (schemas ts) (stand_ins ts (schemas ts))) = subst (λ (x : List Asked). size rs ≤ size ts + tops_in ts x) (sym (asks-each l op ts e v)) h in
         omega (arith, k, under)
 

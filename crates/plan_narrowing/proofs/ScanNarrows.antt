@@ -30,7 +30,9 @@ use Rattle.plan_meaning.proofs.CheckParts.{each_pass, pass_each, hold_join, pass
 use Rattle.plan_expr.specs.Leaves.{Name}
 use Rattle.plan_narrowing.specs.Pruned.{typed_names, reading}
 use Rattle.plan_narrowing.proofs.NarrowLemmas.{Local, AgreeOnAll}
-use Rattle.plan_narrowing.proofs.ProjectionNarrows.{some_is, projection_good}
+use Rattle.plan_narrowing.proofs.ProjectionNarrows.{some_is}
+use Rattle.plan_meaning.proofs.AskedSets.{columns_good}
+use Rattle.plan_meaning.proofs.JoinLemmas.{distinct_differ}
 
 -- names with their types
 
@@ -172,6 +174,7 @@ module _ (sources : ScanSources) (info : FileInfo) (predicate : Option Named) (o
       known = narrowed_known (typed_names info.schema wanted) (file_columns info) wanted (each-col (λ (c : Name × DataType). is_known (file_columns info) c.0 ≡ true) known) (pass_names (λ (a : Name). is_known (file_columns info) a ≡ true) wanted known);
       put_out = narrowed_put_out (typed_names info.schema wanted) (file_columns info) wanted
           (each-col (λ (c : Name × DataType). (is_column (file_columns info) c && has wanted c.0) ≡ true) (λ a i. both_true (is_column (file_columns info) (a, type_or (file_columns info) a)) (has wanted a) (file-column a i) i));
+      differ = distinct_differ (names_of (typed_names info.schema wanted)) (subst AreDistinct (sym names-are) fair.once);
       once = new_from (suc (length (typed_names info.schema wanted))) [] wanted (λ a i. refl) fair.once;
       stored = parts.stored;
     })
@@ -211,7 +214,7 @@ module _ (sources : ScanSources) (info : FileInfo) (predicate : Option Named) (o
 
     -- a projection of the asked names on top is valid
     pub top_good : AllHold (checks (simple_projection (typed_names info.schema wanted)) (typed_names info.schema wanted ∷ []))
-    top_good = projection_good (typed_names info.schema wanted) (typed_names info.schema wanted) some_left
+    top_good = columns_good (typed_names info.schema wanted) (typed_names info.schema wanted) some_left (subst AreDistinct (sym names-are) fair.once)
         (each-col (λ (c : Name × DataType). is_column (typed_names info.schema wanted) c ≡ true) (λ a i. ap (λ (o : Option DataType). is_type o (type_or (file_columns info) a)) (type-is a i) ∙ file-column a i))
       where
         at : (l : List Name) → is_empty l ≡ false → (cs : Columns) → names_of cs ≡ l → is_empty cs ≡ false

@@ -18,7 +18,7 @@ use Rattle.plan_meaning.proofs.CheckParts.{MadeGood, made_good, good_made}
 use Rattle.plan_meaning.proofs.KeptColumns.{types_selected, columns_selected}
 use Rattle.plan_frame.proofs.MadeColumns.{some-made}
 use Rattle.plan_meaning.proofs.KeptExprs.{all_selected, distinct_selected, named_selected, selected_named, scalar-selected}
-use Rattle.plan_meaning.proofs.Fairness.{has_some}
+use Rattle.plan_meaning.proofs.AskedSets.{has_some}
 use Rattle.plan_narrowing.specs.Pruned.{typed_names}
 use Rattle.plan_narrowing.proofs.NarrowLemmas.{Local, one_step}
 use Rattle.plan_narrowing.proofs.ProjectionNarrows.{some_is}

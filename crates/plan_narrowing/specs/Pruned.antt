@@ -16,7 +16,9 @@ use Rattle.plan_options.specs.declared.group.GroupbyOptions.{GroupbyOptions}
 use Rattle.plan_options.specs.declared.union.HConcatOptions.{HConcatOptions}
 use Rattle.plan_core.specs.Columns.{with_types}
 use Rattle.plan_expr.specs.Leaves.{Name, leaves}
-use Rattle.plan_meaning.specs.Typing.{first_schema}
+use Rattle.plan_meaning.specs.Typing.{first_schema, rest_schemas}
+use Rattle.plan_meaning.specs.JoinAsked.{left_names, right_names}
+use Rattle.plan_join_narrowing.specs.JoinPruned.{pruned_join}
 use Rattle.plan_frame.specs.Frames.{names_or}
 use Rattle.plan_frame.specs.ExprLists.{out_names, all_leaves}
 use Rattle.plan_frame.specs.Beside.{side_by_side}
@@ -171,7 +173,10 @@ asks asked (hstack exprs schema options) ss os = stacked_names asked exprs (firs
 asks asked (simple_projection columns) ss os = with_names [] (names_of (kept asked columns)) ∷ []
 asks asked (sort keys part options) ss os = asked_with asked (all_leaves keys) ∷ []
 asks asked (group_by keys aggs schema ordered options) ss os = grouping_names keys (kept_exprs (set_of asked) aggs) asked (first_schema ss) ∷ []
-asks asked (join left_on right_on schema told) ss os = names_alike [] ss
+asks asked (join left_on right_on schema told) ss os =
+    left_names asked left_on right_on told (first_schema ss) (first_schema (rest_schemas ss))
+    ∷ right_names asked left_on right_on told (first_schema ss) (first_schema (rest_schemas ss))
+    ∷ []
 asks asked (distinct options) ss os = asked_with asked (names_or options.subset (names_of (first_schema ss))) ∷ []
 asks asked (map_function function) ss os = mapped_names asked function (first_schema ss) ∷ []
 asks asked (sink payload) ss os = asked ∷ []
@@ -180,25 +185,25 @@ asks asked (hconcat schema options) ss os = map (held_names asked) ss
 asks asked (cache id hits) ss os = [] ∷ []
 asks asked invalid ss os = []
 
--- a node that is asked names, over its pruned inputs
-abbrev pub rebuilt : Bool → List Name → Op → Roses (Unit {0}) Op → Plan
-rebuilt top asked (slice offset len) inputs = rose tt (slice offset len) inputs
-rebuilt top asked (filter predicate) inputs = rose tt (filter predicate) inputs
-rebuilt top asked (scan sources info predicate output kind options) inputs = pruned_scan top asked sources info predicate output kind options inputs
-rebuilt top asked (frame_scan df schema output) inputs = rose tt (frame_scan df schema (pruned_output asked schema output)) inputs
-rebuilt top asked (select exprs schema options) inputs = pruned_select asked exprs schema options inputs
-rebuilt top asked (hstack exprs schema options) inputs = pruned_hstack asked exprs schema options inputs
-rebuilt top asked (simple_projection columns) inputs = rose tt (simple_projection (kept asked columns)) inputs
-rebuilt top asked (sort keys part options) inputs = rose tt (sort keys part options) inputs
-rebuilt top asked (group_by keys aggs schema ordered options) inputs = pruned_group_by asked keys aggs schema ordered options inputs
-rebuilt top asked (join left_on right_on schema told) inputs = rose tt (join left_on right_on schema told) inputs
-rebuilt top asked (distinct options) inputs = rose tt (distinct options) inputs
-rebuilt top asked (map_function function) inputs = rose tt (map_function function) inputs
-rebuilt top asked (sink payload) inputs = rose tt (sink payload) inputs
-rebuilt top asked (union options) inputs = rose tt (union options) (covered_if (are_several inputs) asked inputs)
-rebuilt top asked (hconcat schema options) inputs = pruned_hconcat asked schema options inputs
-rebuilt top asked (cache id hits) inputs = covered asked (rose tt (cache id hits) inputs)
-rebuilt top asked invalid inputs = rose tt invalid inputs
+-- a node that is asked names, by the columns that its inputs said they had, over its pruned inputs
+abbrev pub rebuilt : Bool → List Name → Op → List Columns → Roses (Unit {0}) Op → Plan
+rebuilt top asked (slice offset len) ss inputs = rose tt (slice offset len) inputs
+rebuilt top asked (filter predicate) ss inputs = rose tt (filter predicate) inputs
+rebuilt top asked (scan sources info predicate output kind options) ss inputs = pruned_scan top asked sources info predicate output kind options inputs
+rebuilt top asked (frame_scan df schema output) ss inputs = rose tt (frame_scan df schema (pruned_output asked schema output)) inputs
+rebuilt top asked (select exprs schema options) ss inputs = pruned_select asked exprs schema options inputs
+rebuilt top asked (hstack exprs schema options) ss inputs = pruned_hstack asked exprs schema options inputs
+rebuilt top asked (simple_projection columns) ss inputs = rose tt (simple_projection (kept asked columns)) inputs
+rebuilt top asked (sort keys part options) ss inputs = rose tt (sort keys part options) inputs
+rebuilt top asked (group_by keys aggs schema ordered options) ss inputs = pruned_group_by asked keys aggs schema ordered options inputs
+rebuilt top asked (join left_on right_on schema told) ss inputs = pruned_join asked left_on right_on schema told (first_schema ss) (first_schema (rest_schemas ss)) inputs
+rebuilt top asked (distinct options) ss inputs = rose tt (distinct options) inputs
+rebuilt top asked (map_function function) ss inputs = rose tt (map_function function) inputs
+rebuilt top asked (sink payload) ss inputs = rose tt (sink payload) inputs
+rebuilt top asked (union options) ss inputs = rose tt (union options) (covered_if (are_several inputs) asked inputs)
+rebuilt top asked (hconcat schema options) ss inputs = pruned_hconcat asked schema options inputs
+rebuilt top asked (cache id hits) ss inputs = covered asked (rose tt (cache id hits) inputs)
+rebuilt top asked invalid ss inputs = rose tt invalid inputs
 
 -- what a node asks of each of its plans
 abbrev pub asks_plans : {N : Type 0} → List Name → Op → Roses N Op → List (List Name)
@@ -220,7 +225,7 @@ left_below false inputs others = others
 -- a plan pruned to the asked names, and plans each to a list of its own, with projections on top of their scans or without; from the first count of rows on, in the order of plans and their inputs, without
 abbrev mutual
   pub pruned : Bool → List Name → Plan → Plan
-  pruned top asked (rose n op inputs) = rebuilt top asked op (left_below (is_closed op) inputs (pruned_all (top_below top op) (asks_plans asked op inputs) inputs))
+  pruned top asked (rose n op inputs) = rebuilt top asked op (stored_all inputs) (left_below (is_closed op) inputs (pruned_all (top_below top op) (asks_plans asked op inputs) inputs))
 
   pub pruned_all : Bool → List (List Name) → Roses (Unit {0}) Op → Roses (Unit {0}) Op
   pruned_all top lists no_roses = no_roses

@@ -1,10 +1,11 @@
 -- What the scans of a pruned plan may read, and how many nodes pruning may add.
-use Rattle.std.specs.Prelude.{◌≡◌, ℕ, ◌+◌, true, List, [], ◌∷◌, length}
+use Rattle.std.specs.Prelude.{◌≡◌, ℕ, ◌+◌, true, List, [], ◌∷◌, length, if◌then◌else◌}
 use Rattle.plan_core.specs.Columns.{Columns}
 use Rattle.plan_core.specs.Names.{has}
 use Rattle.plan_tree.specs.Rose.{Roses, rose, no_roses, more}
 use Rattle.plan_ir.specs.Plans.{Op, slice, filter, scan, frame_scan, simple_projection, select, hstack, sort, group_by, join, distinct, map_function, sink, union, hconcat, cache, invalid, Plan}
 use Rattle.plan_expr.specs.Leaves.{Name}
+use Rattle.plan_join.specs.Naming.{has_right}
 use Rattle.plan_meaning.specs.Typing.{schemas}
 use Rattle.plan_meaning.specs.Relating.{Asked, all, names, cached}
 use Rattle.plan_meaning.specs.Scans.{SameScan}
@@ -31,7 +32,7 @@ tops_each all (s ∷ t ∷ ss) = 0
 tops_each (names wanted) (s ∷ t ∷ ss) = length (s ∷ t ∷ ss)
 tops_each cached (s ∷ t ∷ ss) = 0
 
--- the projections that may be put on a node or its inputs: where names are asked one on a scan, one on a cache, and one on each of more than one inputs of a union
+-- the projections that may be put on a node or its inputs: where names are asked one on a scan, one on a cache, one on a join that puts out columns of its right side, a selection or a projection, and one on each of more than one inputs of a union
 abbrev pub own_tops : Op → Asked → List Columns → ℕ
 own_tops (scan sources info predicate output kind options) a ss = one_if_asked a
 own_tops (slice offset len) a ss = 0
@@ -42,7 +43,7 @@ own_tops (hstack exprs schema options) a ss = 0
 own_tops (simple_projection columns) a ss = 0
 own_tops (sort keys part options) a ss = 0
 own_tops (group_by keys aggs schema ordered options) a ss = 0
-own_tops (join left_on right_on schema told) a ss = 0
+own_tops (join left_on right_on schema told) a ss = if has_right told.args.how then one_if_asked a else 0
 own_tops (distinct options) a ss = 0
 own_tops (map_function function) a ss = 0
 own_tops (sink payload) a ss = 0

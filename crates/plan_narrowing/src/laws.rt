@@ -31,8 +31,8 @@ pub fn pruned_plans_keep_scans()
     ensures { (top : Bool) (p : Plan) → IsValid p → Keeps (pruned top [] p) p }
 {}
 
-/// A pruned plan has at most one node more for each scan and each cache that is asked names, and for each of several inputs of
-/// a union that is.
+/// A pruned plan has at most one node more for each scan, each cache and each join that puts out columns of its right side that is
+/// asked names, and for each of several inputs of a union that is.
 pub fn pruned_plans_have_few_nodes_more()
     ensures { (top : Bool) (p : Plan) → IsValid p → nodes (pruned top [] p) ≤ nodes p + tops p all }
 {}
