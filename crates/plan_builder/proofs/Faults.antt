@@ -1,16 +1,19 @@
 -- Checks on items outside plans, made one after another.
-use Rattle.std.proofs.Common.{◌≡◌, ℕ, zero, suc, ◌+◌, ◌≤◌, min, Bool, true, false, not, List, [], ◌∷◌, ◌++◌, length, drop, Option, Some, None, refl, sym, ap, ◌∙◌, add-one, if◌then◌else◌}
+use Rattle.std.proofs.Common.{◌≡◌, ℕ, zero, suc, ◌+◌, ◌≤◌, min, Bool, true, false, cond, not, List, [], ◌∷◌, ◌++◌, length, drop, Option, Some, None, refl, sym, ap, ◌∙◌, add-one, if◌then◌else◌}
 use Rattle.std.specs.List.{slice_get}
 use Rattle.plan_core.specs.declared.error.At.{At}
 use Rattle.plan_core.specs.declared.error.PolarsError.{PolarsError}
-use Rattle.plan_core.specs.declared.error.PolarsError.TheVariants.{Duplicate}
+use Rattle.plan_core.specs.declared.error.PolarsError.TheVariants.{Duplicate, SchemaFieldNotFound}
+use Rattle.plan_core.specs.Columns.{Columns}
 use Rattle.plan_core.specs.Errors.{item_at}
-use Rattle.plan_core.specs.Names.{has}
+use Rattle.plan_core.specs.Names.{has, AreDistinct}
 use Rattle.plan_expr.specs.Leaves.{Name}
-use Rattle.plan_meaning.specs.Checks.{Check, each, each_new}
-use Rattle.plan_meaning.specs.Typing.{or_fault}
+use Rattle.plan_meaning.specs.Checks.{Check, each, each_new, is_known}
+use Rattle.plan_meaning.specs.Typing.{or_fault, AllHold}
+use Rattle.plan_meaning.proofs.CheckParts.{hold_back}
+use Rattle.plan_meaning.proofs.KeptExprs.{new_distinct}
 use Rattle.plan_function.proofs.CheckLemmas.{drop-at, drop-end}
-use Rattle.plan_builder.specs.Picks.{first_item_fault}
+use Rattle.plan_builder.specs.Picks.{first_item_fault, name_checks}
 
 -- checks, and then others
 pub item_append : (cs ds : List Check) → first_item_fault (cs ++ ds) ≡ or_fault (first_item_fault cs) (first_item_fault ds)
@@ -77,3 +80,16 @@ new-bad names before i a l e old =
 
 pub new-end : (names before : List Name) (i : ℕ) → NewLeft names before i → length names ≤ i → first_item_fault (each_new 0 [] names) ≡ None
 new-end names before i l h = sym l.same ∙ ap (λ (l : List Name). first_item_fault (each_new i before l)) (drop-end names i h)
+
+-- checks that tell no fault hold
+none_hold : (cs : List Check) → first_item_fault cs ≡ None → AllHold cs
+none_hold [] e = tt
+none_hold (c ∷ cs) e = at c.holds refl (λ q. none_hold cs q) e
+  where
+    at : (b : Bool) → c.holds ≡ b → (first_item_fault cs ≡ None → AllHold cs) → cond b (first_item_fault cs) (Some (c.fault (item_at (min c.place 4294967295)))) ≡ None → AllHold (c ∷ cs)
+    at true h rest e = (h, rest e)
+    at false h rest e = cc
+
+-- names of which none is told to be one before it are distinct
+pub names_distinct : (names : List Name) (s : Columns) → first_item_fault (name_checks names s) ≡ None → AreDistinct names
+names_distinct names s e = new_distinct 0 [] names (hold_back (each SchemaFieldNotFound 0 (is_known s) names) (each_new 0 [] names) (none_hold (name_checks names s) e))

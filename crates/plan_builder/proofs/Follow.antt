@@ -1,10 +1,9 @@
 -- Nodes that may follow a valid plan.
-use Rattle.std.proofs.Common.{◌≡◌, ◌∙◌, ◌++◌, true, false, List, [], ◌∷◌, length, Some, refl, sym, ap, subst, append-nil, arith, not, All, IfOk, map, Result, Ok, Err, slice_index_or}
+use Rattle.std.proofs.Common.{◌≡◌, ◌∙◌, ◌++◌, true, false, List, [], ◌∷◌, length, None, Some, refl, sym, ap, subst, append-nil, arith, not, All, IfOk, map, Result, Ok, Err, slice_index_or}
 use Rattle.std.proofs.lemmas.List.{get_or-map}
 use Rattle.std.specs.List.{slice_get}
 use Rattle.plan_core.specs.declared.arena.Node.{Node}
 use Rattle.plan_core.specs.declared.data_type.DataType.{DataType}
-use Rattle.plan_core.specs.declared.error.PolarsError.TheVariants.{SchemaFieldNotFound, SchemaMismatch}
 use Rattle.plan_core.specs.Columns.{Columns, names_of, type_of}
 use Rattle.plan_tree.specs.Rose.{Roses, rose, no_roses, more}
 use Rattle.plan_tree.specs.Stands.{Trees, Reaches, Stands, StandsOnce}
@@ -21,9 +20,13 @@ use Rattle.plan_ir.specs.Parts.{exprs_of, inputs_of, is_invalid, plan_shape, IsP
 use Rattle.plan_ir.specs.Plans.{Op, bare, op_at, plans_at, plans_of, simple_projection}
 use Rattle.plan_meaning.specs.PlanAt.{one_plan, plan_at}
 use Rattle.plan_meaning.specs.Steps.{IsValid}
-use Rattle.plan_meaning.specs.Checks.{each, is_column, is_empty, is_known}
+use Rattle.plan_meaning.specs.Checks.{is_column, is_empty, is_known}
 use Rattle.plan_meaning.specs.Typing.{AllHold, checks, schema}
-use Rattle.plan_meaning.proofs.CheckParts.{hold_join, pass_each}
+use Rattle.plan_meaning.proofs.CheckParts.{good_projection}
+use Rattle.plan_meaning.specs.Functions.{all_differ}
+use Rattle.plan_meaning.proofs.JoinLemmas.{distinct_differ}
+use Rattle.plan_builder.specs.Picks.{first_item_fault, name_checks}
+use Rattle.plan_builder.proofs.Faults.{names_distinct}
 use Rattle.plan_frame.proofs.FrameLemmas.{length-map, some_type_is, weaker}
 use Rattle.plan_meaning.proofs.NodeExprs.{all_stand}
 use Rattle.plan_meaning.proofs.Validity.{one_stands}
@@ -62,13 +65,13 @@ module _ (s : Columns) (names : List Name) (cs : Columns) (picks : Picks s names
   not-none [] e some = absurd (some (sym e))
   not-none (d ∷ ds) e some = refl
 
-  pub passes : (names ≡ [] → ⊥) → AllHold (checks (simple_projection cs) (s ∷ []))
-  passes some = (
-    not-none cs picks.named some,
-    hold_join (each SchemaFieldNotFound 1 (λ (c : Name × DataType). is_known s c.0) cs) (each SchemaMismatch 1 (is_column s) cs)
-        (pass_each SchemaFieldNotFound 1 (λ (c : Name × DataType). is_known s c.0) cs (weaker (λ (c : Name × DataType). type_of s c.0 ≡ Some c.1) (λ (c : Name × DataType). is_known s c.0 ≡ true) cs known picks.typed))
-        (pass_each SchemaMismatch 1 (is_column s) cs (weaker (λ (c : Name × DataType). type_of s c.0 ≡ Some c.1) (λ (c : Name × DataType). is_column s c ≡ true) cs column picks.typed)),
-  )
+  pub passes : (names ≡ [] → ⊥) → first_item_fault (name_checks names s) ≡ None → AllHold (checks (simple_projection cs) (s ∷ []))
+  passes some fine = good_projection cs s (record {
+    some = not-none cs picks.named some;
+    known = weaker (λ (c : Name × DataType). type_of s c.0 ≡ Some c.1) (λ (c : Name × DataType). is_known s c.0 ≡ true) cs known picks.typed;
+    typed = weaker (λ (c : Name × DataType). type_of s c.0 ≡ Some c.1) (λ (c : Name × DataType). is_column s c ≡ true) cs column picks.typed;
+    differ = ap all_differ picks.named ∙ distinct_differ names (names_distinct names s fine);
+  })
 
 -- a node over the root of a valid plan may follow it, where its expressions stand beside the plan's and its checks hold
 module _ (lp : List IR) (ex : List AExpr) (root : Node) (b : IsBuilt lp ex root) (p : IR) (over : inputs_of p ≡ root ∷ []) (fit : is_invalid p ≡ false) (e : Trees AExpr) (exprs : StandsOnce expr_shape ex (roots_of p ++ roots_in b.plan.nodes) e) (good : AllHold (checks (op_at ex p) (columns_at lp ex root ∷ []))) where
@@ -144,5 +147,5 @@ module _ (lp : List IR) (ex : List AExpr) (p : IR) (alone : inputs_of p ≡ []) 
   }
 
 -- a projection to columns that are picked may follow a valid plan
-pub picks_follow : (lp : List IR) (ex : List AExpr) (root : Node) → IsBuilt lp ex root → (names : List Name) (cs : Columns) → Picks (columns_at lp ex root) names cs → (names ≡ [] → ⊥) → MayFollow lp ex (SimpleProjection root cs)
-picks_follow lp ex root b names cs picks some = over_follow lp ex root b (SimpleProjection root cs) refl refl b.plan.exprs b.plan.stands.exprs (passes (columns_at lp ex root) names cs picks some)
+pub picks_follow : (lp : List IR) (ex : List AExpr) (root : Node) → IsBuilt lp ex root → (names : List Name) (cs : Columns) → Picks (columns_at lp ex root) names cs → (names ≡ [] → ⊥) → first_item_fault (name_checks names (columns_at lp ex root)) ≡ None → MayFollow lp ex (SimpleProjection root cs)
+picks_follow lp ex root b names cs picks some fine = over_follow lp ex root b (SimpleProjection root cs) refl refl b.plan.exprs b.plan.stands.exprs (passes (columns_at lp ex root) names cs picks some fine)

@@ -101,7 +101,7 @@ two_frames once lp ex root other p q is first e f adds =
       left = ap₂ (λ (l : List IR) (k : ℕ). slice_get l k) all last;
       right = ap₂ (λ (l : List IR) (k : ℕ). slice_get l k) all first;
       distinct = λ same. omega (arith, same, first, last);
-      beside = subst (λ (l : List IR). IsBuilt l ex other) (sym all) (built_stays (frame ∷ []) (frame ∷ []) ex other (frame_follows [] ex three other first));
+      beside = subst (λ (l : List IR). IsBuilt l ex other) (sym all) (built_stays (frame ∷ []) (frame ∷ []) ex other (frame_follows [] ex three refl other first));
     }
 
 -- the join of these may follow, with an arena, keys and options that are these

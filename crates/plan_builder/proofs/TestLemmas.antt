@@ -6,7 +6,8 @@ use Rattle.plan_core.specs.declared.data_type.DataType.{DataType}
 use Rattle.plan_core.specs.declared.data_type.DataType.TheVariants.{Int64, List as ListOf, String}
 use Rattle.plan_core.specs.declared.data_type.PlainType.TheVariants.{Int64 as Whole}
 use Rattle.plan_core.specs.declared.options.ProjectionOptions.{ProjectionOptions}
-use Rattle.plan_core.specs.Columns.{Columns, type_of}
+use Rattle.plan_core.specs.Columns.{Columns, names_of, type_of}
+use Rattle.plan_meaning.specs.Functions.{all_differ}
 use Rattle.plan_tree.specs.Rose.{rose, no_roses, more}
 use Rattle.plan_tree.specs.Stands.{Trees, Stands, StandsOnce}
 use Rattle.plan_tree.proofs.Frames.{slice_get-append_last}
@@ -27,19 +28,18 @@ use Rattle.plan_ir.specs.declared.functions.FunctionIR.TheVariants.{Explode, Row
 use Rattle.plan_ir.specs.Parts.{plan_shape, roots_in}
 use Rattle.plan_ir.specs.Plans.{bare, frame_scan, plans_of}
 use Rattle.plan_meaning.specs.PlanAt.{one_plan}
-use Rattle.plan_meaning.specs.Typing.{AllHold, checks, function_checks, explode_checks, row_index_checks, unpivot_checks, unpivot_name_checks, unpivot_type_checks, frame_checks, made_checks, number_checks, schema}
+use Rattle.plan_meaning.specs.Typing.{AllHold, checks, function_checks, explode_checks, row_index_checks, unpivot_checks, unpivot_name_checks, unpivot_type_checks, made_checks, schema}
 use Rattle.plan_frame.specs.Made.{made_schema}
-use Rattle.plan_meaning.proofs.CheckParts.{good_made, is_same}
+use Rattle.plan_meaning.proofs.CheckParts.{good_frame, good_made, is_same}
 use Rattle.plan_builder.specs.Builds.{addition, Adds, columns_at, IsBuilt, MayFollow, own_expr, selection}
 use Rattle.plan_builder.proofs.Follow.{alone_follow, over_follow}
 
 -- the scan of a frame may follow any entries
-frame_good : (s : Columns) → AllHold (checks (frame_scan (Some 0) s None) [])
-unfolding frame_checks number_checks
-frame_good s = (refl, tt)
+frame_good : (s : Columns) → all_differ (names_of s) ≡ true → AllHold (checks (frame_scan (Some 0) s None) [])
+frame_good s differ = good_frame (Some 0) s None (record { known = tt; number = refl; typed = tt; differ = differ })
 
-pub frame_follows : (lp : List IR) (ex : List AExpr) (s : Columns) → MayFollow lp ex (DataFrameScan (Some 0) s None)
-frame_follows lp ex s = alone_follow lp ex (DataFrameScan (Some 0) s None) refl refl no_roses (record { stands = tt; once = tt }) (frame_good s)
+pub frame_follows : (lp : List IR) (ex : List AExpr) (s : Columns) → all_differ (names_of s) ≡ true → MayFollow lp ex (DataFrameScan (Some 0) s None)
+frame_follows lp ex s differ = alone_follow lp ex (DataFrameScan (Some 0) s None) refl refl no_roses (record { stands = tt; once = tt }) (frame_good s differ)
 
 -- what stands at the number of a frame
 module _ (lp : List IR) (ex : List AExpr) (root : Node) (s : Columns) (there : slice_get lp root.0 ≡ Some (DataFrameScan (Some 0) s None)) (b : IsBuilt lp ex root) where

@@ -1,11 +1,11 @@
 //! A scan of a frame that is handed in: what it puts out are columns of the frame, with their types; without a number
 //! there are none.
-ghost use Rattle.std.specs.Prelude.{[]};
+ghost use Rattle.std.specs.Prelude.{[], Some, None};
 ghost use Rattle.plan_ir.specs.Plans.{frame_scan};
-ghost use Rattle.plan_meaning.specs.Typing.{columns_or, number_checks, frame_checks, first_fault, Says};
+ghost use Rattle.plan_meaning.specs.Typing.{number_checks, frame_checks, first_fault, Says};
 ghost use Rattle.plan_meaning.specs.Typed.{IsNodeTyped};
 
-use plan_check_exprs::{check_columns_known, check_columns_typed};
+use plan_check_exprs::{check_columns_known, check_columns_typed, columns_differ};
 use plan_core::{Node, PolarsError, PolarsResult, Schema, TryClone};
 use plan_function::at;
 use std::alloc::Global;
@@ -25,25 +25,36 @@ fn check_number(node: Node, df: Option<u32>, schema: &Schema) -> PolarsResult<()
 /// What is put out are columns of the frame, with their types.
 #[tactic(auto, using(plan_function::proofs::CheckLemmas::fault_append), unfolding(plan_meaning::specs::Typing::frame_checks))]
 fn check_put_out(node: Node, df: Option<u32>, schema: &Schema, output: &Schema) -> PolarsResult<()>
-    ensures { Says result (first_fault node (frame_checks df schema.now output.now)) }
+    ensures { Says result (first_fault node (frame_checks df schema.now (Some output.now))) }
 {
     check_columns_known(node, output, schema)?;
     check_number(node, df, schema)?;
-    check_columns_typed(node, output, schema)
+    check_columns_typed(node, output, schema)?;
+    columns_differ(node, output);
+    Ok(())
+}
+
+/// A scan of a frame that puts out all its columns: without a number there are none.
+#[tactic(auto, using(plan_function::proofs::CheckLemmas::fault_append), unfolding(plan_meaning::specs::Typing::frame_checks))]
+fn check_all(node: Node, df: Option<u32>, schema: &Schema) -> PolarsResult<()>
+    ensures { Says result (first_fault node (frame_checks df schema.now None)) }
+{
+    check_number(node, df, schema)?;
+    columns_differ(node, schema);
+    Ok(())
 }
 
 /// Checks a scan of the frame under a number.
-#[tactic(auto, using(plan_function::proofs::CheckLemmas::fault_append), unfolding(plan_meaning::specs::Typing::frame_checks))]
 pub fn check_frame_scan(
     node: Node,
     df: Option<u32>,
     schema: &Schema,
     output: &Option<Schema>,
 ) -> PolarsResult<()>
-    ensures { Says result (first_fault node (frame_checks df schema.now (columns_or output.now []))) }
+    ensures { Says result (first_fault node (frame_checks df schema.now output.now)) }
 {
     match output {
-        None => check_number(node, df, schema),
+        None => check_all(node, df, schema),
         Some(output) => check_put_out(node, df, schema, output),
     }
 }

@@ -4,13 +4,14 @@ ghost use Rattle.plan_ir.specs.Plans.{simple_projection};
 ghost use Rattle.plan_meaning.specs.Typing.{projection_checks, first_fault, Says};
 ghost use Rattle.plan_meaning.specs.Typed.{IsNodeTyped};
 
-use plan_check_exprs::{check_columns_known, check_columns_typed};
+use plan_check_exprs::{check_columns_known, check_columns_typed, columns_differ};
 use plan_core::{Node, PolarsError, PolarsResult, Schema, TryClone};
 use plan_function::at;
 use std::alloc::Global;
 
 /// Checks a simple projection over the columns of its input: `InvalidOperation` at place 0 where it has no columns,
-/// `SchemaFieldNotFound` at the first column that isn't there, and then `SchemaMismatch` at the first of another type.
+/// `SchemaFieldNotFound` at the first column that isn't there, and then `SchemaMismatch` at the first of another type. No two
+/// have one name, since they are a schema.
 #[tactic(auto, using(plan_function::proofs::CheckLemmas::fault_append))]
 pub fn check_projection(node: Node, columns: &Schema, schema: &Schema) -> PolarsResult<()>
     ensures { Says result (first_fault node (projection_checks columns.now schema.now)) }
@@ -20,6 +21,7 @@ pub fn check_projection(node: Node, columns: &Schema, schema: &Schema) -> Polars
     }
     check_columns_known(node, columns, schema)?;
     check_columns_typed(node, columns, schema)?;
+    columns_differ(node, columns);
     Ok(())
 }
 

@@ -7,11 +7,13 @@ ghost use Rattle.plan_ir.specs.Plans.{scan};
 ghost use Rattle.plan_ir.specs.declared.scan.FileScan.{FileScan};
 ghost use Rattle.plan_ir.specs.declared.scan.ScanSources.{ScanSources};
 ghost use Rattle.plan_meaning.specs.Checks.{is_none, each_new};
-ghost use Rattle.plan_meaning.specs.Typing.{columns_or, file_columns, put_out_checks, scan_checks, scan_column_checks, scan_name_checks, first_fault, Says};
+ghost use Rattle.plan_meaning.specs.Typing.{columns_or, differ_checks, file_columns, put_out_checks, scan_checks, scan_column_checks, scan_name_checks, first_fault, Says};
 ghost use Rattle.plan_frame.specs.Frames.{names_or};
 ghost use Rattle.plan_meaning.specs.Typed.{IsNodeTyped};
 
-use plan_check_exprs::{all_read, check_columns_known, check_columns_read, check_stored};
+use plan_check_exprs::{
+    all_read, check_columns_known, check_columns_read, check_stored, columns_differ,
+};
 use plan_core::{
     Arena, FileScanOptions, Items, Names, Node, PlSmallStr, PolarsError, PolarsResult, Schema,
     TryClone,
@@ -127,7 +129,17 @@ fn check_new(
     check_names_new(alloc, node, 1 + outs, reads)
 }
 
-/// What the scan puts out and reads are columns of the files, each read once, and its stored columns are these.
+/// No two columns that the scan puts out have one name, since they are a schema, so that the check on it tells no fault.
+fn outputs_differ(node: Node, output: &Option<Schema>, file: &Schema)
+    ensures { first_fault node (differ_checks (columns_or output.now file.now)) ≡ None }
+{
+    match output {
+        None => columns_differ(node, file),
+        Some(output) => columns_differ(node, output),
+    }
+}
+
+/// What the scan puts out and reads are columns of the files, each put out once and read once, and its stored columns are these.
 #[tactic(auto, using(plan_function::proofs::CheckLemmas::fault_append), unfolding(plan_meaning::specs::Typing::scan_column_checks))]
 fn check_scan_columns(
     alloc: Global,
@@ -141,6 +153,7 @@ fn check_scan_columns(
 {
     check_names(node, output, names_of(reads), file)?;
     check_put_out(alloc, node, output, reads, file)?;
+    outputs_differ(node, output, file);
     check_new(alloc, node, output, names_of(reads))?;
     check_stored(node, stored, file)
 }

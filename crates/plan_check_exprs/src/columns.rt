@@ -1,8 +1,8 @@
 //! Checks that go over columns in order.
-ghost use Rattle.std.specs.Prelude.{◌≡◌, ◌&&◌};
+ghost use Rattle.std.specs.Prelude.{◌≡◌, ◌&&◌, None};
 ghost use Rattle.plan_core.specs.declared.error.PolarsError.TheVariants.{SchemaFieldNotFound, SchemaMismatch};
 ghost use Rattle.plan_meaning.specs.Checks.{each, is_column as is_one, is_known, stored_checks};
-ghost use Rattle.plan_meaning.specs.Typing.{all_read as are_all_read, has_columns, first_fault, Says};
+ghost use Rattle.plan_meaning.specs.Typing.{all_read as are_all_read, differ_checks, has_columns, first_fault, Says};
 
 use plan_core::{DataType, Names, Node, PolarsError, PolarsResult, Schema};
 use plan_function::{at, is_column};
@@ -22,6 +22,15 @@ fn is_put_out(schema: &Schema, reads: &Option<Names>, name: &str, dtype: DataTyp
     ensures { result ≡ (is_one schema.now (name.now, dtype) && has_columns reads.now name.now) }
 {
     is_column(schema, name, dtype) && is_read(reads, name)
+}
+
+/// No name comes twice among the columns of a schema, by the law of schemas, so that the check on it tells no fault. There is
+/// nothing to compute.
+pub fn columns_differ(node: Node, columns: &Schema)
+    ensures { first_fault node (differ_checks columns.now) ≡ None }
+{
+    let _ = node;
+    let _count = columns.len();
 }
 
 /// Each column's name is one of the schema's, else `SchemaFieldNotFound` at the column; the first one is at place 1.

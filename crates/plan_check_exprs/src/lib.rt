@@ -9,6 +9,7 @@ mod types;
 
 pub use columns::{
     all_read, check_columns_known, check_columns_read, check_columns_typed, check_stored,
+    columns_differ,
 };
 pub use exprs::{
     check_forms, check_leaves, check_leaves_from, check_namings, check_namings_from, check_outputs,

@@ -1,27 +1,16 @@
 -- The columns of a join, taken one by one, of each name the first.
-use Rattle.std.proofs.Common.{◌≡◌, ◌∙◌, Bor, Bool, true, false, cond, not, List, [], ◌∷◌, ◌++◌, map, Option, None, Some, is_some, refl, sym, ap, subst, append_assoc, append-nil}
-use Rattle.std.specs.List.{AllByRecursion, IsDistinct}
+use Rattle.std.proofs.Common.{◌≡◌, ◌∙◌, Bor, Bool, true, false, cond, not, [], ◌∷◌, ◌++◌, map, Option, None, Some, is_some, refl, sym, ap, subst, append_assoc, append-nil}
 use Rattle.std.specs.Option.{option_copied}
 use Rattle.std.specs.Str.{bytes_eq}
 use Rattle.std.proofs.lemmas.Slice.Eq.{bytes_eq-Decides}
 use Rattle.plan_core.specs.declared.data_type.DataType.{DataType}
 use Rattle.plan_core.specs.Columns.{Columns, HasDistinctNames, names_of, type_of, with_type}
-use Rattle.plan_core.specs.Names.{has, AreDistinct}
 use Rattle.plan_expr.specs.Leaves.{Name}
 use Rattle.plan_join.proofs.ColumnLemmas.{named-next, named-twice, with_type-absent, Named}
 use Rattle.plan_meaning.specs.Functions.{all_differ}
-use Rattle.plan_meaning.proofs.JoinLemmas.{differ_distinct}
+use Rattle.plan_meaning.proofs.JoinLemmas.{differ_distinct, distinct_differ}
 
--- names differ exactly where none comes twice
-
-differs_from : (a : Name) (names : List Name) → AllByRecursion (λ (b : Name). bytes_eq a b ≡ false) names → has names a ≡ false
-differs_from a [] h = refl
-differs_from a (b ∷ names) h = rw h.0 (differs_from a names h.1)
-
-pub distinct_differ : (names : List Name) → AreDistinct names → all_differ names ≡ true
-unfolding IsDistinct
-distinct_differ [] h = refl
-distinct_differ (a ∷ names) h = rw (differs_from a names h.0) (distinct_differ names h.1)
+-- names that come twice do not differ
 
 pub twice_differ : (cs : Columns) → (HasDistinctNames cs → ⊥) → all_differ (names_of cs) ≡ false
 twice_differ cs h = at (all_differ (names_of cs)) refl

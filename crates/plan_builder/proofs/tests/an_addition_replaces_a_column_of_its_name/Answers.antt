@@ -7,13 +7,15 @@ use Rattle.plan_expr.specs.Leaves.{Name}
 use Rattle.plan_ir.specs.declared.ir.IR.{IR}
 use Rattle.plan_ir.specs.declared.ir.IR.TheVariants.{DataFrameScan}
 use Rattle.plan_builder.specs.Builds.{Adds, MayFollow}
+use Rattle.plan_core.specs.Columns.{Columns, names_of}
+use Rattle.plan_meaning.specs.Functions.{all_differ}
 use Rattle.plan_builder.proofs.TestLemmas.{frame_follows, adds_columns}
 use Rattle.plan_builder.proofs.tests.an_addition_replaces_a_column_of_its_name.Goals as goal
 
 pub from_lp-requires : goal.from_lp-requires
 from_lp-requires g c =
     let f = c.in_ok-frame.ensures in
-    subst (λ (p : IR). MayFollow c.new-lp.result c.add.new.self p) (sym f.1) (frame_follows c.new-lp.result c.add.new.self f.0)
+    subst (λ (p : IR). MayFollow c.new-lp.result c.add.new.self p) (sym f.1) (frame_follows c.new-lp.result c.add.new.self f.0 (ap (λ (s : Columns). all_differ (names_of s)) f.4))
 
 pub with_columns-requires-clause-follows : goal.with_columns-requires-clause-follows
 with_columns-requires-clause-follows g c =

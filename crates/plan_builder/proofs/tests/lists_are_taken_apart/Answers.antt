@@ -1,17 +1,18 @@
 use Rattle.std.proofs.Common.{◌∙◌, ◌∷◌, [], codes, List, None, Some, subst, sym, ap}
-use Rattle.plan_core.specs.Columns.{Columns}
+use Rattle.plan_core.specs.Columns.{Columns, names_of}
 use Rattle.plan_expr.specs.Leaves.{Name}
 use Rattle.plan_ir.specs.declared.functions.FunctionIR.TheVariants.{Explode}
 use Rattle.plan_ir.specs.declared.ir.IR.{IR}
 use Rattle.plan_ir.specs.declared.ir.IR.TheVariants.{DataFrameScan, MapFunction}
 use Rattle.plan_builder.specs.Builds.{Adds, MayFollow}
+use Rattle.plan_meaning.specs.Functions.{all_differ}
 use Rattle.plan_builder.proofs.TestLemmas.{frame_follows, function_follows, explode_good, lists}
 use Rattle.plan_builder.proofs.tests.lists_are_taken_apart.Goals as goal
 
 pub from_lp-requires : goal.from_lp-requires
 from_lp-requires g c =
     let f = c.in_ok-frame_of_lists.ensures in
-    subst (λ (p : IR). MayFollow c.new-lp.result c.new-ex.result p) (sym f.1) (frame_follows c.new-lp.result c.new-ex.result f.0)
+    subst (λ (p : IR). MayFollow c.new-lp.result c.new-ex.result p) (sym f.1) (frame_follows c.new-lp.result c.new-ex.result f.0 (ap (λ (s : Columns). all_differ (names_of s)) f.2))
 
 pub explode-requires : goal.explode-requires
 explode-requires g c =

@@ -1,11 +1,12 @@
 use Rattle.std.proofs.Common.{◌≡◌, ◌∙◌, ◌++◌, ◌∷◌, List, [], ap, ap₂, codes, length, subst, sym, None, Some}
-use Rattle.plan_core.specs.Columns.{Columns}
+use Rattle.plan_core.specs.Columns.{Columns, names_of}
 use Rattle.plan_expr.specs.declared.aexpr.AExpr.{AExpr}
 use Rattle.plan_expr.specs.declared.aexpr.AExpr.TheVariants.{Column}
 use Rattle.plan_expr.specs.Leaves.{Name}
 use Rattle.plan_ir.specs.declared.ir.IR.{IR}
 use Rattle.plan_ir.specs.declared.ir.IR.TheVariants.{DataFrameScan}
 use Rattle.plan_builder.specs.Builds.{Adds, MayFollow}
+use Rattle.plan_meaning.specs.Functions.{all_differ}
 use Rattle.plan_builder.proofs.TestLemmas.{frame_follows, three}
 use Rattle.plan_builder.proofs.GroupTest.{groups}
 use Rattle.plan_builder.proofs.tests.rows_are_grouped.Goals as goal
@@ -13,7 +14,7 @@ use Rattle.plan_builder.proofs.tests.rows_are_grouped.Goals as goal
 pub from_lp-requires : goal.from_lp-requires
 from_lp-requires g c =
     let f = c.in_ok-frame.ensures in
-    subst (λ (p : IR). MayFollow c.new-lp.result c.add-2.new.self p) (sym f.1) (frame_follows c.new-lp.result c.add-2.new.self f.0)
+    subst (λ (p : IR). MayFollow c.new-lp.result c.add-2.new.self p) (sym f.1) (frame_follows c.new-lp.result c.add-2.new.self f.0 (ap (λ (s : Columns). all_differ (names_of s)) f.4))
 
 pub group_by-requires-clause-follows : goal.group_by-requires-clause-follows
 group_by-requires-clause-follows g c =

@@ -1,11 +1,12 @@
 use Rattle.std.proofs.Common.{◌≡◌, ◌∙◌, ◌++◌, ◌∷◌, List, [], ap, ap₂, codes, length, subst, sym, None, Some}
-use Rattle.plan_core.specs.Columns.{Columns}
+use Rattle.plan_core.specs.Columns.{Columns, names_of}
 use Rattle.plan_expr.specs.declared.aexpr.AExpr.{AExpr}
 use Rattle.plan_expr.specs.declared.aexpr.AExpr.TheVariants.{Column}
 use Rattle.plan_expr.specs.Leaves.{Name}
 use Rattle.plan_ir.specs.declared.ir.IR.{IR}
 use Rattle.plan_ir.specs.declared.ir.IR.TheVariants.{DataFrameScan}
 use Rattle.plan_builder.specs.Builds.{MayFollow}
+use Rattle.plan_meaning.specs.Functions.{all_differ}
 use Rattle.plan_builder.proofs.TestLemmas.{frame_follows}
 use Rattle.plan_builder.proofs.JoinTest.{joins, two_frames}
 use Rattle.plan_builder.proofs.tests.tables_are_joined.Goals as goal
@@ -13,7 +14,7 @@ use Rattle.plan_builder.proofs.tests.tables_are_joined.Goals as goal
 pub from_lp-requires : goal.from_lp-requires
 from_lp-requires g c =
     let f = c.in_ok-frame-2.ensures in
-    subst (λ (p : IR). MayFollow c.add-3.new.self c.add-2.new.self p) (sym f.1) (frame_follows c.add-3.new.self c.add-2.new.self f.0)
+    subst (λ (p : IR). MayFollow c.add-3.new.self c.add-2.new.self p) (sym f.1) (frame_follows c.add-3.new.self c.add-2.new.self f.0 (ap (λ (s : Columns). all_differ (names_of s)) f.4))
 
 pub join-requires-clause-beside : goal.join-requires-clause-beside
 join-requires-clause-beside g c =

@@ -1,5 +1,5 @@
 use Rattle.plan_core.specs.Columns.{names_of}
-use Rattle.plan_check_joins.proofs.FirstColumns.{distinct_differ}
+use Rattle.plan_meaning.proofs.JoinLemmas.{distinct_differ}
 use Rattle.plan_check_joins.proofs.join_columns.names_differ.Goals as goal
 
 pub returns : goal.returns

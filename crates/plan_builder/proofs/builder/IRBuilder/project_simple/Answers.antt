@@ -33,4 +33,4 @@ returns-clause-built c =
     subst (λ (s : Columns). Picks s c.args.names.now c.in_ok-columns.columns) c.in_ok-schema.ensures.columns c.in_ok-columns.ensures.picks
     in
     subst (λ (l : List IR). IsBuilt l ex c.in_ok-self.field-0) (sym c.in_ok-self.ensures.added)
-    (picks_follow lp ex root c.requires c.args.names.now c.in_ok-columns.columns picks some c.in_ok-self.field-0 c.in_ok-self.ensures.node)
+    (picks_follow lp ex root c.requires c.args.names.now c.in_ok-columns.columns picks some (returns-clause-fault c) c.in_ok-self.field-0 c.in_ok-self.ensures.node)
