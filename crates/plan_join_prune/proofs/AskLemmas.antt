@@ -10,7 +10,7 @@ use Rattle.plan_expr.specs.Leaves.{Name, leaves}
 use Rattle.plan_expr.proofs.ListLemmas.{flat_map-next}
 use Rattle.plan_frame.specs.ExprLists.{all_leaves}
 use Rattle.plan_join.specs.declared.origin.Side.{Side}
-use Rattle.plan_join_narrowing.specs.JoinAsked.{of_side, side_asked, side_names}
+use Rattle.plan_meaning.specs.JoinAsked.{of_side, side_asked, side_names}
 use Rattle.plan_narrowing.proofs.ListSteps.{with_names-append}
 
 -- keys

@@ -1,5 +1,5 @@
 -- The lemmas of this crate.
-mod KeyLemmas
+pub mod KeyLemmas
 mod OriginLemmas
 mod AskLemmas
 mod KeyTests

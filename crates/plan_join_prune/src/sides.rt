@@ -8,7 +8,7 @@ ghost use Rattle.plan_frame.specs.ExprLists.{all_leaves};
 ghost use Rattle.plan_ir.specs.Parts.{condition_of, list_of};
 ghost use Rattle.plan_join.specs.Naming.{has_right};
 ghost use Rattle.plan_join.specs.Told.{told_at};
-ghost use Rattle.plan_join_narrowing.specs.JoinAsked.{left_asked, needed_of, of_side, origin_of, right_asked, side_asked, side_names as names_of_side, unasked_right};
+ghost use Rattle.plan_meaning.specs.JoinAsked.{left_asked, needed_of, of_side, origin_of, right_asked, side_asked, side_names as names_of_side, unasked_right};
 ghost use Rattle.plan_meaning.specs.JoinChecks.{conditions};
 ghost use Rattle.plan_join_prune.specs.Origins.{origin_in};
 

@@ -2,7 +2,7 @@ use Rattle.std.proofs.Common.{◌≡◌, ◌∙◌, true, false, List, OnOk, ap,
 use Rattle.plan_core.specs.Names.{with_names}
 use Rattle.plan_expr.specs.Leaves.{Name}
 use Rattle.plan_join.proofs.ColumnLemmas.{found}
-use Rattle.plan_join_narrowing.specs.JoinAsked.{of_side, side_names}
+use Rattle.plan_meaning.specs.JoinAsked.{of_side, side_names}
 use Rattle.plan_join_prune.specs.Origins.{origin_in}
 use Rattle.plan_join_prune.proofs.AskLemmas.{asked-own, asked-there}
 use Rattle.plan_join_prune.proofs.sides.add_asked.Goals.{then-is_some+in_ok-add, else-is_some}

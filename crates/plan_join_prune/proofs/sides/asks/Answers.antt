@@ -4,7 +4,7 @@ use Rattle.plan_expr.specs.Leaves.{Name}
 use Rattle.plan_join.specs.declared.origin.Side.TheVariants as sides
 use Rattle.plan_join.specs.Naming.{origin}
 use Rattle.plan_join.specs.Told.{told_at}
-use Rattle.plan_join_narrowing.specs.JoinAsked.{needed_of, origin_of, side_asked}
+use Rattle.plan_meaning.specs.JoinAsked.{needed_of, origin_of, side_asked}
 use Rattle.plan_join_prune.specs.Origins.{origin_in}
 use Rattle.plan_join_prune.proofs.AskLemmas.{asked-alike}
 use Rattle.plan_join_prune.proofs.KeyLemmas.{columns_at}

@@ -3,7 +3,7 @@ use Rattle.plan_core.specs.Names.{with_names}
 use Rattle.plan_expr.specs.Exprs.{all_named_at}
 use Rattle.plan_expr.specs.Leaves.{Name}
 use Rattle.plan_frame.proofs.ScalarExprs.{item_here}
-use Rattle.plan_join_narrowing.specs.JoinAsked.{side_asked, side_names}
+use Rattle.plan_meaning.specs.JoinAsked.{side_asked, side_names}
 use Rattle.plan_join_prune.specs.Origins.{origin_in}
 use Rattle.plan_join_prune.proofs.AskLemmas.{names-next, none-asked}
 use Rattle.plan_join_prune.proofs.sides.side_names.Goals as goal

@@ -1,6 +1,6 @@
 use Rattle.std.proofs.Common.{◌≡◌, take}
 use Rattle.plan_expr.specs.Exprs.{all_named_at}
-use Rattle.plan_join_narrowing.specs.JoinAsked.{side_asked}
+use Rattle.plan_meaning.specs.JoinAsked.{side_asked}
 use Rattle.plan_join_prune.specs.Origins.{origin_in}
 use Rattle.plan_join_prune.proofs.sides.side_names.Given as goal
 
