@@ -32,7 +32,7 @@ left_closed op kids others closed = ap (λ (b : Bool). left_below b kids others)
 -- a node that goes back as it was, over what was below it
 module _ (a b : List IR) (ex : List AExpr) (n : Node) (p d : IR) (e : slice_get a n.0 ≡ Some p) (taken : b ≡ slice_set a n.0 d) where
   -- is pruned, where it is closed and would be rebuilt so
-  pub goes_back : (top : Bool) (asked : List Name) → is_closed (op_at ex p) ≡ true → is_invalid p ≡ false → ((kids : Roses (Unit {0}) Op) → rose tt (op_at ex p) kids ≡ rebuilt top asked (op_at ex p) kids) → PrunesAt top asked a (slice_set b n.0 p) ex ex n
+  pub goes_back : (top : Bool) (asked : List Name) → is_closed (op_at ex p) ≡ true → is_invalid p ≡ false → ((kids : Roses (Unit {0}) Op) → rose tt (op_at ex p) kids ≡ rebuilt top asked (op_at ex p) (stored_all kids) kids) → PrunesAt top asked a (slice_set b n.0 p) ex ex n
   goes_back top asked closed valid is t h =
       let o = opened plan_shape a n p t h e in
       let under : StandsOnce plan_shape b (inputs_of p) o.kids = rw taken (StandsOnce-set plan_shape a (inputs_of p) o.kids n.0 d o.inputs o.above) in
@@ -43,7 +43,7 @@ module _ (a b : List IR) (ex : List AExpr) (n : Node) (p d : IR) (e : slice_get 
         exprs = λ before after x. x;
         pruned =
             ap (λ r. more r no_roses) (is kids)
-            ∙ ap (λ (f : Roses (Unit {0}) Op). more (rebuilt top asked (op_at ex p) f) no_roses) (left_closed (op_at ex p) kids (pruned_all (top_below top (op_at ex p)) (asks_plans asked (op_at ex p) kids) kids) closed);
+            ∙ ap (λ (f : Roses (Unit {0}) Op). more (rebuilt top asked (op_at ex p) (stored_all kids) f) no_roses) (left_closed (op_at ex p) kids (pruned_all (top_below top (op_at ex p)) (asks_plans asked (op_at ex p) kids) kids) closed);
       })
 
   -- counts no rows, where it is closed and doesn't itself
@@ -89,7 +89,7 @@ closed_parts o u p q e = (cc, cc)
 -- a closed step is that of a closed node
 is_closed_step : (b : List IR) (ex : List AExpr) (asked : List Name) (p q : IR) (columns : Option Columns) → Closed columns q ≡ step_of b ex asked p → is_closed (op_at ex p) ≡ true
 is_closed_step b ex asked (Cache i id hits) q columns e = refl
-is_closed_step b ex asked (Join left right schema left_on right_on options) q columns e = refl
+is_closed_step b ex asked (Join left right schema left_on right_on options) q columns e = cc
 is_closed_step b ex asked (Slice j offset len) q columns e = cc
 is_closed_step b ex asked (Filter j predicate) q columns e = cc
 is_closed_step b ex asked (Scan sources info predicate output kind options) q columns e = cc
@@ -115,8 +115,7 @@ module _ (asked : List Name) (a b : List IR) (ex : List AExpr) (n : Node) (q d :
 
   closed_pruned : (p : IR) → slice_get a n.0 ≡ Some p → Closed columns q ≡ step_of b ex asked p → PrunesAt top asked a z ex ex n
   closed_pruned (Cache i id hits) e is = rw (put_closed _ _ is) (cache_covered top asked a b ex n i id hits d e taken)
-  closed_pruned (Join left right schema left_on right_on options) e is =
-      rw (put_closed _ _ is) (goes_back a b ex n (Join left right schema left_on right_on options) d e taken top asked refl refl (λ kids. refl))
+  closed_pruned (Join left right schema left_on right_on options) e is = cc
   closed_pruned (Slice j offset len) e is = cc
   closed_pruned (Filter j predicate) e is = cc
   closed_pruned (Scan sources info predicate output kind options) e is = cc

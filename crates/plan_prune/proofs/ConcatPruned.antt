@@ -36,7 +36,7 @@ length-held lp ex asked (n ∷ ns) = ap suc (length-held lp ex asked ns)
 
 -- the columns of inputs, one by one and all at once
 module _ (lp : List IR) (ex : List AExpr) where
-  columns_all : (ns : List Node) (f : Trees IR) → StandsOnce plan_shape lp ns f → map (columns_at lp ex) ns ≡ stored_all (bare (plans_of ex f))
+  pub columns_all : (ns : List Node) (f : Trees IR) → StandsOnce plan_shape lp ns f → map (columns_at lp ex) ns ≡ stored_all (bare (plans_of ex f))
   columns_all [] no_roses h = refl
   columns_all (n ∷ ns) (more (rose m p kids) rest) h =
       let one : StandsOnce plan_shape lp (n ∷ []) (more (rose m p kids) no_roses) = record {
@@ -68,7 +68,7 @@ module _ (top low : Bool) (asked : List Name) (covers : Option (List Name)) (lis
   stored [] f = refl
   stored (x ∷ names) f = refl
 
-  concat_built : (f : Trees IR) (s : StandsOnce plan_shape b inputs f) (x : PrunesEach low covers lists b c ex grown inputs f) → rose tt (op_at ex (nodes.HConcat inputs left options)) (bare (plans_of grown x.trees)) ≡ rebuilt top asked (op_at ex (nodes.HConcat inputs schema options)) (pruned_all (top_below top (op_at ex (nodes.HConcat inputs schema options))) (asks_plans asked (op_at ex (nodes.HConcat inputs schema options)) (bare (plans_of ex f))) (bare (plans_of ex f)))
+  concat_built : (f : Trees IR) (s : StandsOnce plan_shape b inputs f) (x : PrunesEach low covers lists b c ex grown inputs f) → rose tt (op_at ex (nodes.HConcat inputs left options)) (bare (plans_of grown x.trees)) ≡ rebuilt top asked (op_at ex (nodes.HConcat inputs schema options)) (stored_all (bare (plans_of ex f))) (pruned_all (top_below top (op_at ex (nodes.HConcat inputs schema options))) (asks_plans asked (op_at ex (nodes.HConcat inputs schema options)) (bare (plans_of ex f))) (bare (plans_of ex f)))
   concat_built f s x =
       let kids : Roses (Unit {0}) Op = bare (plans_of ex f) in
       let made : Roses (Unit {0}) Op = bare (plans_of grown x.trees) in

@@ -6,17 +6,17 @@ use Rattle.std.proofs.lemmas.Option.{slice_get-get_or, slice_get_within}
 use Rattle.plan_core.specs.declared.arena.Node.{Node}
 use Rattle.plan_core.specs.Columns.{Columns}
 use Rattle.plan_options.specs.declared.union.UnionOptions.{UnionOptions}
-use Rattle.plan_tree.specs.Rose.{Roses, rose, no_roses, more, join}
+use Rattle.plan_tree.specs.Rose.{Roses, rose, no_roses, more, join, levels}
+use Rattle.plan_tree.proofs.Numbers.{size-le}
 use Rattle.plan_tree.specs.Stands.{Trees, Stands, StandsOnce, Rewrites}
-use Rattle.plan_tree.proofs.TreeLemmas.{opened, nth, Stands-nth, Stands-unique}
+use Rattle.plan_tree.proofs.TreeLemmas.{opened, nth, height, height_at, height-is, levels-le-size, levels-nth, tallest, tallest-is, Stands-nth}
 use Rattle.plan_tree.proofs.ReadLemmas.{trees_at-is}
-use Rattle.plan_tree.proofs.Frames.{front, front-more, front-all, front-none, Rewrites-refl, Rewrites-trans, Rewrites-next, Rewrites-back, StandsOnce-set, StandsOnce-next, descend}
+use Rattle.plan_tree.proofs.Frames.{front, front-more, front-all, front-none, Rewrites-refl, Rewrites-trans, Rewrites-next, Rewrites-back, StandsOnce-set, StandsOnce-next}
 use Rattle.plan_expr.specs.declared.aexpr.AExpr.{AExpr}
 use Rattle.plan_ir.specs.declared.ir.IR.{IR}
 use Rattle.plan_ir.specs.declared.ir.IR.TheVariants as nodes
 use Rattle.plan_ir.specs.Parts.{plan_shape, inputs_of, is_invalid, roots_of, roots_in, IsPlan}
 use Rattle.plan_ir.specs.Plans.{Op, op_at, plans_of, bare}
-use Rattle.plan_ir.proofs.PlanLemmas.{plan_down}
 use Rattle.plan_expr.specs.Leaves.{Name}
 use Rattle.plan_meaning.specs.Typing.{first_schema}
 use Rattle.plan_meaning.specs.Counting.{is_closed, is_count, meet_count}
@@ -25,13 +25,17 @@ use Rattle.plan_schema.specs.Stored.{stored_all}
 use Rattle.plan_narrowing.proofs.ListSteps.{take-next}
 use Rattle.plan_narrowing.proofs.UnionNarrows.{covered_none}
 use Rattle.plan_renamed.specs.Renamed.{IsLonger}
-use Rattle.plan_prune.specs.Prunes.{StandExprs, TakePlace, Prunes, PrunesEach, PrunesUnder, MarksAt, covered_by}
+use Rattle.plan_prune.specs.Prunes.{AreInputs, InputsPruned, StandExprs, TakePlace, Prunes, PrunesEach, PrunesUnder, MarksAt, covered_by}
 use Rattle.plan_prune.specs.Scans.{covered_at, with_top}
 use Rattle.plan_prune.specs.Steps.{columns_at, covering}
 use Rattle.plan_prune.proofs.LongerLemmas.{below_exprs, exprs_longer, first_exprs, last_exprs, longer_same, longer_trans, op_longer, own_exprs, plan_trees, plans_longer}
 use Rattle.plan_prune.proofs.PlaceLemmas.{place_alone, place_equal, place_both, place_before, place_trans}
-use Rattle.plan_prune.proofs.PruneLemmas.{Asks, goes_under, left_open, under}
-use Rattle.plan_prune.proofs.JoinPruned.{or_assoc, plans-join, roots-join, meet-join, covered_by-join, lists_after, names_after, one_pruned, pruned-join, several_pruned}
+use Rattle.plan_prune.proofs.PruneLemmas.{goes_under, left_open, under}
+use Rattle.plan_prune.proofs.SidePlans.{or_assoc, plans-join, roots-join, meet-join, covered_by-join, lists_after, names_after, one_pruned, pruned-join, several_pruned}
+
+-- the height of what stands over numbers
+pub tall : (a : List IR) (ns : List Node) (f : Trees IR) → StandsOnce plan_shape a ns f → tallest plan_shape (height plan_shape (length a) a) ns ≡ levels f
+tall a ns f h = tallest-is plan_shape (length a) a ns f h.stands (omega (arith, levels-le-size plan_shape f, size-le plan_shape a ns f h))
 
 -- nothing pruned yet
 
@@ -139,27 +143,6 @@ one_covered top asked (w ∷ names) b c d ex grown n q t e is x =
     covered_with : Columns → Roses (Unit {0}) Op → Roses (Unit {0}) Op
     covered_with s plans = more (rose tt (op_at grown (nodes.SimpleProjection n (typed_names s (w ∷ names)))) plans) no_roses
 
--- what a call on one of the inputs of a node asks, once the node is taken and the inputs before that are pruned
-pub each_asks : (a b c : List IR) (ex grown : List AExpr) (n i : Node) (p d : IR) (j : ℕ) (h : IsPlan a ex n) → IsLonger ex grown → slice_get a n.0 ≡ Some p → b ≡ slice_set a n.0 d → slice_get (inputs_of p) j ≡ Some i → ((kids : Trees IR) → StandsOnce plan_shape b (inputs_of p) kids → StandExprs ex (roots_in kids) → (g : Trees IR) × Rewrites plan_shape b c (take j (inputs_of p)) (front plan_shape kids j) g) → Asks a c grown n i
-each_asks a b c ex grown n i p d j h longer e taken k done =
-    let down = plan_down a ex n p h e j i k in
-    let plan = down.1 in
-    let o = opened plan_shape a n p h.nodes h.stands.nodes e in
-    let under : StandsOnce plan_shape b (inputs_of p) o.kids = rw taken (StandsOnce-set plan_shape a (inputs_of p) o.kids n.0 d o.inputs o.above) in
-    let stand : StandExprs ex (roots_in o.kids) = below_exprs ex p o.kids no_roses (rw o.is at (plan_trees a ex n h.nodes h h.stands.nodes)) in
-    let x = done o.kids under stand in
-    let s = StandsOnce-next plan_shape b c (inputs_of p) i j o.kids x.0 under k x.1 in
-    let same : plan.nodes ≡ nth plan_shape o.kids j = Stands-unique plan_shape a (i ∷ []) plan.nodes (nth plan_shape o.kids j) plan.stands.nodes.stands (Stands-nth plan_shape a (inputs_of p) o.kids j i o.inputs.stands k) in
-    let exprs = exprs_longer ex grown longer (roots_in plan.nodes) (plan.exprs, plan.stands.exprs) in
-    record {
-      falls = descend plan_shape a c n i p h.nodes j h.stands.nodes o s;
-      plan = record {
-        nodes = plan.nodes;
-        exprs = exprs.0;
-        stands = record { nodes = subst (λ (t : Trees IR). StandsOnce plan_shape c (i ∷ []) t) (sym same) s; exprs = exprs.1 };
-      };
-    }
-
 -- what a union asks its inputs and puts on top of them, by their numbers and by their plans
 pub alike_at : (lp : List IR) (ex : List AExpr) (ns : List Node) (f : Trees IR) (asked : List Name) → Stands plan_shape lp ns f → names_alike asked ns ≡ names_alike asked (stored_all (bare (plans_of ex f)))
 alike_at lp ex [] no_roses asked s = refl
@@ -177,7 +160,7 @@ covering_at lp ex (n ∷ []) (more (rose m p kids) (more (rose m1 p1 kids1) rest
 covering_at lp ex (n ∷ n1 ∷ ns) (more (rose m p kids) no_roses) asked plans s = absurd s.4
 
 -- from the inputs of a node to the node, which is put back over them, once all are pruned
-pub each_finish : (top low : Bool) (asked : List Name) (covers : Option (List Name)) (lists : List (List Name)) (a b c z : List IR) (ex grown : List AExpr) (n : Node) (p q d : IR) (t : Trees IR) → IsLonger ex grown → StandsOnce plan_shape a (n ∷ []) t → StandExprs ex (roots_in t) → slice_get a n.0 ≡ Some p → b ≡ slice_set a n.0 d → z ≡ slice_set c n.0 q → inputs_of q ≡ inputs_of p → is_invalid q ≡ false → TakePlace ex ex (roots_of q) (roots_of p) → is_closed (op_at ex p) ≡ false → ((kids : Trees IR) → StandsOnce plan_shape b (inputs_of p) kids → StandExprs ex (roots_in kids) → (x : PrunesEach low covers lists b c ex grown (inputs_of p) kids) × (rose tt (op_at ex q) (bare (plans_of grown x.trees)) ≡ rebuilt top asked (op_at ex p) (pruned_all (top_below top (op_at ex p)) (asks_plans asked (op_at ex p) (bare (plans_of ex kids))) (bare (plans_of ex kids))))) → Prunes top asked a z ex grown n t
+pub each_finish : (top low : Bool) (asked : List Name) (covers : Option (List Name)) (lists : List (List Name)) (a b c z : List IR) (ex grown : List AExpr) (n : Node) (p q d : IR) (t : Trees IR) → IsLonger ex grown → StandsOnce plan_shape a (n ∷ []) t → StandExprs ex (roots_in t) → slice_get a n.0 ≡ Some p → b ≡ slice_set a n.0 d → z ≡ slice_set c n.0 q → inputs_of q ≡ inputs_of p → is_invalid q ≡ false → TakePlace ex ex (roots_of q) (roots_of p) → is_closed (op_at ex p) ≡ false → ((kids : Trees IR) → StandsOnce plan_shape b (inputs_of p) kids → StandExprs ex (roots_in kids) → (x : PrunesEach low covers lists b c ex grown (inputs_of p) kids) × (rose tt (op_at ex q) (bare (plans_of grown x.trees)) ≡ rebuilt top asked (op_at ex p) (stored_all (bare (plans_of ex kids))) (pruned_all (top_below top (op_at ex p)) (asks_plans asked (op_at ex p) (bare (plans_of ex kids))) (bare (plans_of ex kids))))) → Prunes top asked a z ex grown n t
 each_finish top low asked covers lists a b c z ex grown n p q d t longer h s e taken put same valid roots opens below =
     let o = opened plan_shape a n p t h e in
     let under : StandsOnce plan_shape b (inputs_of p) o.kids = rw taken (StandsOnce-set plan_shape a (inputs_of p) o.kids n.0 d o.inputs o.above) in
@@ -193,7 +176,7 @@ each_finish top low asked covers lists a b c z ex grown n p q d t longer h s e t
       pruned =
           ap (λ (o : Op). more (rose tt o (bare (plans_of grown x.trees))) no_roses) same_op
           ∙ ap (λ r. more r no_roses) made.1
-          ∙ ap (λ (f : Roses (Unit {0}) Op). more (rebuilt top asked (op_at ex p) f) no_roses) (left_open (op_at ex p) kids (pruned_all (top_below top (op_at ex p)) (asks_plans asked (op_at ex p) kids) kids) opens);
+          ∙ ap (λ (f : Roses (Unit {0}) Op). more (rebuilt top asked (op_at ex p) (stored_all kids) f) no_roses) (left_open (op_at ex p) kids (pruned_all (top_below top (op_at ex p)) (asks_plans asked (op_at ex p) kids) kids) opens);
     })
 
 -- a union stays over its inputs, once all are pruned
@@ -201,7 +184,7 @@ module _ (top low : Bool) (asked : List Name) (covers : Option (List Name)) (lis
   abbrev whole : IR
   whole = nodes.Union inputs options
 
-  union_built : (f : Trees IR) (s : StandsOnce plan_shape b inputs f) (x : PrunesEach low covers lists b c ex grown inputs f) → rose tt (op_at ex (nodes.Union inputs options)) (bare (plans_of grown x.trees)) ≡ rebuilt top asked (op_at ex (nodes.Union inputs options)) (pruned_all (top_below top (op_at ex (nodes.Union inputs options))) (asks_plans asked (op_at ex (nodes.Union inputs options)) (bare (plans_of ex f))) (bare (plans_of ex f)))
+  union_built : (f : Trees IR) (s : StandsOnce plan_shape b inputs f) (x : PrunesEach low covers lists b c ex grown inputs f) → rose tt (op_at ex (nodes.Union inputs options)) (bare (plans_of grown x.trees)) ≡ rebuilt top asked (op_at ex (nodes.Union inputs options)) (stored_all (bare (plans_of ex f))) (pruned_all (top_below top (op_at ex (nodes.Union inputs options))) (asks_plans asked (op_at ex (nodes.Union inputs options)) (bare (plans_of ex f))) (bare (plans_of ex f)))
   union_built f s x =
       let kids : Roses (Unit {0}) Op = bare (plans_of ex f) in
       let under : Bool = top_below top (op_at ex whole) in
@@ -296,11 +279,33 @@ so_far_next before between after covers lists names a b c ex mid grown ns n j e 
   longer = longer_trans ex mid grown x.longer longer;
 }
 
+-- what a call on the next input asks
+pub record AsksNext (a b : List IR) (ex : List AExpr) (ns : List Node) (i : Node) : Type 0 where
+  pub low : height_at plan_shape b i ≤ tallest plan_shape (height plan_shape (length a) a) ns
+  pub plan : IsPlan b ex i
+
+pub next_asks : (before after : Bool) (covers : Option (List Name)) (lists : List (List Name)) (a b : List IR) (ex grown : List AExpr) (ns : List Node) (i : Node) (j : ℕ) → AreInputs a ex ns → slice_get ns j ≡ Some i → SoFar before after covers lists a b ex grown ns j → AsksNext a b grown ns i
+next_asks before after covers lists a b ex grown ns i j inputs at x =
+    let f : Trees IR = inputs.0 in
+    let h : StandsOnce plan_shape a ns f = inputs.1 in
+    let s : StandExprs ex (roots_in f) = inputs.2 in
+    let done = x.prunes f h s in
+    let under : StandsOnce plan_shape b (i ∷ []) (nth plan_shape f j) = StandsOnce-next plan_shape a b ns i j f done.trees h at done.rewrites in
+    let exprs : StandExprs grown (roots_in (nth plan_shape f j)) = exprs_longer ex grown x.longer (roots_in (nth plan_shape f j)) (next_exprs a ex ns i j f h.stands at s) in
+    let own : height_at plan_shape b i ≡ levels (nth plan_shape f j) = height-is plan_shape b i (nth plan_shape f j) under in
+    record {
+      low = omega (arith, own, tall a ns f h, levels-nth plan_shape f j);
+      plan = record { nodes = nth plan_shape f j; exprs = exprs.0; stands = record { nodes = under; exprs = exprs.1 } };
+    }
+
 -- all inputs, once the last was passed
-pub so_far_all : (before after : Bool) (covers : Option (List Name)) (lists : List (List Name)) (a b : List IR) (ex grown : List AExpr) (ns : List Node) (j : ℕ) → length ns ≤ j → SoFar before after covers lists a b ex grown ns j → (f : Trees IR) → StandsOnce plan_shape a ns f → StandExprs ex (roots_in f) → PrunesEach (not before) covers lists a b ex grown ns f × (after ≡ (before || meet_count (bare (plans_of ex f))))
-so_far_all before after covers lists a b ex grown ns j past x f h s =
-    let all : front plan_shape f j ≡ f = front-all plan_shape a ns f j h.stands past in
-    let whole : take j ns ≡ ns = take_all j ns past in (
-      subst (λ (l : List Node). PrunesEach (not before) covers lists a b ex grown l f) whole (subst (λ (t : Trees IR). PrunesEach (not before) covers lists a b ex grown (take j ns) t) all (x.prunes f h s)),
-      x.marks f h s ∙ ap (λ (t : Trees IR). before || meet_count (bare (plans_of ex t))) all,
-    )
+pub so_far_all : (before after : Bool) (covers : Option (List Name)) (lists : List (List Name)) (a b : List IR) (ex grown : List AExpr) (ns : List Node) (j : ℕ) → length ns ≤ j → SoFar before after covers lists a b ex grown ns j → InputsPruned before after covers lists a b ex grown ns
+so_far_all before after covers lists a b ex grown ns j past x = record {
+  prunes = λ f h s.
+      let all : front plan_shape f j ≡ f = front-all plan_shape a ns f j h.stands past in
+      let whole : take j ns ≡ ns = take_all j ns past in
+      subst (λ (l : List Node). PrunesEach (not before) covers lists a b ex grown l f) whole (subst (λ (t : Trees IR). PrunesEach (not before) covers lists a b ex grown (take j ns) t) all (x.prunes f h s));
+  marks = λ f h s.
+      let all : front plan_shape f j ≡ f = front-all plan_shape a ns f j h.stands past in
+      x.marks f h s ∙ ap (λ (t : Trees IR). before || meet_count (bare (plans_of ex t))) all;
+}

@@ -55,7 +55,7 @@ module _ (top low : Bool) (asked names : List Name) (a b c : List IR) (ex grown 
   placed true [] some kept =
       let after = stands_after low names b c ex grown i (stands_taken a b n i (HStack i es schema options) d t h e taken refl) below in
       moves_up top low asked names a b c ex grown n i (HStack i es schema options) (unwrap_or (slice_get c i.0) Invalid) d Invalid t h e taken refl (found c i.0 (is_entry c i after)) refl low_is (one_list asks_is)
-      (λ f. hstack_gone ex asked es [] schema options f kept (sym some) refl) below
+      (λ ss f. hstack_gone ex asked es [] schema options f kept (sym some) refl) below
   placed true (x ∷ ks) some kept =
       back (x ∷ ks) (with_typed columns (names_at (x ∷ ks)) schema) kept (λ y z. absurd (omega (arith, z))) (ap (λ (s : Bool). stored_after s columns (names_at (x ∷ ks)) schema) some)
 

@@ -7,10 +7,12 @@ mod StandInLemmas
 mod ExprWalks
 mod HStackPruned
 mod AlikeLemmas
-mod JoinPruned
+mod SidePlans
 mod EachLemmas
 mod GroupPruned
 mod ConcatPruned
 mod ClosedPruned
+mod JoinParts
+mod JoinPruned
 mod StepLemmas
 pub mod PlanPruned

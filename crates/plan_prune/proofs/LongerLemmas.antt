@@ -15,6 +15,7 @@ use Rattle.plan_expr.specs.declared.expr_ir.ExprIR.{ExprIR}
 use Rattle.plan_expr.specs.Operands.{expr_shape}
 use Rattle.plan_expr.specs.Exprs.{Expr, Named, all_named_at, expr_at, exprs_at, named_at}
 use Rattle.plan_expr.proofs.ExprLemmas.{exprs_at-is}
+use Rattle.plan_join.specs.declared.options.JoinOptions.{JoinOptions}
 use Rattle.plan_join.specs.declared.options.JoinTypeOptionsIR.{JoinTypeOptionsIR}
 use Rattle.plan_join.specs.declared.options.JoinTypeOptionsIR.TheVariants.{IEJoin, Cross}
 use Rattle.plan_join.specs.Told.{KindOptions, Told, condition, kind_options_at}
@@ -64,7 +65,8 @@ all_second P (x ∷ xs) ys a = all_second P xs ys a.1
 
 -- an arena that grew
 module _ (ex grown : List AExpr) (longer : IsLonger ex grown) where
-  trees_longer : (ns : List Node) (e : Trees AExpr) → StandsOnce expr_shape ex ns e → StandsOnce expr_shape grown ns e
+  -- trees stand on
+  pub trees_longer : (ns : List Node) (e : Trees AExpr) → StandsOnce expr_shape ex ns e → StandsOnce expr_shape grown ns e
   trees_longer ns e h = record {
     stands = Stands-kept expr_shape ex grown ns e h.stands (λ k r. ap (λ (l : List AExpr). slice_get l k) longer.1 ∙ slice_get-append expr_shape ex longer.0 k (Reaches-within expr_shape ex ns e k h.stands r));
     once = h.once;
@@ -102,6 +104,18 @@ module _ (ex grown : List AExpr) (longer : IsLonger ex grown) where
   told_same (Some (IEJoin operators)) same = refl
   told_same (Some (Cross predicate)) same = ap (λ (n : Named). Some (condition n)) (named_same predicate same.0)
 
+  -- so are the keys of a join, and its condition
+  join_same : (left_on right_on : List ExprIR) (options : JoinOptions) → AllByRecursion Same (map (λ (e : ExprIR). e.node) ((left_on ++ right_on) ++ list_of (condition_of options))) → (all_named_at grown left_on ≡ all_named_at ex left_on) × (all_named_at grown right_on ≡ all_named_at ex right_on) × (option_map (kind_options_at grown) options.options ≡ option_map (kind_options_at ex) options.options)
+  join_same left_on right_on options same =
+      let cs = list_of (condition_of options) in
+      let number = λ (e : ExprIR). e.node in
+      let all : AllByRecursion Same (map number (left_on ++ right_on) ++ map number cs) = rw (← map-append number (left_on ++ right_on) cs) same in
+      let keys = two_same left_on right_on (all_first Same (map number (left_on ++ right_on)) (map number cs) all) in
+      (keys.0, keys.1, told_same options.options (all_second Same (map number (left_on ++ right_on)) (map number cs) all))
+
+  pub join_longer : (left_on right_on : List ExprIR) (options : JoinOptions) → StandExprs ex (map (λ (e : ExprIR). e.node) ((left_on ++ right_on) ++ list_of (condition_of options))) → (all_named_at grown left_on ≡ all_named_at ex left_on) × (all_named_at grown right_on ≡ all_named_at ex right_on) × (option_map (kind_options_at grown) options.options ≡ option_map (kind_options_at ex) options.options)
+  join_longer left_on right_on options h = join_same left_on right_on options (all_same (map (λ (e : ExprIR). e.node) ((left_on ++ right_on) ++ list_of (condition_of options))) h)
+
   op_same : (p : IR) → AllByRecursion Same (roots_of p) → op_at grown p ≡ op_at ex p
   op_same (Slice input offset len) same = refl
   op_same (Filter input predicate) same = ap filter (named_same predicate same.0)
@@ -116,13 +130,9 @@ module _ (ex grown : List AExpr) (longer : IsLonger ex grown) where
       let parts = two_same keys aggs same in
       ap₂ (λ (ks others : List Named). group_by ks others schema maintain_order options) parts.0 parts.1
   op_same (Join input_left input_right schema left_on right_on options) same =
-      let cs = list_of (condition_of options) in
-      let number = λ (e : ExprIR). e.node in
-      let all : AllByRecursion Same (map number (left_on ++ right_on) ++ map number cs) = rw (← map-append number (left_on ++ right_on) cs) same in
-      let keys = two_same left_on right_on (all_first Same (map number (left_on ++ right_on)) (map number cs) all) in
-      let told = told_same options.options (all_second Same (map number (left_on ++ right_on)) (map number cs) all) in
-      ap₂ (λ (ls rs : List Named). join ls rs schema (told_with grown)) keys.0 keys.1
-      ∙ ap (λ (o : Option KindOptions). join (all_named_at ex left_on) (all_named_at ex right_on) schema (told_as o)) told
+      let parts = join_same left_on right_on options same in
+      ap₂ (λ (ls rs : List Named). join ls rs schema (told_with grown)) parts.0 parts.1
+      ∙ ap (λ (o : Option KindOptions). join (all_named_at ex left_on) (all_named_at ex right_on) schema (told_as o)) parts.2
     where
       told_as : Option KindOptions → Told
       told_as o = record { allow_parallel = options.allow_parallel; force_parallel = options.force_parallel; args = options.args; options = o }

@@ -29,6 +29,7 @@ use Rattle.plan_ir.proofs.PlanLemmas.{plan_down}
 use Rattle.plan_core.specs.Names.{with_names, with_name}
 use Rattle.plan_expr.specs.Leaves.{Name, leaves}
 use Rattle.plan_meaning.specs.Counting.{is_closed}
+use Rattle.plan_schema.specs.Stored.{stored_all}
 use Rattle.plan_narrowing.specs.Pruned.{asks_plans, left_below, rebuilt, top_below, pruned_all, typed_names}
 use Rattle.plan_meaning.specs.PlanAt.{one_plan}
 use Rattle.plan_narrowing.proofs.ListSteps.{with_names-append}
@@ -88,7 +89,7 @@ pub left_open : (op : Op) (kids others : Roses (Unit {0}) Op) → is_closed op �
 left_open op kids others opens = ap (λ (b : Bool). left_below b kids others) (sym opens)
 
 -- from the input of a node to the node, which goes back over the same input
-pub finish : (top low : Bool) (asked names : List Name) (a b c : List IR) (ex grown : List AExpr) (n i : Node) (p q d : IR) (t : Trees IR) → IsLonger ex grown → StandsOnce plan_shape a (n ∷ []) t → StandExprs ex (roots_in t) → slice_get a n.0 ≡ Some p → b ≡ slice_set a n.0 d → inputs_of p ≡ i ∷ [] → inputs_of q ≡ inputs_of p → is_invalid q ≡ false → TakePlace ex ex (roots_of q) (roots_of p) → is_closed (op_at ex p) ≡ false → low ≡ top_below top (op_at ex p) → names ∷ [] ≡ asks_plans asked (op_at ex p) (bare (plans_at b ex (i ∷ []))) → rose tt (op_at ex q) (bare (plans_at c grown (i ∷ []))) ≡ rebuilt top asked (op_at ex p) (bare (plans_at c grown (i ∷ []))) → PrunesAt low names b c ex grown i → Prunes top asked a (slice_set c n.0 q) ex grown n t
+pub finish : (top low : Bool) (asked names : List Name) (a b c : List IR) (ex grown : List AExpr) (n i : Node) (p q d : IR) (t : Trees IR) → IsLonger ex grown → StandsOnce plan_shape a (n ∷ []) t → StandExprs ex (roots_in t) → slice_get a n.0 ≡ Some p → b ≡ slice_set a n.0 d → inputs_of p ≡ i ∷ [] → inputs_of q ≡ inputs_of p → is_invalid q ≡ false → TakePlace ex ex (roots_of q) (roots_of p) → is_closed (op_at ex p) ≡ false → low ≡ top_below top (op_at ex p) → names ∷ [] ≡ asks_plans asked (op_at ex p) (bare (plans_at b ex (i ∷ []))) → rose tt (op_at ex q) (bare (plans_at c grown (i ∷ []))) ≡ rebuilt top asked (op_at ex p) (stored_all (bare (plans_at b ex (i ∷ [])))) (bare (plans_at c grown (i ∷ []))) → PrunesAt low names b c ex grown i → Prunes top asked a (slice_set c n.0 q) ex grown n t
 finish top low asked names a b c ex grown n i p q d t longer h s e taken one same valid roots opens low_is asks_is built below =
     let o = opened plan_shape a n p t h e in
     let under : StandsOnce plan_shape b (inputs_of p) o.kids = rw taken (StandsOnce-set plan_shape a (inputs_of p) o.kids n.0 d o.inputs o.above) in
@@ -96,6 +97,7 @@ finish top low asked names a b c ex grown n i p q d t longer h s e taken one sam
     let x = below o.kids at_input in
     let inside : Rewrites plan_shape b c (inputs_of p) o.kids x.trees = subst (λ (ns : List Node). Rewrites plan_shape b c ns o.kids x.trees) (sym one) x.rewrites in
     let kids : Roses (Unit {0}) Op = bare (plans_of ex o.kids) in
+    let said : List Columns = stored_all (bare (plans_at b ex (i ∷ []))) in
     let before : bare (plans_at b ex (i ∷ [])) ≡ kids = ap (λ (u : Trees IR). bare (plans_of ex u)) (trees_at-is plan_shape b (i ∷ []) o.kids at_input) in
     let after : bare (plans_at c grown (i ∷ [])) ≡ bare (plans_of grown x.trees) = ap (λ (u : Trees IR). bare (plans_of grown u)) (trees_at-is plan_shape c (i ∷ []) x.trees x.rewrites.stands) in
     let own : StandExprs ex (roots_of p) = own_exprs ex p o.kids no_roses (rw o.is at s) in
@@ -106,15 +108,15 @@ finish top low asked names a b c ex grown n i p q d t longer h s e taken one sam
       exprs = place_both ex ex grown (roots_of q) (roots_of p) (roots_in x.trees ++ []) (roots_in o.kids ++ []) roots (place_before ex grown [] (roots_in x.trees) (roots_in o.kids) x.exprs);
       pruned =
           ap (λ (o : Op). more (rose tt o (bare (plans_of grown x.trees))) no_roses) same_op
-          ∙ ap (λ r. more r no_roses) (subst (λ (f : Roses (Unit {0}) Op). rose tt (op_at ex q) f ≡ rebuilt top asked (op_at ex p) f) after built)
-          ∙ ap (λ (f : Roses (Unit {0}) Op). more (rebuilt top asked (op_at ex p) f) no_roses) x.pruned
-          ∙ ap₂ (λ (w : Bool) (l : List (List Name)). more (rebuilt top asked (op_at ex p) (pruned_all w l kids)) no_roses) low_is asks_is
-          ∙ ap (λ (f : Roses (Unit {0}) Op). more (rebuilt top asked (op_at ex p) (pruned_all (top_below top (op_at ex p)) (asks_plans asked (op_at ex p) f) kids)) no_roses) before
-          ∙ ap (λ (f : Roses (Unit {0}) Op). more (rebuilt top asked (op_at ex p) f) no_roses) (left_open (op_at ex p) kids (pruned_all (top_below top (op_at ex p)) (asks_plans asked (op_at ex p) kids) kids) opens);
+          ∙ ap (λ r. more r no_roses) (subst (λ (f : Roses (Unit {0}) Op). rose tt (op_at ex q) f ≡ rebuilt top asked (op_at ex p) said f) after built)
+          ∙ ap (λ (f : Roses (Unit {0}) Op). more (rebuilt top asked (op_at ex p) said f) no_roses) x.pruned
+          ∙ ap₂ (λ (w : Bool) (l : List (List Name)). more (rebuilt top asked (op_at ex p) said (pruned_all w l kids)) no_roses) low_is asks_is
+          ∙ ap (λ (f : Roses (Unit {0}) Op). more (rebuilt top asked (op_at ex p) (stored_all f) (pruned_all (top_below top (op_at ex p)) (asks_plans asked (op_at ex p) f) kids)) no_roses) before
+          ∙ ap (λ (f : Roses (Unit {0}) Op). more (rebuilt top asked (op_at ex p) (stored_all kids) f) no_roses) (left_open (op_at ex p) kids (pruned_all (top_below top (op_at ex p)) (asks_plans asked (op_at ex p) kids) kids) opens);
     })
 
 -- from the input of a node to the node, where what stands at the input's number takes its place
-pub moves_up : (top low : Bool) (asked names : List Name) (a b c : List IR) (ex grown : List AExpr) (n i : Node) (p q d m : IR) (t : Trees IR) → StandsOnce plan_shape a (n ∷ []) t → slice_get a n.0 ≡ Some p → b ≡ slice_set a n.0 d → inputs_of p ≡ i ∷ [] → slice_get c i.0 ≡ Some q → is_closed (op_at ex p) ≡ false → low ≡ top_below top (op_at ex p) → names ∷ [] ≡ asks_plans asked (op_at ex p) (bare (plans_at b ex (i ∷ []))) → ((f : Roses (Unit {0}) Op) → one_plan f ≡ rebuilt top asked (op_at ex p) f) → PrunesAt low names b c ex grown i → Prunes top asked a (slice_set (slice_set c i.0 m) n.0 q) ex grown n t
+pub moves_up : (top low : Bool) (asked names : List Name) (a b c : List IR) (ex grown : List AExpr) (n i : Node) (p q d m : IR) (t : Trees IR) → StandsOnce plan_shape a (n ∷ []) t → slice_get a n.0 ≡ Some p → b ≡ slice_set a n.0 d → inputs_of p ≡ i ∷ [] → slice_get c i.0 ≡ Some q → is_closed (op_at ex p) ≡ false → low ≡ top_below top (op_at ex p) → names ∷ [] ≡ asks_plans asked (op_at ex p) (bare (plans_at b ex (i ∷ []))) → ((ss : List Columns) (f : Roses (Unit {0}) Op) → one_plan f ≡ rebuilt top asked (op_at ex p) ss f) → PrunesAt low names b c ex grown i → Prunes top asked a (slice_set (slice_set c i.0 m) n.0 q) ex grown n t
 moves_up top low asked names a b c ex grown n i p q d m t h e taken one entry opens low_is asks_is built below =
     let o = opened plan_shape a n p t h e in
     let under : StandsOnce plan_shape b (inputs_of p) o.kids = rw taken (StandsOnce-set plan_shape a (inputs_of p) o.kids n.0 d o.inputs o.above) in
@@ -122,6 +124,7 @@ moves_up top low asked names a b c ex grown n i p q d m t h e taken one entry op
     let x = below o.kids at_input in
     let y = opened plan_shape c i q x.trees x.rewrites.stands entry in
     let kids : Roses (Unit {0}) Op = bare (plans_of ex o.kids) in
+    let said : List Columns = stored_all (bare (plans_at b ex (i ∷ []))) in
     let before : bare (plans_at b ex (i ∷ [])) ≡ kids = ap (λ (u : Trees IR). bare (plans_of ex u)) (trees_at-is plan_shape b (i ∷ []) o.kids at_input) in
     let whole : Trees IR = more (rose n p o.kids) no_roses in
     let long : length b ≡ length a = rw taken (length-set a n.0 d) in
@@ -137,11 +140,11 @@ moves_up top low asked names a b c ex grown n i p q d m t h e taken one entry op
           (place_trans ex ex grown (roots_of q ++ (roots_in y.kids ++ [])) (roots_in o.kids) (roots_in o.kids ++ []) there (place_equal ex (roots_in o.kids) (roots_in o.kids ++ []) (sym (append-nil (roots_in o.kids)))));
       pruned =
           ap (λ (u : Trees IR). more (one_plan (bare (plans_of grown u))) no_roses) (sym y.is)
-          ∙ ap (λ r. more r no_roses) (built (bare (plans_of grown x.trees)))
-          ∙ ap (λ (f : Roses (Unit {0}) Op). more (rebuilt top asked (op_at ex p) f) no_roses) x.pruned
-          ∙ ap₂ (λ (w : Bool) (l : List (List Name)). more (rebuilt top asked (op_at ex p) (pruned_all w l kids)) no_roses) low_is asks_is
-          ∙ ap (λ (f : Roses (Unit {0}) Op). more (rebuilt top asked (op_at ex p) (pruned_all (top_below top (op_at ex p)) (asks_plans asked (op_at ex p) f) kids)) no_roses) before
-          ∙ ap (λ (f : Roses (Unit {0}) Op). more (rebuilt top asked (op_at ex p) f) no_roses) (left_open (op_at ex p) kids (pruned_all (top_below top (op_at ex p)) (asks_plans asked (op_at ex p) kids) kids) opens);
+          ∙ ap (λ r. more r no_roses) (built said (bare (plans_of grown x.trees)))
+          ∙ ap (λ (f : Roses (Unit {0}) Op). more (rebuilt top asked (op_at ex p) said f) no_roses) x.pruned
+          ∙ ap₂ (λ (w : Bool) (l : List (List Name)). more (rebuilt top asked (op_at ex p) said (pruned_all w l kids)) no_roses) low_is asks_is
+          ∙ ap (λ (f : Roses (Unit {0}) Op). more (rebuilt top asked (op_at ex p) (stored_all f) (pruned_all (top_below top (op_at ex p)) (asks_plans asked (op_at ex p) f) kids)) no_roses) before
+          ∙ ap (λ (f : Roses (Unit {0}) Op). more (rebuilt top asked (op_at ex p) (stored_all kids) f) no_roses) (left_open (op_at ex p) kids (pruned_all (top_below top (op_at ex p)) (asks_plans asked (op_at ex p) kids) kids) opens);
     })
 
 -- what stands at the inputs of a node, once the node is taken, and at its input once that is pruned
@@ -175,12 +178,11 @@ no_trees lp (more (rose n p kids) rest) h = absurd h
 abbrev pub under : Node → Node → Columns → IR → Trees IR → Trees IR
 under n m cs q kids = more (rose n (nodes.SimpleProjection m cs) (more (rose m q kids) no_roses)) no_roses
 
--- a node that was taken goes to a new number, over what was below it, and a projection on top takes its number
-pub goes_under : (a b : List IR) (n : Node) (p q d : IR) (kids : Trees IR) (cs : Columns) → StandsOnce plan_shape a (n ∷ []) (more (rose n p kids) no_roses) → b ≡ slice_set a n.0 d → inputs_of q ≡ inputs_of p → is_invalid q ≡ false → Rewrites plan_shape a (with_top cs b n q) (n ∷ []) (more (rose n p kids) no_roses) (under n (record { 0 = length b }) cs q kids)
-goes_under a b n p q d kids cs h taken same valid =
+-- a node that was taken goes to a new number, over what was below it, and a node on top takes its number
+pub goes_beneath : (a b : List IR) (n : Node) (p q d above : IR) (kids : Trees IR) → StandsOnce plan_shape a (n ∷ []) (more (rose n p kids) no_roses) → b ≡ slice_set a n.0 d → inputs_of q ≡ inputs_of p → is_invalid q ≡ false → inputs_of above ≡ record { 0 = length b } ∷ [] → is_invalid above ≡ false → Rewrites plan_shape a (slice_set (b ++ q ∷ []) n.0 above) (n ∷ []) (more (rose n p kids) no_roses) (more (rose n above (more (rose (record { 0 = length b }) q kids) no_roses)) no_roses)
+goes_beneath a b n p q d above kids h taken same valid one good =
     let m : Node = record { 0 = length b } in
     let c : List IR = b ++ q ∷ [] in
-    let above : IR = nodes.SimpleProjection m cs in
     let whole : Trees IR = more (rose n p kids) no_roses in
     let below : Trees IR = more (rose m q kids) no_roses in
     let long : length b ≡ length a = rw taken (length-set a n.0 d) in
@@ -196,7 +198,11 @@ goes_under a b n p q d kids cs h taken same valid =
       | inl u ↦ inr (omega arith)
       | inr v ↦ elim v as (λ _. Reaches kids k ⊎ (length a ≤ k)) [ inl w ↦ inl w | inr w ↦ absurd w ]
     ] in
-    Rewrites-above plan_shape a c n p above kids below h keeps stands new refl
+    Rewrites-above plan_shape a c n p above kids below h keeps (subst (λ (ns : List Node). StandsOnce plan_shape c ns below) (sym one) stands) new good
+
+-- so it does under a projection
+pub goes_under : (a b : List IR) (n : Node) (p q d : IR) (kids : Trees IR) (cs : Columns) → StandsOnce plan_shape a (n ∷ []) (more (rose n p kids) no_roses) → b ≡ slice_set a n.0 d → inputs_of q ≡ inputs_of p → is_invalid q ≡ false → Rewrites plan_shape a (with_top cs b n q) (n ∷ []) (more (rose n p kids) no_roses) (under n (record { 0 = length b }) cs q kids)
+goes_under a b n p q d kids cs h taken same valid = goes_beneath a b n p q d (nodes.SimpleProjection (record { 0 = length b }) cs) kids h taken same valid refl refl
 
 -- a node without inputs at a number
 module _ (a b : List IR) (ex : List AExpr) (n : Node) (p d : IR) (t : Trees IR) (h : StandsOnce plan_shape a (n ∷ []) t) (leaf : inputs_of p ≡ []) (e : slice_get a n.0 ≡ Some p) (taken : b ≡ slice_set a n.0 d) where
@@ -207,24 +213,24 @@ module _ (a b : List IR) (ex : List AExpr) (n : Node) (p d : IR) (t : Trees IR) 
       o.is ∙ ap (λ (kids : Trees IR). more (rose n p kids) no_roses) (no_trees a o.kids (subst (λ (ns : List Node). Stands plan_shape a ns o.kids) leaf o.inputs.stands))
 
   -- another node without inputs goes back to the number
-  pub stays : (top : Bool) (asked : List Name) (q : IR) → is_closed (op_at ex p) ≡ false → inputs_of q ≡ [] → is_invalid q ≡ false → roots_of q ≡ roots_of p → rose tt (op_at ex q) no_roses ≡ rebuilt top asked (op_at ex p) no_roses → Prunes top asked a (slice_set b n.0 q) ex ex n t
+  pub stays : (top : Bool) (asked : List Name) (q : IR) → is_closed (op_at ex p) ≡ false → inputs_of q ≡ [] → is_invalid q ≡ false → roots_of q ≡ roots_of p → rose tt (op_at ex q) no_roses ≡ rebuilt top asked (op_at ex p) [] no_roses → Prunes top asked a (slice_set b n.0 q) ex ex n t
   stays top asked q opens none valid roots is =
       let under : StandsOnce plan_shape b [] no_roses = record { stands = tt; once = tt } in
       rw alone (record {
         trees = more (rose n q no_roses) no_roses;
         rewrites = Rewrites-back plan_shape a b b n p q d no_roses no_roses (rw alone at h) taken (subst (λ (ns : List Node). Rewrites plan_shape b b ns no_roses no_roses) (sym leaf) (Rewrites-refl plan_shape b [] no_roses under)) (none ∙ sym leaf) valid;
         exprs = place_equal ex (roots_of q ++ []) (roots_of p ++ []) (ap (λ (l : List Node). l ++ []) roots);
-        pruned = ap (λ r. more r no_roses) (is ∙ ap (rebuilt top asked (op_at ex p)) (left_open (op_at ex p) no_roses no_roses opens));
+        pruned = ap (λ r. more r no_roses) (is ∙ ap (rebuilt top asked (op_at ex p) []) (left_open (op_at ex p) no_roses no_roses opens));
       })
 
   -- it goes to a new number, and a projection on top takes its number
-  goes_below : (asked : List Name) (q : IR) (cs : Columns) → is_closed (op_at ex p) ≡ false → inputs_of q ≡ [] → is_invalid q ≡ false → roots_of q ≡ roots_of p → rose tt (op_at ex (nodes.SimpleProjection n cs)) (more (rose tt (op_at ex q) no_roses) no_roses) ≡ rebuilt true asked (op_at ex p) no_roses → Prunes true asked a (with_top cs b n q) ex ex n t
+  goes_below : (asked : List Name) (q : IR) (cs : Columns) → is_closed (op_at ex p) ≡ false → inputs_of q ≡ [] → is_invalid q ≡ false → roots_of q ≡ roots_of p → rose tt (op_at ex (nodes.SimpleProjection n cs)) (more (rose tt (op_at ex q) no_roses) no_roses) ≡ rebuilt true asked (op_at ex p) [] no_roses → Prunes true asked a (with_top cs b n q) ex ex n t
   goes_below asked q cs opens none valid roots is =
       rw alone (record {
         trees = under n (record { 0 = length b }) cs q no_roses;
         rewrites = goes_under a b n p q d no_roses cs (rw alone at h) taken (none ∙ sym leaf) valid;
         exprs = place_equal ex ((roots_of q ++ []) ++ []) (roots_of p ++ []) (append-nil (roots_of q ++ []) ∙ ap (λ (l : List Node). l ++ []) roots);
-        pruned = ap (λ r. more r no_roses) (is ∙ ap (rebuilt true asked (op_at ex p)) (left_open (op_at ex p) no_roses no_roses opens));
+        pruned = ap (λ r. more r no_roses) (is ∙ ap (rebuilt true asked (op_at ex p) []) (left_open (op_at ex p) no_roses no_roses opens));
       })
 
 -- a scan at a number is pruned

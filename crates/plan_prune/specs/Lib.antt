@@ -1,4 +1,5 @@
 -- The definitions that contracts cite.
+pub mod Joined
 pub mod Kept
 pub mod Prunes
 pub mod Scans

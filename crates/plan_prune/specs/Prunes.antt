@@ -1,5 +1,5 @@
 -- That the plan at a number was pruned in place.
-use Rattle.std.specs.Prelude.{◌≡◌, ◌||◌, Bool, List, [], ◌∷◌, ◌++◌, Option, None, Some}
+use Rattle.std.specs.Prelude.{◌≡◌, ◌||◌, not, Bool, List, [], ◌∷◌, ◌++◌, Option, None, Some}
 use Rattle.plan_core.specs.declared.arena.Node.{Node}
 use Rattle.plan_tree.specs.Rose.{Roses}
 use Rattle.plan_tree.specs.Stands.{Trees, StandsOnce, Rewrites}
@@ -50,3 +50,12 @@ PrunesUnder top covers asked old new ex grown n = (t : Trees IR) → StandsOnce 
 -- the mark before became the one after: it is set where it was, or where what stands at a number counts rows
 abbrev pub MarksAt : Bool → Bool → List IR → List AExpr → Node → Type 0
 MarksAt before after lp ex n = (t : Trees IR) → StandsOnce plan_shape lp (n ∷ []) t → after ≡ (before || meet_count (bare (plans_of ex t)))
+
+-- plans stand over these numbers, and expressions over theirs
+abbrev pub AreInputs : List IR → List AExpr → List Node → Type 0
+AreInputs lp ex ns = (f : Trees IR) × StandsOnce plan_shape lp ns f × StandExprs ex (roots_in f)
+
+-- what stands at these numbers is pruned in place, each plan to a list of its own and under a projection to names or none, and the mark is set where it was or where they count rows
+pub record InputsPruned (before after : Bool) (covers : Option (List Name)) (lists : List (List Name)) (old new : List IR) (ex grown : List AExpr) (ns : List Node) : Type 0 where
+  pub prunes : (f : Trees IR) → StandsOnce plan_shape old ns f → StandExprs ex (roots_in f) → PrunesEach (not before) covers lists old new ex grown ns f
+  pub marks : (f : Trees IR) → StandsOnce plan_shape old ns f → StandExprs ex (roots_in f) → after ≡ (before || meet_count (bare (plans_of ex f)))

@@ -9,7 +9,11 @@ use Rattle.plan_expr.specs.declared.aexpr.AExpr.{AExpr}
 use Rattle.plan_expr.specs.declared.expr_ir.ExprIR.{ExprIR}
 use Rattle.plan_ir.specs.declared.ir.IR.{IR}
 use Rattle.plan_ir.specs.declared.ir.IR.TheVariants.{Slice, Filter, Scan, DataFrameScan, SimpleProjection, Select, HStack, Sort, GroupBy, Join, Distinct, MapFunction, Sink, Union, HConcat, Cache, Invalid}
-use Rattle.plan_expr.specs.Exprs.{expr_at, all_named_at}
+use Rattle.plan_expr.specs.Exprs.{Named, expr_at, all_named_at}
+use Rattle.plan_join.specs.declared.options.JoinOptions.{JoinOptions}
+use Rattle.plan_join.specs.Told.{told_at}
+use Rattle.plan_join_narrowing.specs.JoinPruned.{narrowed_args}
+use Rattle.plan_meaning.specs.JoinAsked.{left_names, right_names}
 use Rattle.plan_ir.specs.Plans.{bare, plans_at}
 use Rattle.plan_expr.specs.Leaves.{Name, leaves}
 use Rattle.plan_meaning.specs.Typing.{first_schema}
@@ -19,6 +23,7 @@ use Rattle.plan_frame.specs.ExprLists.{all_leaves}
 use Rattle.plan_meaning.specs.Asked.{grouping_names, needed_names}
 use Rattle.plan_schema.specs.Stored.{stored_all}
 use Rattle.plan_narrowing.specs.Pruned.{asked_columns, asked_with, held_names, kept, mapped_names, names_alike, pruned_output}
+use Rattle.plan_prune.specs.declared.push_down.join.Kept.{Kept}
 use Rattle.plan_prune.specs.declared.push_down.step.Step.{Step}
 use Rattle.plan_prune.specs.declared.push_down.step.Step.TheVariants.{Leaf, Over, Closed, Each}
 use Rattle.plan_prune.specs.Kept.{selected_at, stacked_at, is_some_name, names_at, stored_after, asks_after, beside_after, with_stacked}
@@ -60,6 +65,19 @@ covering [] asked = None
 covering (n ∷ []) asked = None
 covering (n ∷ m ∷ ns) asked = Some asked
 
+-- what a join is told that goes back over its pruned sides; asked nothing, what it was
+abbrev pub joined_options : List Name → (right_on : List Named) → JoinOptions → Columns → JoinOptions
+joined_options [] right_on options s = options
+joined_options (a ∷ asked) right_on options s = record options { args = narrowed_args options.args (a ∷ asked) right_on s }
+
+-- the step of a join that is asked names; the last columns are those of its sides
+abbrev pub joined_step : List AExpr → List Name → (left right : Node) → Columns → (left_on right_on : List ExprIR) → JoinOptions → (s t : Columns) → Step
+joined_step ex asked left right schema left_on right_on options s t =
+    let ls = all_named_at ex left_on in
+    let rs = all_named_at ex right_on in
+    let told = told_at ex options in
+    Each (left ∷ right ∷ []) (left_names asked ls rs told s t ∷ right_names asked ls rs told s t ∷ []) None None (Join left right schema left_on right_on (joined_options asked rs options s))
+
 -- a concatenation
 abbrev pub is_hconcat : IR → Bool
 is_hconcat (HConcat inputs schema options) = true
@@ -70,7 +88,12 @@ abbrev pub is_cache : IR → Bool
 is_cache (Cache input id cache_hits) = true
 is_cache other = false
 
--- the step of a node that is asked names
+-- a step with what is kept of its node, where that has several inputs
+abbrev pub with_kept : Option Kept → Step → Step
+with_kept kept (Each inputs lists covers other p) = Each inputs lists covers kept p
+with_kept kept other = other
+
+-- the step of a node that is asked names, of which nothing is kept yet
 abbrev pub step_of : List IR → List AExpr → List Name → IR → Step
 step_of lp ex asked (Slice i offset len) = Over i asked (Slice i offset len)
 step_of lp ex asked (Filter i predicate) = Over i (asked_with asked (leaves (expr_at ex predicate.node))) (Filter i predicate)
@@ -81,12 +104,12 @@ step_of lp ex asked (Select i es schema options) = selected_step ex asked i es s
 step_of lp ex asked (HStack i es schema options) = stacked_step ex asked i es schema options (columns_at lp ex i)
 step_of lp ex asked (Sort i keys part options) = Over i (asked_with asked (all_leaves (all_named_at ex keys))) (Sort i keys part options)
 step_of lp ex asked (GroupBy i keys aggs schema ordered options) = grouped_step ex asked i keys aggs schema ordered options (columns_at lp ex i)
-step_of lp ex asked (Join left right schema left_on right_on options) = Closed None (Join left right schema left_on right_on options)
+step_of lp ex asked (Join left right schema left_on right_on options) = joined_step ex asked left right schema left_on right_on options (columns_at lp ex left) (columns_at lp ex right)
 step_of lp ex asked (Distinct i options) = Over i (asked_with asked (names_or options.subset (names_of (columns_at lp ex i)))) (Distinct i options)
 step_of lp ex asked (MapFunction i function) = Over i (mapped_names asked function (columns_at lp ex i)) (MapFunction i function)
 step_of lp ex asked (Sink i payload) = Over i asked (Sink i payload)
-step_of lp ex asked (Union inputs options) = Each inputs (names_alike asked inputs) (covering inputs asked) (Union inputs options)
-step_of lp ex asked (HConcat inputs schema options) = Each inputs (held_at lp ex asked inputs) None (HConcat inputs schema options)
+step_of lp ex asked (Union inputs options) = Each inputs (names_alike asked inputs) (covering inputs asked) None (Union inputs options)
+step_of lp ex asked (HConcat inputs schema options) = Each inputs (held_at lp ex asked inputs) None None (HConcat inputs schema options)
 step_of lp ex asked (Cache i id cache_hits) = Closed (asked_columns asked (columns_at lp ex i)) (Cache i id cache_hits)
 step_of lp ex asked Invalid = Leaf Invalid
 

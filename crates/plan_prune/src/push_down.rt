@@ -1,7 +1,7 @@
 //! The pass that prunes a plan to the columns that it needs.
 //! Each node is told the names that are asked of it, and asks its inputs the names that it needs;
 //! no names stand for every column. The rule of a node kind is in a file of its own, and `step` finds it.
-ghost use Rattle.std.specs.Prelude.{◌≡◌, ◌≤◌, ◌+◌, [], ◌∷◌, OnOk, ◌||◌, false, length, not, true};
+ghost use Rattle.std.specs.Prelude.{◌≡◌, ◌≤◌, ◌+◌, [], ◌∷◌, IfOk, OnOk, ◌||◌, false, length, not, true};
 ghost use Rattle.plan_ir.specs.Parts.{IsPlan};
 ghost use Rattle.plan_ir.specs.Plans.{bare, plans_at};
 ghost use Rattle.plan_meaning.specs.PlanAt.{plan_at};
@@ -14,7 +14,8 @@ ghost use Rattle.plan_meaning.specs.Work.{made, kept};
 ghost use Rattle.plan_narrowing.specs.Pruned.{pruned_all};
 ghost use Rattle.plan_narrowing.specs.Reads.{ReadWithin, tops};
 ghost use Rattle.plan_renamed.specs.Renamed.{IsLonger};
-ghost use Rattle.plan_prune.specs.Prunes.{MarksAt, PrunesAt, PrunesUnder};
+ghost use Rattle.plan_prune.specs.Joined.{IsTaken};
+ghost use Rattle.plan_prune.specs.Prunes.{AreInputs, InputsPruned, MarksAt, PrunesAt, PrunesUnder};
 
 mod cache;
 mod cover;
@@ -64,9 +65,11 @@ impl ProjectionPushDown {
 
     /// Prunes the plan at `root`, of which every column is asked, and marks whether it counts rows. A projection goes on top of
     /// each narrowed scan, and on none from the first count of rows on; and on top of each cache that is asked names, and each of
-    /// several inputs of a union that is. What is below a cache stays as it is, and so does a join with what is below it. The
-    /// expressions in `ex` stay as they are; others may be added behind them. Refuses for want of memory alone, and then nothing
-    /// is known of what stands at `root`, and of the mark only that it isn't set back.
+    /// several inputs of a union that is. A projection, or a selection where some columns are called otherwise over the pruned
+    /// sides, goes on top of each join that is asked names, puts out columns of its right side, and then has other columns than
+    /// the asked ones. What is below a cache stays as it is. The expressions in `ex` stay as they are; others may be added behind
+    /// them. Refuses for want of memory alone, and then nothing is known of what stands at `root`, and of the mark only that it
+    /// isn't set back.
     pub fn optimize(
         &mut self,
         alloc: Global,
@@ -94,6 +97,30 @@ impl ProjectionPushDown {
         Ok(())
     }
 
+    /// Takes what stands at `node` and is asked these names, and marks whether it counts rows: what is to be done at it. Refuses for
+    /// want of memory alone.
+    fn take(
+        &mut self,
+        alloc: Global,
+        node: Node,
+        asked: Names,
+        lp: &mut Arena<IR>,
+        ex: &Arena<AExpr>,
+    ) -> Result<Step, AllocError>
+        requires { IsPlan lp.old ex.now node }
+        ensures taken { IfOk result (λ step. IsTaken self.old.is_count_star self.new.is_count_star lp.old lp.new ex.now asked node step) }
+        ensures stays { self.old.is_count_star ≡ true → self.new.is_count_star ≡ true }
+        ensures grows { length lp.old ≤ length lp.new }
+    {
+        let entry = lp.take(node);
+        if select::is_count(&entry, ex) {
+            self.is_count_star = true;
+        }
+        let kept = join::keep(alloc, &entry, &asked, lp, ex)?;
+        let step = step::prepare(alloc, entry, asked, lp, ex)?;
+        Ok(step.keeping(kept))
+    }
+
     /// Prunes the plan at `node` to the asked names, and marks whether it counts rows; no names stand for every column.
     #[cycle(push)]
     fn push_down(
@@ -113,11 +140,7 @@ impl ProjectionPushDown {
     {
         let is_asked = asked.len() > 0;
         let on_top = !self.is_count_star;
-        let entry = lp.take(node);
-        if select::is_count(&entry, ex) {
-            self.is_count_star = true;
-        }
-        match step::prepare(alloc, entry, asked, lp, ex)? {
+        match self.take(alloc, node, asked, lp, ex)? {
             Step::Leaf { entry } => step::put(alloc, node, entry, is_asked, on_top, lp),
             Step::Over {
                 input,
@@ -132,14 +155,38 @@ impl ProjectionPushDown {
                 inputs,
                 asked,
                 covered,
+                kept,
                 entry,
             } => {
-                for (input, asked) in inputs.as_slice().iter().zip(asked.as_slice()) {
-                    self.push_input(alloc, *input, asked, &covered, lp, ex)?;
-                }
-                step::put(alloc, node, entry, is_asked, on_top, lp)
+                self.push_inputs(alloc, inputs.as_slice(), asked.as_slice(), &covered, lp, ex)?;
+                step::put_over(alloc, node, entry, kept, is_asked, on_top, lp, ex)
             }
         }
+    }
+
+    /// Prunes the plans at `inputs`, each to a list of names of its own, and marks whether they count rows; no names stand for every
+    /// column. A projection to the names that cover them goes on top of each, where there are such.
+    #[cycle(push)]
+    fn push_inputs(
+        &mut self,
+        alloc: Global,
+        inputs: &[Node],
+        lists: &[Names],
+        covered: &Option<Names>,
+        lp: &mut Arena<IR>,
+        ex: &mut Arena<AExpr>,
+    ) -> Result<(), AllocError>
+        requires inputs { AreInputs lp.old ex.old inputs.now }
+        requires lists { length lists.now ≡ length inputs.now }
+        ensures pruned { OnOk result (InputsPruned self.old.is_count_star self.new.is_count_star covered.now lists.now lp.old lp.new ex.old ex.new inputs.now) }
+        ensures stays { self.old.is_count_star ≡ true → self.new.is_count_star ≡ true }
+        ensures grows { length lp.old ≤ length lp.new }
+        ensures longer { IsLonger ex.old ex.new }
+    {
+        for (input, names) in inputs.iter().zip(lists) {
+            self.push_input(alloc, *input, names, covered, lp, ex)?;
+        }
+        Ok(())
     }
 
     /// Prunes the plan at `input` to the asked names, and marks whether it counts rows; no names stand for every column. Then a

@@ -1,4 +1,4 @@
-//! Unions, which ask each input alike, and caches and joins, below which all stays.
+//! Unions, which ask each input alike, joins, which ask each side for what they need of it, and caches, below which all stays.
 
 use crate::samples::{Sample, assert_pruned};
 use std::test::Fail;
@@ -28,7 +28,7 @@ fn what_is_below_a_cache_stays(rt: HostRuntime) -> Result<(), Fail> {
 }
 
 #[test]
-fn a_join_stays_and_the_rest_is_pruned(rt: HostRuntime) -> Result<(), Fail> {
+fn each_side_of_a_join_is_pruned(rt: HostRuntime) -> Result<(), Fail> {
     let mut plan = Sample::scan(rt.alloc())?;
     plan.join("u")?;
     plan.projection(&["a", "b", "c"])?;
@@ -37,6 +37,18 @@ fn a_join_stays_and_the_rest_is_pruned(rt: HostRuntime) -> Result<(), Fail> {
     assert_pruned(
         &rt,
         &mut plan,
-        "SimpleProjection a; Union of 2; SimpleProjection a; SimpleProjection a; Join of a b c y; Scan t; Select x y of x y; Scan u; SimpleProjection a; SimpleProjection a; Scan v reads a puts out a",
+        "SimpleProjection a; Union of 2; SimpleProjection a; SimpleProjection a; Join of a; SimpleProjection a; Scan t reads a puts out a; Select x of x; SimpleProjection a; Scan u reads a puts out a; SimpleProjection a; SimpleProjection a; Scan v reads a puts out a",
+    )
+}
+
+#[test]
+fn a_key_that_is_not_asked_stays_below_a_projection(rt: HostRuntime) -> Result<(), Fail> {
+    let mut plan = Sample::scan(rt.alloc())?;
+    plan.join("u")?;
+    plan.projection(&["b"])?;
+    assert_pruned(
+        &rt,
+        &mut plan,
+        "SimpleProjection b; SimpleProjection b; Join of a b; SimpleProjection a b; Scan t reads a b puts out a b; Select x of x; SimpleProjection a; Scan u reads a puts out a",
     )
 }

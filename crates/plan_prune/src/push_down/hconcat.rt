@@ -57,6 +57,7 @@ pub fn prepare(
             asked: asks(alloc, inputs.as_slice(), asked, lp)?,
             inputs: inputs.try_clone(alloc)?,
             covered: None,
+            kept: None,
             entry: IR::HConcat {
                 inputs,
                 schema,

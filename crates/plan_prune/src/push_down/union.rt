@@ -1,6 +1,6 @@
 //! A union stays as it is, and asks each of its inputs what is asked of it.
 //! Asked something, each of more than one input gets a projection to the asked names on top, so that all have the same columns.
-ghost use Rattle.std.specs.Prelude.{◌≡◌, IfOk};
+ghost use Rattle.std.specs.Prelude.{◌≡◌, IfOk, None};
 ghost use Rattle.plan_ir.specs.declared.ir.IR.TheVariants.{Union};
 ghost use Rattle.plan_narrowing.specs.Pruned.{names_alike};
 ghost use Rattle.plan_prune.specs.declared.push_down.step.Step.TheVariants.{Each};
@@ -38,12 +38,13 @@ pub fn prepare(
     options: UnionOptions,
     asked: Names,
 ) -> Result<Step, AllocError>
-    ensures { IfOk result (λ step. step ≡ Each inputs (names_alike asked inputs) (covering inputs asked) (Union inputs options)) }
+    ensures { IfOk result (λ step. step ≡ Each inputs (names_alike asked inputs) (covering inputs asked) None (Union inputs options)) }
 {
     Ok(Step::Each {
         inputs: inputs.try_clone(alloc)?,
         asked: asks(alloc, inputs.as_slice(), &asked)?,
         covered: covered(inputs.as_slice(), asked),
+        kept: None,
         entry: IR::Union { inputs, options },
     })
 }
