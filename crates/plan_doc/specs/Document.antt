@@ -18,7 +18,7 @@ use Rattle.plan_doc_parts.specs.Parts.{◌>>=◌, entries_of, each, nullable, nu
 use Rattle.plan_doc_parts.specs.Members.{object_of, at}
 use Rattle.plan_doc.specs.Built.{built_flags, unshared_of}
 use Rattle.plan_doc_nodes.specs.Exprs.{expr_of}
-use Rattle.plan_doc_nodes.specs.Nodes.{built_node_of}
+use Rattle.plan_doc_nodes.specs.Nodes.{node_of}
 use Rattle.plan_doc.specs.Tables.{tables_of}
 
 -- a number whose bits all have names, as flags
@@ -32,11 +32,11 @@ flags_of d = do
   built ← built_flags n
   named_flags built
 
--- an array of nodes, for each of which the passes that the flags start are built
-unfoldable pub nodes_of : OptFlags → Data → Option (List IR)
-nodes_of fs d = do
+-- an array of nodes
+unfoldable pub nodes_of : Data → Option (List IR)
+nodes_of d = do
   ds ← entries_of d
-  each (built_node_of fs) ds
+  each node_of ds
 
 -- an array of expressions
 unfoldable pub exprs_of : Data → Option (List AExpr)
@@ -56,7 +56,7 @@ document_of d = do
   flags ← get (codes "flags") o
   fs ← flags_of flags
   nodes ← get (codes "nodes") o
-  ns ← nodes_of fs nodes
+  ns ← nodes_of nodes
   exprs ← get (codes "exprs") o
   es ← exprs_of exprs
   shared ← get (codes "shared") o

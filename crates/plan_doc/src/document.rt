@@ -7,7 +7,7 @@ ghost use Rattle.plan_doc.specs.Document.{flags_of, named_flags as named_flags_o
 use crate::built::{built_flags, unshared};
 use crate::tables::optional_tables_at;
 use plan_core::{Arena, Node, OptFlags};
-use plan_doc_nodes::{built_node, expr};
+use plan_doc_nodes::{expr, node};
 use plan_doc_parts::{Fault, arena_of_each, entries, field, link_at, number, object};
 use plan_expr::AExpr;
 use plan_ir::IR;
@@ -63,13 +63,13 @@ fn flags(value: &Value) -> Result<OptFlags, Fault>
     named_flags(bits)
 }
 
-/// An arena of the nodes of an array, in order, for each of which the passes that the flags start are built.
+/// An arena of the nodes of an array, in order.
 #[tactic(auto, unfolding(crate::specs::Document::nodes_of))]
-fn nodes(alloc: Global, flags: OptFlags, value: &Value) -> Result<Arena<IR>, Fault>
-    ensures { Gives result (nodes_of flags (view value.now)) }
+fn nodes(alloc: Global, value: &Value) -> Result<Arena<IR>, Fault>
+    ensures { Gives result (nodes_of (view value.now)) }
 {
     let entries = entries(value)?;
-    arena_of_each(alloc, entries, |entry| built_node(alloc, flags, entry))
+    arena_of_each(alloc, entries, |entry| node(alloc, entry))
 }
 
 /// An arena of the expressions of an array, in order.
@@ -100,7 +100,7 @@ fn document_of(alloc: Global, value: &Value) -> Result<Document, Fault>
     let object = document_object(value)?;
     let root = link_at(object, "root")?;
     let flags = flags(field(object, "flags")?)?;
-    let lp = nodes(alloc, flags, field(object, "nodes")?)?;
+    let lp = nodes(alloc, field(object, "nodes")?)?;
     let ex = exprs(alloc, field(object, "exprs")?)?;
     let shared = unshared(field(object, "shared")?)?;
     let tables = optional_tables_at(alloc, object, "tables")?;

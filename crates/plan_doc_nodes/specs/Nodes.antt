@@ -2,13 +2,11 @@
 use Rattle.std.specs.Prelude.{[], ◌∷◌, Option, Some, None, if◌then◌else◌, codes, bytes_eq}
 use Rattle.serde_json.specs.Data.{Data}
 use Rattle.serde_json.specs.Find.{get}
-use Rattle.plan_core.specs.declared.flags.OptFlags.{OptFlags}
 use Rattle.plan_ir.specs.declared.ir.IR.{IR}
 use Rattle.plan_ir.specs.declared.ir.IR.TheVariants as nodes
 use Rattle.plan_options.specs.declared.sink.SinkType.TheVariants as sinks
 use Rattle.plan_doc_parts.specs.Parts.{◌>>=◌, name_of, number_of, link_of}
 use Rattle.plan_doc_parts.specs.Members.{object_of, at}
-use Rattle.plan_doc_nodes.specs.Built.{built_for}
 use Rattle.plan_doc_nodes.specs.Columns.{simple_projection_of, select_of, hstack_of, group_by_of}
 use Rattle.plan_doc_nodes.specs.Functions.{frame_function_of}
 use Rattle.plan_doc_nodes.specs.Joins.{join_of}
@@ -69,9 +67,3 @@ node_of d = do
       if bytes_eq s (codes "HConcat") then hconcat_of d else (
       if bytes_eq s (codes "Cache") then cache_of d else (
       if bytes_eq s (codes "Invalid") then invalid_of d else None))))))))))))))))
-
--- the node of an entry, for which each pass that the flags start is built
-unfoldable pub built_node_of : OptFlags → Data → Option IR
-built_node_of fs d = do
-  n ← node_of d
-  built_for fs n

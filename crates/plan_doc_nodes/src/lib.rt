@@ -12,4 +12,4 @@ mod scans;
 mod several;
 
 pub use exprs::expr;
-pub use nodes::built_node;
+pub use nodes::node;

@@ -1,16 +1,14 @@
 //! The reader of nodes, and the readers of those that have no file of their own.
 ghost use Rattle.serde_json.specs.View.{view};
 ghost use Rattle.plan_doc_parts.specs.Gives.{Gives};
-ghost use Rattle.plan_doc_nodes.specs.Nodes.{map_function_of, sink_of, cache_of, invalid_of, node_of, built_node_of};
+ghost use Rattle.plan_doc_nodes.specs.Nodes.{map_function_of, sink_of, cache_of, invalid_of, node_of};
 
-use crate::built::built_for;
 use crate::columns::{group_by, hstack, select, simple_projection};
 use crate::functions::frame_function;
 use crate::joins::join;
 use crate::rows::{distinct, filter, slice_node, sort};
 use crate::scans::{frame_scan, scan};
 use crate::several::{hconcat, union};
-use plan_core::OptFlags;
 use plan_doc_parts::{Fault, field, link_at, number_at, object, text};
 use plan_ir::IR;
 use plan_options::SinkType;
@@ -68,7 +66,7 @@ fn invalid(value: &Value) -> Result<IR, Fault>
 
 /// The node of an entry, by its `op`.
 #[tactic(auto, unfolding(crate::specs::Nodes::node_of))]
-fn node(alloc: Global, value: &Value) -> Result<IR, Fault>
+pub fn node(alloc: Global, value: &Value) -> Result<IR, Fault>
     ensures { Gives result (node_of (view value.now)) }
 {
     match text(field(value, "op")?)? {
@@ -91,13 +89,4 @@ fn node(alloc: Global, value: &Value) -> Result<IR, Fault>
         "Invalid" => invalid(value),
         _ => Err(Fault::Form),
     }
-}
-
-/// The node of an entry, where each pass that the flags start is built for it; else `Form`.
-#[tactic(auto, unfolding(crate::specs::Nodes::built_node_of))]
-pub fn built_node(alloc: Global, flags: OptFlags, value: &Value) -> Result<IR, Fault>
-    ensures { Gives result (built_node_of flags (view value.now)) }
-{
-    let node = node(alloc, value)?;
-    built_for(flags, node)
 }
