@@ -1,0 +1,6 @@
+-- The lemmas of this crate.
+pub mod NameLemmas
+pub mod ScanColumns
+pub mod ScanReads
+pub mod LeftOutput
+pub mod LeftFrames

@@ -1,0 +1,12 @@
+//! The table of a scan of files, made from the tables of its sources.
+#![tactic(auto)]
+
+mod appended;
+mod numbers;
+mod parts;
+mod scan;
+#[cfg(test)]
+mod tests;
+
+pub use appended::{append, append_column, append_times};
+pub use scan::scan_table;

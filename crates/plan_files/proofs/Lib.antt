@@ -1,0 +1,4 @@
+-- The lemmas of this crate.
+pub mod FileLemmas
+pub mod AddedLemmas
+pub mod HiveLemmas
