@@ -18,11 +18,12 @@ use Rattle.plan_meaning.specs.Typing.{first_schema}
 use Rattle.plan_meaning.specs.Counting.{is_closed, is_count, meet_count}
 use Rattle.plan_schema.specs.Stored.{stored_all}
 use Rattle.plan_narrowing.specs.Pruned.{asked_columns, asks_plans, left_below, pruned_all, rebuilt, top_below, typed_names}
-use Rattle.plan_prune.specs.declared.push_down.step.Step.TheVariants.{Closed}
+use Rattle.plan_prune_parts.specs.declared.step.Step.TheVariants.{Closed}
 use Rattle.plan_prune.specs.Prunes.{MarksAt, PrunesAt}
-use Rattle.plan_prune.specs.Scans.{with_columns_on}
-use Rattle.plan_prune.specs.Steps.{columns_at, step_of}
-use Rattle.plan_prune.proofs.PlaceLemmas.{place_equal}
+use Rattle.plan_prune_parts.specs.Tops.{with_columns_on}
+use Rattle.plan_prune_parts.specs.Said.{columns_at}
+use Rattle.plan_prune_steps.specs.Steps.{step_of}
+use Rattle.plan_prune_parts.proofs.PlaceLemmas.{place_equal}
 use Rattle.plan_prune.proofs.PruneLemmas.{goes_under, under}
 
 -- what is left below a closed node is what was there

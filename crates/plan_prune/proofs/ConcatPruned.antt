@@ -1,13 +1,8 @@
--- What a concatenation asks and stores, and that it is pruned at its number.
-use Rattle.std.proofs.Common.{◌≡◌, ℕ, ◌+◌, suc, Bool, true, false, cond, ◌||◌, List, [], ◌∷◌, ◌++◌, length, map, take, fold, Option, Some, None, append-nil, append_assoc, refl, sym, ap, ap₂, ◌∙◌}
+-- A concatenation is pruned at its number.
+use Rattle.std.proofs.Common.{◌≡◌, suc, Bool, List, [], ◌∷◌, length, map, Option, Some, None, refl, ap, ap₂, ◌∙◌}
 use Rattle.std.specs.List.{slice_get, slice_set}
-use Rattle.std.specs.Str.{bytes_eq}
-use Rattle.std.proofs.lemmas.List.{map-append}
-use Rattle.std.proofs.lemmas.List.Sums.{fold-append}
 use Rattle.plan_core.specs.declared.arena.Node.{Node}
-use Rattle.plan_core.specs.declared.data_type.DataType.{DataType}
-use Rattle.plan_core.specs.Columns.{Columns, names_of, with_type}
-use Rattle.plan_core.specs.Names.{has}
+use Rattle.plan_core.specs.Columns.{Columns}
 use Rattle.plan_options.specs.declared.union.HConcatOptions.{HConcatOptions}
 use Rattle.plan_tree.specs.Rose.{Roses, rose, no_roses, more}
 use Rattle.plan_tree.specs.Stands.{Trees, StandsOnce}
@@ -19,14 +14,14 @@ use Rattle.plan_ir.specs.declared.ir.IR.TheVariants as nodes
 use Rattle.plan_ir.specs.Parts.{plan_shape, roots_in}
 use Rattle.plan_ir.specs.Plans.{Op, op_at, plans_of, bare, hconcat}
 use Rattle.plan_meaning.specs.Typing.{first_schema}
-use Rattle.plan_frame.specs.Beside.{in_a_row, side_by_side, with_new}
 use Rattle.plan_schema.specs.Stored.{stored_all}
 use Rattle.plan_narrowing.specs.Pruned.{asks_plans, held_names, pruned_all, pruned_hconcat, rebuilt, top_below}
-use Rattle.plan_narrowing.proofs.ListSteps.{take-next}
-use Rattle.plan_prune.specs.Kept.{beside_after, is_some_name}
+use Rattle.plan_prune_parts.specs.Kept.{beside_after, is_some_name}
 use Rattle.plan_renamed.specs.Renamed.{IsLonger}
-use Rattle.plan_prune.specs.Prunes.{StandExprs, Prunes, PrunesEach, covered_by}
-use Rattle.plan_prune.specs.Steps.{columns_at, held_at}
+use Rattle.plan_prune_parts.specs.Places.{StandExprs}
+use Rattle.plan_prune.specs.Prunes.{Prunes, PrunesEach, covered_by}
+use Rattle.plan_prune_parts.specs.Said.{columns_at}
+use Rattle.plan_prune_steps.specs.Steps.{held_at}
 use Rattle.plan_prune.proofs.EachLemmas.{each_finish}
 
 -- there are as many lists as inputs
@@ -85,40 +80,3 @@ module _ (top low : Bool) (asked : List Name) (covers : Option (List Name)) (lis
   concat_pruned t h s e =
       each_finish top low asked covers lists a b c z ex grown n whole (nodes.HConcat inputs left options) d t longer h s e taken back refl refl (λ before after y. y) refl
       (λ kids under stand. let y = below kids under stand in (y, concat_built kids under y))
-
--- columns with one more whose name none has, and with one whose name one has
-pub new_last : (s : Columns) (a : Name) (d : DataType) → has (names_of s) a ≡ false → with_type s a d ≡ with_new s (a, d)
-new_last s a d h = last s h ∙ ap (λ (b : Bool). cond b s (s ++ (a, d) ∷ [])) (sym h)
-  where
-    at : (c : Name × DataType) (cs : Columns) (b : Bool) → (has (names_of cs) a ≡ false → with_type cs a d ≡ cs ++ (a, d) ∷ []) → (b || has (names_of cs) a) ≡ false → cond b ((c.0, d) ∷ cs) (c ∷ with_type cs a d) ≡ c ∷ (cs ++ (a, d) ∷ [])
-    at c cs true f k = cc
-    at c cs false f k = ap (λ (l : Columns). c ∷ l) (f k)
-
-    last : (cs : Columns) → has (names_of cs) a ≡ false → with_type cs a d ≡ cs ++ (a, d) ∷ []
-    last [] k = refl
-    last (c ∷ cs) k = at c cs (bytes_eq a c.0) (last cs) k
-
-pub new_there : (s : Columns) (a : Name) (d : DataType) → has (names_of s) a ≡ true → s ≡ with_new s (a, d)
-new_there s a d h = ap (λ (b : Bool). cond b s (s ++ (a, d) ∷ [])) (sym h)
-
--- columns with the next of some more
-pub new-next : (s others : Columns) (i : ℕ) (c : Name × DataType) → slice_get others i ≡ Some c → with_new (fold with_new s (take i others)) c ≡ fold with_new s (take (i + 1) others)
-new-next s others i c e = sym (ap (fold with_new s) (take-next others i c e) ∙ fold-append with_new s (take i others) (c ∷ []))
-
--- inputs with the next one: what they are asked, and their columns beside one another
-module _ (lp : List IR) (ex : List AExpr) (ns : List Node) (i : ℕ) (n : Node) (e : slice_get ns i ≡ Some n) where
-  pub held-next : (asked : List Name) → held_at lp ex asked (take i ns) ++ held_names asked (columns_at lp ex n) ∷ [] ≡ held_at lp ex asked (take (i + 1) ns)
-  held-next asked = sym (ap (held_at lp ex asked) (take-next ns i n e) ∙ map-append (λ (m : Node). held_names asked (columns_at lp ex m)) (take i ns) (n ∷ []))
-
-  row-last : (ss : List Columns) (s : Columns) → in_a_row (ss ++ s ∷ []) ≡ in_a_row ss ++ s
-  row-last [] s = append-nil s
-  row-last (x ∷ ss) s = ap (λ (l : Columns). x ++ l) (row-last ss s) ∙ sym (append_assoc x (in_a_row ss) s)
-
-  pub beside-next : fold with_new (side_by_side (map (columns_at lp ex) (take i ns))) (columns_at lp ex n) ≡ side_by_side (map (columns_at lp ex) (take (i + 1) ns))
-  beside-next =
-      let before : List Columns = map (columns_at lp ex) (take i ns) in
-      sym
-      (ap (λ (l : List Node). side_by_side (map (columns_at lp ex) l)) (take-next ns i n e)
-      ∙ ap side_by_side (map-append (columns_at lp ex) (take i ns) (n ∷ []))
-      ∙ ap (fold with_new []) (row-last before (columns_at lp ex n))
-      ∙ fold-append with_new [] (in_a_row before) (columns_at lp ex n))

@@ -1,5 +1,5 @@
 -- The inputs of a node, pruned one after another, each under a projection to the asked names or none.
-use Rattle.std.proofs.Common.{◌≡◌, ℕ, zero, suc, ◌+◌, ◌<◌, ◌≤◌, ◌&&◌, ◌||◌, Bool, true, false, not, List, [], ◌∷◌, ◌++◌, length, take, get_or, Some, None, Option, unwrap_or, refl, sym, ap, ap₂, ◌∙◌, arith, subst, append-nil, append_assoc, add-one}
+use Rattle.std.proofs.Common.{◌≡◌, ℕ, zero, suc, ◌+◌, ◌<◌, ◌≤◌, ◌&&◌, ◌||◌, Bool, true, false, not, List, [], ◌∷◌, ◌++◌, length, take, get_or, Some, None, Option, refl, sym, ap, ap₂, ◌∙◌, arith, subst, append-nil, append_assoc, add-one}
 use Rattle.std.specs.List.{slice_get, slice_set}
 use Rattle.std.proofs.lemmas.List.{take_all}
 use Rattle.std.proofs.lemmas.Option.{slice_get-get_or, slice_get_within}
@@ -25,13 +25,16 @@ use Rattle.plan_schema.specs.Stored.{stored_all}
 use Rattle.plan_narrowing.proofs.ListSteps.{take-next}
 use Rattle.plan_narrowing.proofs.UnionNarrows.{covered_none}
 use Rattle.plan_renamed.specs.Renamed.{IsLonger}
-use Rattle.plan_prune.specs.Prunes.{AreInputs, InputsPruned, StandExprs, TakePlace, Prunes, PrunesEach, PrunesUnder, MarksAt, covered_by}
-use Rattle.plan_prune.specs.Scans.{covered_at, with_top}
-use Rattle.plan_prune.specs.Steps.{columns_at, covering}
-use Rattle.plan_prune.proofs.LongerLemmas.{below_exprs, exprs_longer, first_exprs, last_exprs, longer_same, longer_trans, op_longer, own_exprs, plan_trees, plans_longer}
-use Rattle.plan_prune.proofs.PlaceLemmas.{place_alone, place_equal, place_both, place_before, place_trans}
+use Rattle.plan_prune_parts.specs.Places.{StandExprs, TakePlace}
+use Rattle.plan_prune.specs.Prunes.{AreInputs, InputsPruned, Prunes, PrunesEach, PrunesUnder, MarksAt, covered_by}
+use Rattle.plan_prune_parts.specs.Tops.{covered_at, with_top}
+use Rattle.plan_prune_parts.specs.Said.{columns_at}
+use Rattle.plan_prune_steps.specs.Steps.{covering}
+use Rattle.plan_prune_parts.proofs.LongerLemmas.{below_exprs, exprs_longer, first_exprs, last_exprs, longer_same, longer_trans, op_longer, own_exprs, plan_trees, plans_longer}
+use Rattle.plan_prune_parts.proofs.PlaceLemmas.{place_alone, place_equal, place_both, place_before, place_trans}
 use Rattle.plan_prune.proofs.PruneLemmas.{goes_under, left_open, under}
 use Rattle.plan_prune.proofs.SidePlans.{or_assoc, plans-join, roots-join, meet-join, covered_by-join, lists_after, names_after, one_pruned, pruned-join, several_pruned}
+use Rattle.plan_prune_parts.proofs.CoverLemmas.{found}
 
 -- the height of what stands over numbers
 pub tall : (a : List IR) (ns : List Node) (f : Trees IR) → StandsOnce plan_shape a ns f → tallest plan_shape (height plan_shape (length a) a) ns ≡ levels f
@@ -112,10 +115,6 @@ pub one_plain : (top : Bool) (asked : List Name) (b c : List IR) (ex grown : Lis
 one_plain top asked b c ex grown n t x = record { trees = x.trees; rewrites = x.rewrites; exprs = x.exprs; pruned = x.pruned }
 
 -- and under a projection to names
-
-found : (xs : List IR) (k : ℕ) (p : IR) → slice_get xs k ≡ Some p → unwrap_or (slice_get xs k) nodes.Invalid ≡ p
-found xs k p e = ap (λ (o : Option IR). unwrap_or o nodes.Invalid) e
-
 pub one_covered : (top : Bool) (asked names : List Name) (b c d : List IR) (ex grown : List AExpr) (n : Node) (q : IR) (t : Trees IR) → slice_get c n.0 ≡ Some q → d ≡ covered_at (asked_columns names (columns_at c grown n)) c n → Prunes top asked b c ex grown n t → PrunesEach top (Some names) (asked ∷ []) b d ex grown (n ∷ []) t
 one_covered top asked [] b c d ex grown n q t e is x =
     rw is (record { trees = x.trees; rewrites = x.rewrites; exprs = x.exprs; pruned = x.pruned ∙ sym (covered_none (pruned_all top (asked ∷ []) (bare (plans_of ex t)))) })
@@ -218,14 +217,6 @@ each_marks before mid after lp b ex n inputs p d plan e taken own opens is below
     let stand : StandExprs ex (roots_in o.kids) = below_exprs ex p o.kids no_roses (rw o.is at (plan_trees lp ex n t plan h)) in
     let k : Bool = meet_count (bare (plans_of ex o.kids)) in
     below o.kids at_inputs stand ∙ ap (λ (m : Bool). m || k) is ∙ marked_twice before (is_count (op_at ex p)) k (is_closed (op_at ex p)) opens ∙ ap (λ (u : Trees IR). before || meet_count (bare (plans_of ex u))) (sym o.is)
-
--- a projection that was put on top of what stood at a number
-pub cover_placed : (z lp b : List IR) (n : Node) (p d : IR) (cs : Columns) (columns : Option Columns) → z ≡ with_top cs b n p → b ≡ slice_set lp n.0 d → d ≡ nodes.Invalid → slice_get lp n.0 ≡ Some p → columns ≡ Some cs → z ≡ covered_at columns lp n
-cover_placed z lp b n p d cs columns is taken none e some =
-    is
-    ∙ ap (λ (x : List IR). with_top cs x n p) (taken ∙ ap (slice_set lp n.0) none)
-    ∙ ap (λ (q : IR). with_top cs (slice_set lp n.0 nodes.Invalid) n q) (sym (found lp n.0 p e))
-    ∙ ap (λ (o : Option Columns). covered_at o lp n) (sym some)
 
 -- the items at a place of two lists
 pub places : {A B : Type 0} (xs : List A) (ys : List B) (j : ℕ) (x : A) (y : B) → (j < length xs) × (j < length ys) × ((d : A) → x ≡ get_or xs j d) × ((d : B) → y ≡ get_or ys j d) → (slice_get xs j ≡ Some x) × (slice_get ys j ≡ Some y)

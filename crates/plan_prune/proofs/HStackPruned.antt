@@ -19,10 +19,11 @@ use Rattle.plan_meaning.specs.Typing.{first_schema}
 use Rattle.plan_schema.specs.Stored.{stored_all}
 use Rattle.plan_narrowing.specs.Pruned.{stacked_names, top_below}
 use Rattle.plan_renamed.specs.Renamed.{IsLonger}
-use Rattle.plan_prune.specs.Prunes.{StandExprs, TakePlace, Prunes, PrunesAt}
-use Rattle.plan_prune.specs.Kept.{stacked_at, is_some_name, names_at, with_typed, stored_after, with_stacked}
+use Rattle.plan_prune_parts.specs.Places.{StandExprs, TakePlace}
+use Rattle.plan_prune.specs.Prunes.{Prunes, PrunesAt}
+use Rattle.plan_prune_parts.specs.Kept.{stacked_at, is_some_name, names_at, with_typed, stored_after, with_stacked}
 use Rattle.plan_prune.proofs.PruneLemmas.{finish, one_list, moves_up, is_entry, stands_taken, stands_after}
-use Rattle.plan_prune.proofs.KeptLemmas.{numbers_of, stacked_place, hstack_built, hstack_gone}
+use Rattle.plan_prune_parts.proofs.KeptLemmas.{numbers_of, stacked_place, hstack_built, hstack_gone}
 
 -- the entry at a number of an arena
 pub found : (xs : List IR) (k : ℕ) → k < length xs → slice_get xs k ≡ Some (unwrap_or (slice_get xs k) Invalid)

@@ -36,17 +36,19 @@ use Rattle.plan_meaning.specs.Typing.{first_schema, rest_schemas}
 use Rattle.plan_schema.specs.Stored.{stored_all}
 use Rattle.plan_narrowing.specs.Pruned.{asks_plans, pruned_all, rebuilt, top_below}
 use Rattle.plan_renamed.specs.Renamed.{IsLonger}
-use Rattle.plan_prune.specs.declared.push_down.join.Kept.{Kept}
-use Rattle.plan_prune.specs.Joined.{IsJoined, IsPutBack, JoinPut, Keeps, with_on}
-use Rattle.plan_prune.specs.Kept.{is_some_name}
-use Rattle.plan_prune.specs.Prunes.{StandExprs, TakePlace, Prunes, PrunesEach, covered_by}
-use Rattle.plan_prune.specs.Scans.{with_top}
-use Rattle.plan_prune.specs.Steps.{columns_at, joined_options}
+use Rattle.plan_prune_parts.specs.declared.kept.Kept.{Kept}
+use Rattle.plan_prune_joins.specs.Joined.{IsJoined, JoinPut, Keeps, with_on, joined_options}
+use Rattle.plan_prune_steps.specs.Steps.{IsPutBack}
+use Rattle.plan_prune_parts.specs.Kept.{is_some_name}
+use Rattle.plan_prune_parts.specs.Places.{StandExprs, TakePlace}
+use Rattle.plan_prune.specs.Prunes.{Prunes, PrunesEach, covered_by}
+use Rattle.plan_prune_parts.specs.Tops.{with_top}
+use Rattle.plan_prune_parts.specs.Said.{columns_at}
 use Rattle.plan_prune.proofs.ConcatPruned.{columns_all}
 use Rattle.plan_prune.proofs.EachLemmas.{each_finish}
-use Rattle.plan_prune.proofs.KeptLemmas.{numbers_append, numbers_of}
-use Rattle.plan_prune.proofs.LongerLemmas.{below_exprs, join_longer, longer_trans, own_exprs, plans_longer, trees_longer}
-use Rattle.plan_prune.proofs.PlaceLemmas.{place_alone, place_before, place_behind, place_equal, place_swapped, place_trans}
+use Rattle.plan_prune_parts.proofs.KeptLemmas.{numbers_append, numbers_of}
+use Rattle.plan_prune_parts.proofs.LongerLemmas.{below_exprs, join_longer, longer_trans, own_exprs, plans_longer, trees_longer}
+use Rattle.plan_prune_parts.proofs.PlaceLemmas.{place_alone, place_before, place_behind, place_equal, place_swapped, place_trans}
 use Rattle.plan_prune.proofs.PruneLemmas.{goes_beneath, goes_under, under}
 
 -- what stands for numbers, and only reaches what these did and new entries, takes their place

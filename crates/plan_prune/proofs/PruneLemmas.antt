@@ -1,9 +1,8 @@
 -- What pruning does at each kind of node.
-use Rattle.std.proofs.Common.{◌≡◌, ℕ, ◌<◌, ◌≤◌, ◌&&◌, Bool, true, false, List, [], ◌∷◌, ◌++◌, length, take, ◌+◌, Option, Some, None, refl, sym, ap, ap₂, ◌∙◌, inl, inr, ◌⊎◌, arith, length-set, subst, append-nil}
-use Rattle.std.specs.List.{slice_get, slice_set, flat_map}
+use Rattle.std.proofs.Common.{◌≡◌, ℕ, ◌<◌, ◌≤◌, Bool, true, false, List, [], ◌∷◌, ◌++◌, length, Some, refl, sym, ap, ap₂, ◌∙◌, inl, inr, ◌⊎◌, arith, length-set, subst, append-nil}
+use Rattle.std.specs.List.{slice_get, slice_set}
 use Rattle.std.proofs.lemmas.Option.{slice_get_within}
 use Rattle.plan_core.specs.declared.arena.Node.{Node}
-use Rattle.plan_core.specs.declared.options.FileScanOptions.{FileScanOptions}
 use Rattle.plan_core.specs.Columns.{Columns}
 use Rattle.plan_tree.specs.Rose.{Roses, rose, no_roses, more}
 use Rattle.plan_tree.specs.Stands.{Trees, Reaches, Stands, StandsOnce, Keeps, Rewrites}
@@ -12,45 +11,22 @@ use Rattle.plan_tree.proofs.Numbers.{Reaches-within}
 use Rattle.plan_tree.proofs.ReadLemmas.{trees_at-is}
 use Rattle.plan_tree.proofs.Frames.{Rewrites-refl, Rewrites-back, Rewrites-above, StandsOnce-set, StandsOnce-first, StandsOnce-taken, Stands-kept, descend, Keeps-trans, Keeps-set, Keeps-append, slice_get-append, slice_get-append_last}
 use Rattle.plan_expr.specs.declared.aexpr.AExpr.{AExpr}
-use Rattle.plan_expr.specs.declared.expr_ir.ExprIR.{ExprIR}
 use Rattle.plan_ir.specs.declared.ir.IR.{IR}
 use Rattle.plan_ir.specs.declared.ir.IR.TheVariants as nodes
-use Rattle.plan_ir.specs.declared.scan.FileInfo.{FileInfo}
-use Rattle.plan_ir.specs.declared.scan.FileScan.{FileScan}
-use Rattle.plan_ir.specs.declared.scan.ScanSources.{ScanSources}
-use Rattle.plan_expr.specs.Operands.{IsExpr, operands_of}
-use Rattle.plan_expr.specs.Walks.{column_name}
-use Rattle.plan_expr.proofs.LeafLemmas.{leaves_column, leaves_below}
-use Rattle.plan_expr.proofs.ListLemmas.{flat_map-next}
 use Rattle.plan_ir.specs.Parts.{plan_shape, inputs_of, is_invalid, roots_of, roots_in, IsPlan}
-use Rattle.plan_expr.specs.Exprs.{expr_at}
 use Rattle.plan_ir.specs.Plans.{Op, op_at, plans_of, plans_at, bare}
 use Rattle.plan_ir.proofs.PlanLemmas.{plan_down}
-use Rattle.plan_core.specs.Names.{with_names, with_name}
-use Rattle.plan_expr.specs.Leaves.{Name, leaves}
+use Rattle.plan_expr.specs.Leaves.{Name}
 use Rattle.plan_meaning.specs.Counting.{is_closed}
 use Rattle.plan_schema.specs.Stored.{stored_all}
-use Rattle.plan_narrowing.specs.Pruned.{asks_plans, left_below, rebuilt, top_below, pruned_all, typed_names}
+use Rattle.plan_narrowing.specs.Pruned.{asks_plans, left_below, rebuilt, top_below, pruned_all}
 use Rattle.plan_meaning.specs.PlanAt.{one_plan}
-use Rattle.plan_narrowing.proofs.ListSteps.{with_names-append}
 use Rattle.plan_renamed.specs.Renamed.{IsLonger}
-use Rattle.plan_prune.specs.Prunes.{StandExprs, TakePlace, Prunes, PrunesAt}
-use Rattle.plan_prune.specs.Scans.{narrowed, kept_scan, with_node, with_top}
-use Rattle.plan_prune.specs.Kept.{is_some_name}
-use Rattle.plan_prune.proofs.LongerLemmas.{op_longer, own_exprs}
-use Rattle.plan_prune.proofs.PlaceLemmas.{place_alone, place_equal, place_both, place_before, place_trans, place_without}
-
--- the names of an expression are added: its own, or those of its operands one after another
-module _ (ex : List AExpr) (n : Node) (h : IsExpr ex n) where
-  pub adds-column : (names : List Name) (p : AExpr) (a : Name) → slice_get ex n.0 ≡ Some p → column_name p ≡ Some a → with_name names a ≡ with_names names (leaves (expr_at ex n))
-  adds-column names p a e c = ap (with_names names) (sym (leaves_column ex n p h e a c))
-
-  pub adds-below : (names : List Name) (p : AExpr) → slice_get ex n.0 ≡ Some p → column_name p ≡ None → with_names names (flat_map (λ (m : Node). leaves (expr_at ex m)) (operands_of p)) ≡ with_names names (leaves (expr_at ex n))
-  adds-below names p e c = ap (with_names names) (sym (leaves_below ex n p h e c))
-
--- the names of one operand more
-pub adds_next : (names : List Name) (f : Node → List Name) (ns : List Node) (i : ℕ) (m : Node) → slice_get ns i ≡ Some m → with_names (with_names names (flat_map f (take i ns))) (f m) ≡ with_names names (flat_map f (take (i + 1) ns))
-adds_next names f ns i m e = sym (with_names-append names (flat_map f (take i ns)) (f m)) ∙ ap (with_names names) (sym (flat_map-next f ns i m e))
+use Rattle.plan_prune_parts.specs.Places.{StandExprs, TakePlace}
+use Rattle.plan_prune.specs.Prunes.{Prunes, PrunesAt}
+use Rattle.plan_prune_parts.specs.Tops.{with_top}
+use Rattle.plan_prune_parts.proofs.LongerLemmas.{op_longer, own_exprs}
+use Rattle.plan_prune_parts.proofs.PlaceLemmas.{place_alone, place_equal, place_both, place_before, place_trans, place_without}
 
 -- what a call on the input of a node asks, once the node is taken
 pub record Asks (a b : List IR) (ex : List AExpr) (n i : Node) : Type 0 where
@@ -224,7 +200,7 @@ module _ (a b : List IR) (ex : List AExpr) (n : Node) (p d : IR) (t : Trees IR) 
       })
 
   -- it goes to a new number, and a projection on top takes its number
-  goes_below : (asked : List Name) (q : IR) (cs : Columns) → is_closed (op_at ex p) ≡ false → inputs_of q ≡ [] → is_invalid q ≡ false → roots_of q ≡ roots_of p → rose tt (op_at ex (nodes.SimpleProjection n cs)) (more (rose tt (op_at ex q) no_roses) no_roses) ≡ rebuilt true asked (op_at ex p) [] no_roses → Prunes true asked a (with_top cs b n q) ex ex n t
+  pub goes_below : (asked : List Name) (q : IR) (cs : Columns) → is_closed (op_at ex p) ≡ false → inputs_of q ≡ [] → is_invalid q ≡ false → roots_of q ≡ roots_of p → rose tt (op_at ex (nodes.SimpleProjection n cs)) (more (rose tt (op_at ex q) no_roses) no_roses) ≡ rebuilt true asked (op_at ex p) [] no_roses → Prunes true asked a (with_top cs b n q) ex ex n t
   goes_below asked q cs opens none valid roots is =
       rw alone (record {
         trees = under n (record { 0 = length b }) cs q no_roses;
@@ -232,19 +208,6 @@ module _ (a b : List IR) (ex : List AExpr) (n : Node) (p d : IR) (t : Trees IR) 
         exprs = place_equal ex ((roots_of q ++ []) ++ []) (roots_of p ++ []) (append-nil (roots_of q ++ []) ∙ ap (λ (l : List Node). l ++ []) roots);
         pruned = ap (λ r. more r no_roses) (is ∙ ap (rebuilt true asked (op_at ex p) []) (left_open (op_at ex p) no_roses no_roses opens));
       })
-
--- a scan at a number is pruned
-module _ (a b : List IR) (ex : List AExpr) (n : Node) (d : IR) (t : Trees IR) (h : StandsOnce plan_shape a (n ∷ []) t) (sources : ScanSources) (info : FileInfo) (predicate : Option ExprIR) (output : Option Columns) (kind : FileScan) (options : FileScanOptions) (e : slice_get a n.0 ≡ Some (nodes.Scan sources info predicate output kind options)) (taken : b ≡ slice_set a n.0 d) where
-  abbrev p : IR
-  p = nodes.Scan sources info predicate output kind options
-
-  placed : (top : Bool) (asked : List Name) → Prunes top asked a (with_node (is_some_name asked && top) b n (kept_scan asked p)) ex ex n t
-  placed top [] = stays a b ex n p d t h refl e taken top [] p refl refl refl refl refl
-  placed true (x ∷ asked) = goes_below a b ex n p d t h refl e taken (x ∷ asked) (narrowed (x ∷ asked) p) (typed_names info.schema (x ∷ asked)) refl refl refl refl refl
-  placed false (x ∷ asked) = stays a b ex n p d t h refl e taken false (x ∷ asked) (narrowed (x ∷ asked) p) refl refl refl refl refl
-
-  pub scan_pruned : (top : Bool) (asked : List Name) (c : List IR) → c ≡ with_node (is_some_name asked && top) b n (kept_scan asked p) → Prunes top asked a c ex ex n t
-  scan_pruned top asked c is = rw is (placed top asked)
 
 -- what a pruned plan is
 module _ (top : Bool) (asked : List Name) (a c : List IR) (ex grown : List AExpr) (n : Node) (h : IsPlan a ex n) (x : Prunes top asked a c ex grown n h.nodes) where

@@ -1,24 +1,16 @@
 -- That the plan at a number was pruned in place.
-use Rattle.std.specs.Prelude.{◌≡◌, ◌||◌, not, Bool, List, [], ◌∷◌, ◌++◌, Option, None, Some}
+use Rattle.std.specs.Prelude.{◌≡◌, ◌||◌, not, Bool, List, [], ◌∷◌, Option, None, Some}
 use Rattle.plan_core.specs.declared.arena.Node.{Node}
 use Rattle.plan_tree.specs.Rose.{Roses}
 use Rattle.plan_tree.specs.Stands.{Trees, StandsOnce, Rewrites}
 use Rattle.plan_expr.specs.declared.aexpr.AExpr.{AExpr}
 use Rattle.plan_ir.specs.declared.ir.IR.{IR}
-use Rattle.plan_expr.specs.Operands.{expr_shape}
 use Rattle.plan_ir.specs.Parts.{plan_shape, roots_in}
 use Rattle.plan_ir.specs.Plans.{Op, bare, plans_of}
 use Rattle.plan_expr.specs.Leaves.{Name}
 use Rattle.plan_meaning.specs.Counting.{meet_count}
 use Rattle.plan_narrowing.specs.Pruned.{covered_each, pruned_all}
-
--- expressions stand over these numbers, no number twice
-abbrev pub StandExprs : List AExpr → List Node → Type 0
-StandExprs ex ns = (e : Trees AExpr) × StandsOnce expr_shape ex ns e
-
--- where expressions stand over the old numbers among others in an arena, expressions stand over the new ones in their place in the arena that it grew to
-abbrev pub TakePlace : List AExpr → List AExpr → List Node → List Node → Type 0
-TakePlace ex grown new old = (before after : List Node) → StandExprs ex (before ++ (old ++ after)) → StandExprs grown (before ++ (new ++ after))
+use Rattle.plan_prune_parts.specs.Places.{StandExprs, TakePlace}
 
 -- the tree t at a number became another, in place and over expressions of its own: t pruned to the asked names, while the arena of expressions grew
 pub record Prunes (top : Bool) (asked : List Name) (old new : List IR) (ex grown : List AExpr) (n : Node) (t : Trees IR) : Type 0 where

@@ -1,6 +1,6 @@
 //! The pass that prunes a plan to the columns that it needs.
 //! Each node is told the names that are asked of it, and asks its inputs the names that it needs;
-//! no names stand for every column. The rule of a node kind is in a file of its own, and `step` finds it.
+//! no names stand for every column. The rule of a node kind is in a file of its own of plan_prune_steps, and its `step` finds it.
 ghost use Rattle.std.specs.Prelude.{◌≡◌, ◌≤◌, ◌+◌, [], ◌∷◌, IfOk, OnOk, ◌||◌, false, length, not, true};
 ghost use Rattle.plan_ir.specs.Parts.{IsPlan};
 ghost use Rattle.plan_ir.specs.Plans.{bare, plans_at};
@@ -14,36 +14,17 @@ ghost use Rattle.plan_meaning.specs.Work.{made, kept};
 ghost use Rattle.plan_narrowing.specs.Pruned.{pruned_all};
 ghost use Rattle.plan_narrowing.specs.Reads.{ReadWithin, tops};
 ghost use Rattle.plan_renamed.specs.Renamed.{IsLonger};
-ghost use Rattle.plan_prune.specs.Joined.{IsTaken};
+ghost use Rattle.plan_prune.specs.Taken.{IsTaken};
 ghost use Rattle.plan_prune.specs.Prunes.{AreInputs, InputsPruned, MarksAt, PrunesAt, PrunesUnder};
 
-mod cache;
-mod cover;
-mod distinct;
-mod exprs;
-mod filter;
-mod frame_scan;
-mod function;
-mod group_by;
-mod hconcat;
-mod hstack;
-mod join;
-mod projection;
-mod scan;
-mod select;
-mod sink;
-mod slice;
-mod sort;
-mod stand_in;
-mod step;
-mod union;
-
-use crate::push_down::cover::cover;
-use crate::push_down::step::Step;
 use plan_core::{Arena, Names, Node};
 use plan_expr::AExpr;
 use plan_ir::IR;
 use plan_narrowing::copied_names;
+use plan_prune_joins::join;
+use plan_prune_parts::cover::cover;
+use plan_prune_parts::{Step, cover};
+use plan_prune_steps::{select, step};
 use std::alloc::{AllocError, Global};
 
 /// Prunes plans to the columns that they need.

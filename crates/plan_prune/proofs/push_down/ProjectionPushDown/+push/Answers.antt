@@ -1,22 +1,22 @@
 use Rattle.std.proofs.Common.{◌≡◌, ◌≤◌, ℕ, ◌∙◌, ap, refl, sym, subst, arith, not, Bool, List, [], ◌∷◌, length, min, rules, Some}
 use Rattle.plan_narrowing.specs.Pruned.{asked_columns}
-use Rattle.plan_prune.specs.Scans.{covered_at}
-use Rattle.plan_prune.specs.Steps.{columns_at}
+use Rattle.plan_prune_parts.specs.Tops.{covered_at}
+use Rattle.plan_prune_parts.specs.Said.{columns_at}
 use Rattle.std.proofs.lemmas.List.{length_push}
 use Rattle.std.proofs.lemmas.Slice.Zip.{zip_turn, zip_end}
 use Rattle.plan_core.specs.declared.arena.Node.{Node}
 use Rattle.std.proofs.lemmas.Result.{on_ok_weaker}
 use Rattle.plan_ir.specs.Parts.{plan_shape}
-use Rattle.plan_prune.specs.Steps.{put_back}
+use Rattle.plan_prune_steps.specs.Steps.{put_back, IsPutBack}
 use Rattle.plan_prune.proofs.PruneLemmas.{input_asks, is_entry, entry_stays, stands_after}
 use Rattle.plan_expr.specs.Leaves.{Name}
-use Rattle.plan_prune.specs.Joined.{IsPutBack}
 use Rattle.plan_prune.specs.Prunes.{AreInputs, InputsPruned, PrunesAt}
 use Rattle.plan_tree.proofs.TreeLemmas.{height, tallest}
 use Rattle.plan_prune.proofs.EachLemmas.{SoFar, each_marks, next_asks, places, so_far_all, so_far_next, so_far_none}
-use Rattle.plan_prune.proofs.LongerLemmas.{longer_trans, plan_trees}
+use Rattle.plan_prune_parts.proofs.LongerLemmas.{longer_trans, plan_trees}
 use Rattle.plan_prune.proofs.ClosedPruned.{closed_step, closed_mark}
-use Rattle.plan_prune.proofs.StepLemmas.{closed_taken, each_exprs, each_falls, each_inputs, each_left, each_long, each_taken, kept_join, kept_taken, leaf_taken, over_taken, none_some, one_more, some_same, each_step, each_mark, is_over, leaf_stands, over_stands, leaf_pruned, over_pruned, top_marked}
+use Rattle.plan_prune.proofs.TakenSteps.{closed_taken, each_taken, kept_join, kept_taken, leaf_taken, over_taken, none_some, some_same, is_over, leaf_stands, top_marked}
+use Rattle.plan_prune.proofs.StepLemmas.{each_exprs, each_falls, each_inputs, each_left, each_long, one_more, each_step, each_mark, over_stands, leaf_pruned, over_pruned}
 use Rattle.plan_prune.proofs.HStackPruned.{some_len}
 use Rattle.plan_ir.specs.Plans.{op_at}
 use Rattle.plan_meaning.specs.Counting.{is_count}

@@ -1,9 +1,9 @@
 use Rattle.std.proofs.Common.{◌∙◌, sym, ap}
 use Rattle.plan_ir.proofs.PlanLemmas.{plan_exprs}
 use Rattle.plan_prune.specs.declared.push_down.ProjectionPushDown.{ProjectionPushDown}
-use Rattle.plan_prune.specs.Steps.{with_kept}
+use Rattle.plan_prune_parts.specs.Steps.{with_kept}
 use Rattle.plan_prune.proofs.PruneLemmas.{input_asks, inputs_taken}
-use Rattle.plan_prune.proofs.StepLemmas.{mark_kept, mark_set}
+use Rattle.plan_prune.proofs.TakenSteps.{mark_kept, mark_set}
 use Rattle.plan_prune.proofs.push_down.ProjectionPushDown.take.Goals.{then-is_count, else-is_count}
 use Rattle.plan_prune.proofs.push_down.ProjectionPushDown.take.Goals as goal
 

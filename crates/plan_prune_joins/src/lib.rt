@@ -1,0 +1,4 @@
+//! What pruning does at a join: before its sides are pruned, and after.
+#![tactic(auto)]
+
+pub mod join;

@@ -1,0 +1,6 @@
+-- The definitions that contracts cite.
+pub mod Kept
+pub mod Places
+pub mod Said
+pub mod Steps
+pub mod Tops

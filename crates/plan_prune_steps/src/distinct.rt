@@ -1,0 +1,62 @@
+//! Distinct rows stay as they are.
+//! Asked something, they ask their input that, and the names by which rows are told apart, each last unless it is asked
+//! already: without names all of the input's. Asked nothing, they ask nothing.
+ghost use Rattle.std.specs.Prelude.{◌≡◌, List, [], ◌∷◌, IfOk};
+ghost use Rattle.plan_core.specs.Columns.{names_of};
+ghost use Rattle.plan_tree.specs.Stands.{Trees, StandsOnce};
+ghost use Rattle.plan_expr.specs.declared.aexpr.AExpr.{AExpr};
+ghost use Rattle.plan_ir.specs.declared.ir.IR.{IR};
+ghost use Rattle.plan_ir.specs.declared.ir.IR.TheVariants.{Distinct};
+ghost use Rattle.plan_ir.specs.Parts.{plan_shape};
+ghost use Rattle.plan_frame.specs.Frames.{names_or};
+ghost use Rattle.plan_narrowing.specs.Pruned.{asked_with};
+ghost use Rattle.plan_prune_parts.specs.declared.step.Step.TheVariants.{Over};
+ghost use Rattle.plan_prune_parts.specs.Said.{columns_at};
+
+use plan_core::{Arena, Items, Names, Node, PlSmallStr, Schema};
+use plan_ir::IR;
+use plan_narrowing::{add_columns, add_listed};
+use plan_options::DistinctOptionsIR;
+use plan_prune_parts::Step;
+use plan_schema::stored_schema;
+use std::alloc::{AllocError, Global};
+
+/// What distinct rows ask their input: the asked names, and then the other names by which rows are told apart; no names
+/// stand for every column, and then they ask none.
+fn asks(
+    asked: Names,
+    subset: &Option<Items<PlSmallStr>>,
+    columns: &Schema,
+) -> Result<Names, AllocError>
+    ensures { IfOk result (λ names. names ≡ asked_with asked (names_or subset.now (names_of columns.now))) }
+{
+    let mut names = asked;
+    if names.len() == 0 {
+        return Ok(names);
+    }
+    match subset {
+        Some(told) => add_listed(&mut names, told.as_slice())?,
+        None => add_columns(&mut names, columns)?,
+    }
+    Ok(names)
+}
+
+/// The step of distinct rows.
+pub fn prepare(
+    alloc: Global,
+    input: Node,
+    options: DistinctOptionsIR,
+    asked: Names,
+    lp: &Arena<IR>,
+) -> Result<Step, AllocError>
+    requires { (t : Trees IR) × StandsOnce plan_shape lp.now (input ∷ []) t }
+    ensures { IfOk result (λ step. (ex : List AExpr) → step ≡ Over input (asked_with asked (names_or options.subset (names_of (columns_at lp.now ex input)))) (Distinct input options)) }
+{
+    let stored = stored_schema(alloc, input, lp)?;
+    let asked = asks(asked, &options.subset, stored.columns())?;
+    Ok(Step::Over {
+        input,
+        asked,
+        entry: IR::Distinct { input, options },
+    })
+}

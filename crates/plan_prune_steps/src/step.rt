@@ -1,0 +1,120 @@
+//! What pruning does at a node before its input is pruned, and after: each node kind has its own rule, and these two find it.
+ghost use Rattle.std.specs.Prelude.{◌≡◌, ◌<◌, ◌≤◌, ℕ, List, IfOk, IsTrue, OnOk, Some, length, slice_get};
+ghost use Rattle.plan_core.specs.declared.arena.Node.{Node as NodeType};
+ghost use Rattle.plan_tree.specs.Stands.{Trees, StandsOnce};
+ghost use Rattle.plan_expr.specs.declared.aexpr.AExpr.{AExpr};
+ghost use Rattle.plan_ir.specs.declared.ir.IR.{IR};
+ghost use Rattle.plan_ir.specs.Parts.{IsPlan, inputs_of, is_join, plan_shape, roots_of};
+ghost use Rattle.plan_renamed.specs.Renamed.{IsLonger};
+ghost use Rattle.plan_prune_parts.specs.declared.kept.Kept.{Kept as KeptType};
+ghost use Rattle.plan_prune_steps.specs.Steps.{IsPutBack, put_back, step_of};
+ghost use Rattle.plan_prune_parts.specs.Places.{StandExprs};
+
+use crate::{
+    cache, distinct, filter, frame_scan, function, group_by, hconcat, hstack, projection, scan,
+    select, sink, slice, sort, union,
+};
+use plan_core::{Arena, Names, Node};
+use plan_expr::AExpr;
+use plan_ir::IR;
+use plan_prune_joins::join;
+use plan_prune_parts::{Kept, Step};
+use std::alloc::{AllocError, Global};
+
+/// The step of a node that was taken and is asked these names, of which nothing is kept yet; no names stand for every column.
+pub fn prepare(
+    alloc: Global,
+    entry: IR,
+    asked: Names,
+    lp: &Arena<IR>,
+    ex: &Arena<AExpr>,
+) -> Result<Step, AllocError>
+    requires exprs { StandExprs ex.now (roots_of entry) }
+    requires inputs { (t : Trees IR) × StandsOnce plan_shape lp.now (inputs_of entry) t }
+    requires plans { (j : ℕ) (i : NodeType) → slice_get (inputs_of entry) j ≡ Some i → IsPlan lp.now ex.now i }
+    ensures { IfOk result (λ step. step ≡ step_of lp.now ex.now asked entry) }
+{
+    match entry {
+        IR::Slice { input, offset, len } => Ok(slice::prepare(input, offset, len, asked)),
+        IR::Filter { input, predicate } => filter::prepare(input, predicate, asked, ex),
+        IR::SimpleProjection { input, columns } => {
+            projection::prepare(alloc, input, columns, &asked)
+        }
+        scan @ IR::Scan { .. } => scan::prepare(alloc, scan, &asked),
+        scan @ IR::DataFrameScan { .. } => frame_scan::prepare(alloc, scan, &asked),
+        selection @ IR::Select { .. } => select::prepare(alloc, selection, &asked, lp, ex),
+        addition @ IR::HStack { .. } => hstack::prepare(alloc, addition, asked, lp, ex),
+        sort @ IR::Sort { .. } => sort::prepare(sort, asked, ex),
+        grouping @ IR::GroupBy { .. } => group_by::prepare(alloc, grouping, &asked, lp, ex),
+        join @ IR::Join { .. } => join::prepare(alloc, join, &asked, lp, ex),
+        IR::Distinct { input, options } => distinct::prepare(alloc, input, options, asked, lp),
+        IR::MapFunction { input, function } => function::prepare(alloc, input, function, asked, lp),
+        IR::Sink { input, payload } => Ok(sink::prepare(input, payload, asked)),
+        IR::Union { inputs, options } => union::prepare(alloc, inputs, options, asked),
+        concatenation @ IR::HConcat { .. } => hconcat::prepare(alloc, concatenation, &asked, lp),
+        cache @ IR::Cache { .. } => cache::prepare(alloc, cache, &asked, lp),
+        IR::Invalid => Ok(Step::Leaf { entry: IR::Invalid }),
+    }
+}
+
+/// Puts a node back at its number, once its inputs are pruned. It is told whether names are asked of it, and whether a
+/// projection goes on top of a narrowed scan. Refuses for want of memory alone, and then nothing is known of what stands at
+/// the number.
+pub fn put(
+    alloc: Global,
+    node: Node,
+    entry: IR,
+    is_asked: bool,
+    on_top: bool,
+    lp: &mut Arena<IR>,
+) -> Result<(), AllocError>
+    requires node { node.0 < length lp.old }
+    requires inputs { (t : Trees IR) × StandsOnce plan_shape lp.old (inputs_of entry) t }
+    ensures placed { OnOk result ((ex : List AExpr) → lp.new ≡ put_back on_top is_asked lp.old ex node entry) }
+    ensures grows { length lp.old ≤ length lp.new }
+{
+    match entry {
+        IR::HStack {
+            input,
+            exprs,
+            schema,
+            options,
+        } => hstack::put(alloc, node, input, is_asked, exprs, schema, options, lp),
+        IR::HConcat {
+            inputs,
+            schema,
+            options,
+        } => hconcat::put(alloc, node, inputs, is_asked, schema, options, lp),
+        scan @ IR::Scan { .. } => scan::put(alloc, node, scan, is_asked && on_top, lp),
+        other => {
+            lp.put(node, other);
+            Ok(())
+        }
+    }
+}
+
+/// Puts a node back at its number, once each of its inputs is pruned; a join that was asked names so that it puts out these, by what
+/// was kept of it. Expressions are only added. Refuses for want of memory alone, and then nothing is known of what stands at the number.
+pub fn put_over(
+    alloc: Global,
+    node: Node,
+    entry: IR,
+    kept: Option<Kept>,
+    is_asked: bool,
+    on_top: bool,
+    lp: &mut Arena<IR>,
+    ex: &mut Arena<AExpr>,
+) -> Result<(), AllocError>
+    requires kind { (k : KeptType) → kept ≡ Some k → IsTrue (is_join entry) }
+    requires node { node.0 < length lp.old }
+    requires exprs { StandExprs ex.old (roots_of entry) }
+    requires inputs { (t : Trees IR) × StandsOnce plan_shape lp.old (inputs_of entry) t }
+    ensures placed { OnOk result (IsPutBack on_top is_asked kept lp.old lp.new ex.old ex.new node entry) }
+    ensures grows { length lp.old ≤ length lp.new }
+    ensures longer { IsLonger ex.old ex.new }
+{
+    match kept {
+        Some(kept) => join::put(alloc, node, entry, kept, lp, ex),
+        None => put(alloc, node, entry, is_asked, on_top, lp),
+    }
+}
