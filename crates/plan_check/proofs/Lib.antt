@@ -2,6 +2,7 @@
 mod ApartLemmas
 mod GroupFaults
 mod ReadLemmas
+mod ScanLemmas
 pub mod TreeFaultLemmas
 mod TypedLemmas
 mod InputLemmas

@@ -1,12 +1,16 @@
 -- A set of names has the names that the list has that it was made from.
-use Rattle.std.proofs.Common.{◌≡◌, Bool, true, false, ◌&&◌, ◌||◌, List, [], ◌∷◌, ◌++◌, Option, Some, None, option_map, refl, sym, ap, ap₂, ◌∙◌, if◌then◌else◌}
+use Rattle.std.proofs.Common.{◌≡◌, Bool, true, false, not, ◌&&◌, ◌||◌, cond, List, [], ◌∷◌, ◌++◌, Option, Some, None, option_map, refl, sym, ap, ap₂, ◌∙◌, if◌then◌else◌}
 use Rattle.std.specs.Str.{bytes_eq}
 use Rattle.std.proofs.lemmas.Slice.Eq.{bytes_eq-Decides}
-use Rattle.plan_core.specs.Columns.{Columns}
+use Rattle.plan_core.specs.declared.data_type.DataType.{DataType}
+use Rattle.plan_core.specs.Columns.{Columns, names_of, type_of}
 use Rattle.plan_core.specs.Names.{has, with_name, with_names}
 use Rattle.plan_expr.specs.Leaves.{Name}
 use Rattle.plan_meaning.specs.Checks.{is_column}
-use Rattle.plan_meaning.specs.Typing.{has_columns, all_read, put_out_checks}
+use Rattle.plan_files.specs.FileColumns.{plain_columns}
+use Rattle.plan_files.proofs.FileLemmas.{known_none, known_there}
+use Rattle.plan_frame.proofs.NameSets.{named}
+use Rattle.plan_meaning.specs.Typing.{has_columns, all_read, is_read, put_out_checks}
 use Rattle.plan_check_exprs.proofs.EachLemmas.{each-same}
 
 or_assoc : (a b c : Bool) → ((a || b) || c) ≡ (a || (b || c))
@@ -53,7 +57,43 @@ all-same reads [] = refl
 all-same reads (c ∷ cs) = ap₂ (λ (a b : Bool). a && b) (reads-same reads c.0) (all-same reads cs)
 
 -- a list and the set of its names are checked alike
-pub put_out_same : (output : Option Columns) (reads : Option (List Name)) (file : Columns) → put_out_checks output (as_set reads) file ≡ put_out_checks output reads file
+pub put_out_same : (output : Option Columns) (reads : Option (List Name)) (plain file : Columns) → put_out_checks output (as_set reads) plain file ≡ put_out_checks output reads plain file
 unfolding put_out_checks
-put_out_same None reads file = rw (all-same reads file) refl
-put_out_same (Some output) reads file = each-same _ 1 _ _ output (λ c. ap (λ (b : Bool). is_column file c && b) (reads-same reads c.0))
+put_out_same None reads plain file = rw (all-same reads plain) refl
+put_out_same (Some output) reads plain file = each-same _ 1 _ _ output (λ c. ap (λ (b : Bool). is_column file c && (not (has (names_of plain) c.0) || b)) (reads-same reads c.0))
+
+-- a name is one of the columns that are read from files where a reader finds it and it is no hive column
+has-plain : (reader hive : Columns) (a : Name) → has (names_of (plain_columns reader hive)) a ≡ (has (names_of reader) a && not (has (names_of hive) a))
+has-plain [] hive a = refl
+has-plain (c ∷ reader) hive a = at (has (names_of hive) c.0) refl (bytes_eq a c.0) refl (has-plain reader hive a)
+  where
+    rest : Columns
+    rest = plain_columns reader hive
+
+    there : {h : Bool} → has (names_of hive) c.0 ≡ h → bytes_eq a c.0 ≡ true → has (names_of hive) a ≡ h
+    there p e = ap (has (names_of hive)) (named a c.0 e) ∙ p
+
+    and_false : (b : Bool) → (b && false) ≡ false
+    and_false true = refl
+    and_false false = refl
+
+    at : (h : Bool) → has (names_of hive) c.0 ≡ h → (b : Bool) → bytes_eq a c.0 ≡ b → has (names_of rest) a ≡ (has (names_of reader) a && not (has (names_of hive) a)) → has (names_of (cond (not h) (c ∷ rest) rest)) a ≡ ((b || has (names_of reader) a) && not (has (names_of hive) a))
+    at true p true e r = r ∙ ap (λ (x : Bool). has (names_of reader) a && not x) (there p e) ∙ and_false (has (names_of reader) a) ∙ sym (ap not (there p e))
+    at true p false e r = r
+    at false p true e r = ap (λ (x : Bool). x || has (names_of rest) a) e ∙ sym (ap not (there p e))
+    at false p false e r = ap (λ (x : Bool). x || has (names_of rest) a) e ∙ r
+
+-- whether a name is read, by whether a reader finds it
+
+pub found_read : (told : Option (List Name)) (reader hive : Columns) (a : Name) (t : DataType) → type_of reader a ≡ Some t → (has (names_of hive) a || has_columns told a) ≡ is_read told (plain_columns reader hive) a
+found_read told reader hive a t e =
+    let found : has (names_of reader) a ≡ true = known_there reader a t e in
+    sym (ap (λ (b : Bool). not b || has_columns told a) (has-plain reader hive a ∙ ap (λ (b : Bool). b && not (has (names_of hive) a)) found) ∙ ap (λ (b : Bool). b || has_columns told a) (twice (has (names_of hive) a)))
+  where
+    twice : (b : Bool) → not (not b) ≡ b
+    twice true = refl
+    twice false = refl
+
+pub lacking_read : (told : Option (List Name)) (reader hive : Columns) (a : Name) → type_of reader a ≡ None → true ≡ is_read told (plain_columns reader hive) a
+lacking_read told reader hive a e =
+    sym (ap (λ (b : Bool). not b || has_columns told a) (has-plain reader hive a ∙ ap (λ (b : Bool). b && not (has (names_of hive) a)) (known_none reader a e)))

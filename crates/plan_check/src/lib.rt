@@ -10,6 +10,8 @@ mod made;
 mod plan;
 mod projection;
 mod scan;
+mod scan_columns;
+mod scan_types;
 mod sort;
 mod tree;
 mod union;

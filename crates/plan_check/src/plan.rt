@@ -46,7 +46,9 @@ fn source_schema(alloc: Global, node: Node, entry: &IR, ex: &Arena<AExpr>) -> Po
 {
     match entry {
         IR::Scan {
+            sources,
             file_info,
+            hive_parts,
             predicate,
             output_schema,
             file_options,
@@ -54,9 +56,11 @@ fn source_schema(alloc: Global, node: Node, entry: &IR, ex: &Arena<AExpr>) -> Po
         } => scan_schema(
             alloc,
             node,
+            sources,
             predicate,
             output_schema,
             file_info,
+            hive_parts,
             file_options,
             ex,
         ),

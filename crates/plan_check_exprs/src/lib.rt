@@ -7,10 +7,7 @@ mod exprs;
 mod made;
 mod types;
 
-pub use columns::{
-    all_read, check_columns_known, check_columns_read, check_columns_typed, check_stored,
-    columns_differ,
-};
+pub use columns::{check_columns_known, check_columns_typed, check_stored, columns_differ};
 pub use exprs::{
     check_forms, check_leaves, check_leaves_from, check_namings, check_namings_from, check_outputs,
     check_plain, check_types,

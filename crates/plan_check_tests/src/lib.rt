@@ -6,3 +6,5 @@ mod joins;
 mod made;
 #[cfg(test)]
 mod plans;
+#[cfg(test)]
+mod scans;

@@ -24,6 +24,7 @@ fn scan(alloc: Global) -> Result<IR, AllocError> {
             schema,
             reader_schema,
         },
+        hive_parts: None,
         predicate: None,
         output_schema: None,
         scan_type: FileScan::Parquet,

@@ -1,5 +1,6 @@
 -- The lemmas of this crate.
 mod StackLemmas
+mod ScanLemmas
 mod ColumnLemmas
 mod MadeLemmas
 mod GivenLemmas
@@ -11,6 +12,7 @@ mod GroupLemmas
 mod BesideLemmas
 mod JoinLemmas
 mod SortLemmas
+mod CountLemmas
 mod FunctionLemmas
 mod UnpivotLemmas
 mod ExplodeLemmas

@@ -1,11 +1,11 @@
 //! A scan of a frame gives the columns of the table that is handed in under its number; without a number it has no rows.
-ghost use Rattle.std.specs.Prelude.{◌≡◌, [], IfOk, option_copied};
+ghost use Rattle.std.specs.Prelude.{◌≡◌, [], IfOk};
+ghost use Rattle.plan_file_tables.specs.Parts.{frame_found};
 ghost use Rattle.plan_ir.specs.Plans.{frame_scan as frame_scan_op};
 ghost use Rattle.plan_meaning.specs.Contents.{handed_in as handed_frame};
 ghost use Rattle.plan_meaning.specs.Typing.{columns_or as columns_told};
 ghost use Rattle.plan_eval.specs.Given.{Gives};
 ghost use Rattle.plan_fit.specs.Sources.{contents_of};
-ghost use Rattle.plan_eval.specs.Stacks.{frame_found};
 
 use crate::stack::stack;
 use plan_core::Schema;
@@ -14,7 +14,7 @@ use std::alloc::{AllocError, Global};
 
 /// The table that is handed in under a number, if there is one.
 fn handed_in(df: Option<u32>, tables: &Tables) -> Option<&Table>
-    ensures { frame_found (option_copied result) ≡ handed_frame (contents_of tables.now) df }
+    ensures { frame_found result ≡ handed_frame (contents_of tables.now) df }
 {
     match df {
         Some(number) => tables.get(&SourceKey::Frame(number)),

@@ -1,6 +1,6 @@
-//! A function of the whole input gives its columns under other names, or behind one that numbers the rows; an unpivot and
-//! an explode have files of their own.
-ghost use Rattle.std.specs.Prelude.{◌≡◌, ◌+◌, List, [], ◌∷◌, IfOk, false, map, pos, true};
+//! A function of the whole input gives its columns under other names, or behind one that numbers the rows; an unpivot,
+//! an explode and a count of the rows of files have files of their own.
+ghost use Rattle.std.specs.Prelude.{◌≡◌, ◌+◌, [], ◌∷◌, IfOk, false, map, pos, true};
 ghost use Rattle.std.specs.Int.{int_wrap, w64};
 ghost use Rattle.plan_core.specs.Columns.{names_of};
 ghost use Rattle.plan_core.specs.Names.{has};
@@ -9,19 +9,18 @@ ghost use Rattle.plan_ir.specs.Plans.{map_function};
 ghost use Rattle.plan_meaning.specs.Functions.{names_now, renamed as renamed_of, stay_apart};
 ghost use Rattle.plan_frame.specs.Reshaped.{renamed_columns, row_numbers as row_numbers_of, with_numbers, with_renamed};
 ghost use Rattle.plan_meaning.specs.Typing.{AllHold, function_checks};
-ghost use Rattle.plan_table.specs.declared.source_key.SourceKey.{SourceKey};
-ghost use Rattle.plan_table.specs.declared.table.Table.{Table as TableType};
 ghost use Rattle.plan_table.specs.Tables.{types_of};
 ghost use Rattle.plan_eval.specs.Function.{under};
 ghost use Rattle.plan_eval.specs.Given.{Gives};
 ghost use Rattle.plan_value.specs.Shown.{frame_of, schema_of, values_of};
 
+use crate::count::counted;
 use crate::explode::exploded;
 use crate::unpivot::unpivoted;
 use plan_core::{DataType, Items, PlSmallStr, TryClone};
 use plan_function::Renaming;
 use plan_ir::FunctionIR;
-use plan_table::{AnyValue, Column, Columns, Table};
+use plan_table::{AnyValue, Column, Columns, Table, Tables};
 use std::alloc::{AllocError, Global};
 
 /// A column under the name that its own gets.
@@ -118,10 +117,15 @@ fn numbered(
     })
 }
 
-/// The table that a function makes of its input.
-pub fn mapped(alloc: Global, table: &Table, function: &FunctionIR) -> Result<Table, AllocError>
+/// The table that a function makes of its input; a count of the rows of files looks at their tables alone.
+pub fn mapped(
+    alloc: Global,
+    table: &Table,
+    function: &FunctionIR,
+    tables: &Tables,
+) -> Result<Table, AllocError>
     requires { AllHold (function_checks function.now (schema_of table.now)) }
-    ensures { (ts : List (SourceKey × TableType)) → IfOk result (Gives ts (map_function function.now) (table.now ∷ [])) }
+    ensures { IfOk result (Gives tables.now (map_function function.now) (table.now ∷ [])) }
 {
     match function {
         FunctionIR::Rename { existing, new, .. } => {
@@ -130,5 +134,6 @@ pub fn mapped(alloc: Global, table: &Table, function: &FunctionIR) -> Result<Tab
         FunctionIR::RowIndex { name, offset } => numbered(alloc, table, name, offset.unwrap_or(0)),
         FunctionIR::Unpivot { args } => unpivoted(alloc, table, args),
         FunctionIR::Explode { columns } => exploded(alloc, table, columns.as_slice()),
+        FunctionIR::FastCount { sources, alias, .. } => counted(alloc, sources, alias, tables),
     }
 }

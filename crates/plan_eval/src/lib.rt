@@ -1,6 +1,7 @@
 //! The table that a plan gives over tables that fit it.
 #![tactic(auto)]
 
+mod count;
 mod distinct;
 mod explode;
 mod filter;

@@ -10,8 +10,6 @@ ghost use Rattle.plan_meaning.specs.Contents.{Fits, FitsAll};
 ghost use Rattle.plan_meaning.specs.PlanAt.{plan_at};
 ghost use Rattle.plan_meaning.specs.Steps.{IsValid, May};
 ghost use Rattle.plan_meaning.specs.Typing.{AllHold, AllValid, checks, schema};
-ghost use Rattle.plan_table.specs.declared.source_key.SourceKey.{SourceKey};
-ghost use Rattle.plan_table.specs.declared.table.Table.{Table as TableType};
 ghost use Rattle.plan_table.specs.Tables.{HasRows};
 ghost use Rattle.plan_eval.specs.Given.{GiveAll, Gives, names_many};
 ghost use Rattle.plan_value.specs.Shown.{frame_of, schema_of};
@@ -41,16 +39,27 @@ use std::alloc::{AllocError, Global};
 
 /// The table of a node that reads its source.
 fn source_table(alloc: Global, node: &IR, tables: &Tables) -> Result<Table, AllocError>
-    requires { is_scan node.now ≡ true }
+    requires scan { is_scan node.now ≡ true }
+    requires valid { (ex : List AExprType) × AllHold (checks (op_at ex node.now) []) }
     ensures { (ex : List AExprType) → IfOk result (Gives tables.now (op_at ex node.now) []) }
 {
     match node {
         IR::Scan {
             sources,
             file_info,
+            hive_parts,
             output_schema,
+            file_options,
             ..
-        } => scan(alloc, sources, file_info, output_schema, tables),
+        } => scan(
+            alloc,
+            sources,
+            file_info,
+            hive_parts,
+            output_schema,
+            file_options,
+            tables,
+        ),
         IR::DataFrameScan {
             df,
             schema,
@@ -66,13 +75,14 @@ fn one_input_table(
     node: &IR,
     table: &Table,
     ex: &Arena<AExpr>,
+    tables: &Tables,
 ) -> Result<Table, AllocError>
     requires one { length (inputs_of node.now) ≡ 1 }
     requires other { names_many node.now ≡ false }
     requires stand { All (λ e. IsExpr ex.now e.node) (exprs_of node.now) }
     requires valid { AllHold (checks (op_at ex.now node.now) (schema_of table.now ∷ [])) }
     requires rows { HasRows table.now }
-    ensures { (ts : List (SourceKey × TableType)) → IfOk result (Gives ts (op_at ex.now node.now) (table.now ∷ [])) }
+    ensures { IfOk result (Gives tables.now (op_at ex.now node.now) (table.now ∷ [])) }
 {
     match node {
         IR::Slice { offset, len, .. } => slice(alloc, table, *offset, *len),
@@ -92,7 +102,7 @@ fn one_input_table(
             ..
         } => group_by(alloc, table, keys.as_slice(), aggs.as_slice(), schema, ex),
         IR::Distinct { options, .. } => distinct(alloc, table, options),
-        IR::MapFunction { function, .. } => mapped(alloc, table, function),
+        IR::MapFunction { function, .. } => mapped(alloc, table, function, tables),
         IR::Sink { .. } | IR::Cache { .. } => unchanged(alloc, table),
         IR::Join { .. }
         | IR::Union { .. }
@@ -155,7 +165,7 @@ fn node_table(
         | IR::Distinct { .. }
         | IR::MapFunction { .. }
         | IR::Sink { .. }
-        | IR::Cache { .. } => one_input_table(alloc, node, only(inputs), ex),
+        | IR::Cache { .. } => one_input_table(alloc, node, only(inputs), ex, tables),
         IR::Invalid => unreachable!(),
     }
 }

@@ -1,57 +1,14 @@
 //! Tables one after another, cut to some columns.
-ghost use Rattle.std.specs.Prelude.{◌≡◌, ◌++◌, length, replicate, IfOk, OnOk};
+ghost use Rattle.std.specs.Prelude.{◌≡◌, IfOk};
 ghost use Rattle.plan_core.specs.Columns.{names_of};
-ghost use Rattle.plan_frame.specs.Frames.{stack as stack_of, stacked, total_height, column_or};
-ghost use Rattle.plan_value.specs.Shown.{column_shown, frame_of, schema_of, value_of, values_of};
+ghost use Rattle.plan_frame.specs.Frames.{stack as stack_of, stacked, total_height};
+ghost use Rattle.plan_value.specs.Shown.{column_shown, frame_of, schema_of, values_of};
 ghost use Rattle.plan_eval.specs.Stacks.{shown_tables};
 
-use plan_core::{DataType, Items, PlSmallStr, Schema, TryClone};
+use plan_core::{DataType, Items, PlSmallStr, Schema};
+use plan_file_tables::append_column;
 use plan_table::{AnyValue, Column, Columns, Table};
 use std::alloc::{AllocError, Global};
-
-/// Appends values.
-pub fn append(
-    alloc: Global,
-    values: &mut Items<AnyValue>,
-    more: &[AnyValue],
-) -> Result<(), AllocError>
-    ensures { OnOk result (values.new ≡ values.old ++ more.now) }
-{
-    for value in more {
-        values.push(value.try_clone(alloc)?)?;
-    }
-    Ok(())
-}
-
-/// Appends a value so many times.
-pub fn append_times(
-    alloc: Global,
-    values: &mut Items<AnyValue>,
-    value: &AnyValue,
-    times: usize,
-) -> Result<(), AllocError>
-    ensures { OnOk result (values_of values.new ≡ values_of values.old ++ replicate times (value_of value.now)) }
-{
-    for _ in 0..times {
-        values.push(value.try_clone(alloc)?)?;
-    }
-    Ok(())
-}
-
-/// Appends the values of the column of a name; null for each row where there is none.
-pub fn append_column(
-    alloc: Global,
-    values: &mut Items<AnyValue>,
-    table: &Table,
-    name: &str,
-) -> Result<(), AllocError>
-    ensures { OnOk result (values_of values.new ≡ values_of values.old ++ column_or (frame_of table.now) name.now) }
-{
-    match table.columns.get(name) {
-        Some(column) => Ok(append(alloc, values, column.values.as_slice())?),
-        None => Ok(append_times(alloc, values, &AnyValue::Null, table.height)?),
-    }
-}
 
 /// The values of the columns of a name, one table after another.
 fn stacked_values(

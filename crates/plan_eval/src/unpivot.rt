@@ -9,8 +9,8 @@ ghost use Rattle.plan_meaning.specs.Mapped.{unpivoted as unpivoted_of};
 ghost use Rattle.plan_table.specs.Tables.{types_of};
 ghost use Rattle.plan_value.specs.Shown.{columns_shown, frame_of, schema_of, values_of};
 
-use crate::stack::{append, append_column, append_times};
 use plan_core::{DataType, Items, PlSmallStr, TryClone};
+use plan_file_tables::{append, append_column, append_times};
 use plan_function::{value_name, value_names, variable_name};
 use plan_ir::UnpivotArgsIR;
 use plan_table::{AnyValue, Column, Columns, Table};

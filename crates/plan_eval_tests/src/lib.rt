@@ -10,6 +10,8 @@ mod joins;
 mod nodes;
 #[cfg(test)]
 mod plans;
+#[cfg(test)]
+mod scans;
 pub mod tables;
 #[cfg(test)]
 mod unions;

@@ -79,11 +79,11 @@ pub fn given(
     Ok(shown(alloc, &table)?)
 }
 
-/// Columns; c is a text, and the others whole numbers.
+/// Columns; c and p are texts, and the others whole numbers.
 pub fn columns(alloc: Global, names: &[&str]) -> Result<Schema, AllocError> {
     let mut schema = Schema::new(alloc);
     for name in names {
-        let dtype = if *name == "c" {
+        let dtype = if *name == "c" || *name == "p" {
             DataType::String
         } else {
             DataType::Int64
@@ -105,6 +105,7 @@ pub fn scan(alloc: Global, lp: &mut Arena<IR>) -> Result<Node, AllocError> {
             schema,
             reader_schema,
         },
+        hive_parts: None,
         predicate: None,
         output_schema: None,
         scan_type: FileScan::Parquet,

@@ -1,23 +1,19 @@
 -- When tables have what nodes and plans need.
-use Rattle.std.proofs.Common.{◌≡◌, ◌<◌, ◌++◌, ◌+◌, ℕ, zero, suc, Bool, true, false, cond, length, get_or, take, List, [], ◌∷◌, map, Option, None, Some, option_map, refl, ap, ap₂, sym, subst, ◌∙◌}
+use Rattle.std.proofs.Common.{◌≡◌, ◌++◌, Bool, true, false, cond, List, [], ◌∷◌, Option, None, Some, option_map, refl, ap, ap₂, sym, subst, ◌∙◌}
 use Rattle.std.specs.Prelude.{◌↔◌, IsTrue, IfSome}
 use Rattle.std.specs.List.{AllByRecursion, slice_get}
 use Rattle.std.specs.Str.{bytes_eq}
-use Rattle.std.proofs.lemmas.List.{map-append, take_more}
 use Rattle.plan_core.specs.Columns.{Columns, type_of}
 use Rattle.plan_core.specs.declared.arena.Node.{Node}
 use Rattle.plan_core.specs.declared.data_type.DataType.{DataType}
 use Rattle.plan_tree.specs.Rose.{Roses, rose, no_roses, more}
 use Rattle.plan_expr.specs.declared.aexpr.AExpr.{AExpr}
 use Rattle.plan_ir.specs.declared.ir.IR.{IR}
-use Rattle.plan_ir.specs.declared.scan.FileInfo.{FileInfo}
-use Rattle.plan_ir.specs.declared.scan.ScanSources.TheVariants.{Paths}
 use Rattle.plan_ir.specs.Parts.{inputs_of, IsPlan}
 use Rattle.plan_ir.specs.Plans.{Op, bare, op_at, plans_at}
 use Rattle.plan_ir.proofs.PlanLemmas.{plan_open}
 use Rattle.plan_meaning.specs.PlanAt.{one_plan}
 use Rattle.plan_expr.specs.Leaves.{Name}
-use Rattle.plan_meaning.specs.Typing.{file_columns}
 use Rattle.plan_frame.specs.Frames.{Frame}
 use Rattle.plan_meaning.specs.Contents.{Contents, Fits, FitsAll, FitsAt, frame_at, same_source}
 use Rattle.plan_table.specs.declared.column.Column.{Column as Typed}
@@ -25,7 +21,7 @@ use Rattle.plan_table.specs.declared.source_key.SourceKey.{SourceKey}
 use Rattle.plan_table.specs.declared.source_key.SourceKey.TheVariants as keys
 use Rattle.plan_table.specs.declared.table.Table.{Table}
 use Rattle.plan_table.specs.Tables.{IsTable, column_of, same_key, table_at, types_of}
-use Rattle.plan_fit.specs.Fitting.{HasColumns, IsMet, Need, TablesFit, needs, needs_by, scan_needs}
+use Rattle.plan_fit.specs.Fitting.{HasColumns, IsMet, TablesFit, needs, needs_by}
 use Rattle.plan_fit.specs.Sources.{contents_of, source_of}
 use Rattle.plan_value.specs.Shown.{frame_of}
 
@@ -59,28 +55,6 @@ formed-found ts key t e h = subst (λ (o : Option Table). IfSome o IsTable) e h
 
 pub formed-absent : (ts : List (SourceKey × Table)) (key : SourceKey) → None ≡ table_at ts key → IfSome (table_at ts key) IsTable
 formed-absent ts key e = subst (λ (o : Option Table). IfSome o IsTable) e tt
-
--- Sources one after another
-
-all-push : {X : Type 0} (P : X → Type 0) (xs : List X) (x : X) → AllByRecursion P xs → P x → AllByRecursion P (xs ++ x ∷ [])
-all-push P [] x h p = (p, tt)
-all-push P (y ∷ xs) x h p = (h.0, all-push P xs x h.1 p)
-
-module _ (P : Need → Type 0) (paths : List Name) (info : FileInfo) (i : ℕ) (a : Name) (lt : i < length paths) (is : a ≡ get_or paths i a) where
-  -- what holds of the paths before the next place, and of the one at this place
-  pub needs-next : AllByRecursion P (scan_needs (Paths (take i paths)) info) → P (keys.Path a, file_columns info) → AllByRecursion P (scan_needs (Paths (take (i + 1) paths)) info)
-  needs-next h p =
-      let need : Name → Need = λ (b : Name). (keys.Path b, file_columns info) in
-      let grown : map need (take (i + 1) paths) ≡ map need (take i paths) ++ need a ∷ [] =
-      ap (map need) (take_more paths i a lt) ∙ map-append need (take i paths) (get_or paths i a ∷ []) ∙ ap (λ (b : Name). map need (take i paths) ++ need b ∷ []) (sym is)
-      in
-      subst (AllByRecursion P) (sym grown) (all-push P (map need (take i paths)) (need a) h p)
-
--- what holds of all holds at each place
-pub needs-at : (P : Need → Type 0) (paths : List Name) (info : FileInfo) (i : ℕ) (a : Name) → slice_get paths i ≡ Some a → AllByRecursion P (scan_needs (Paths paths) info) → P (keys.Path a, file_columns info)
-needs-at P [] info i a e h = cc
-needs-at P (b ∷ paths) info zero a e h = let q : b ≡ a = cc in subst (λ (c : Name). P (keys.Path c, file_columns info)) q h.0
-needs-at P (b ∷ paths) info (suc i) a e h = needs-at P paths info i a e h.1
 
 -- Nodes and plans
 

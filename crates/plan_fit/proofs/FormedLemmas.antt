@@ -7,15 +7,17 @@ use Rattle.plan_core.specs.declared.data_type.DataType.{DataType}
 use Rattle.plan_core.specs.declared.data_type.DataType.TheVariants as types
 use Rattle.plan_core.specs.declared.data_type.PlainType.{PlainType}
 use Rattle.plan_core.specs.declared.data_type.PlainType.TheVariants as plains
-use Rattle.plan_ir.specs.declared.scan.FileInfo.{FileInfo}
-use Rattle.plan_ir.specs.declared.scan.ScanSources.TheVariants.{Paths}
+use Rattle.plan_ir.specs.declared.functions.FunctionIR.{FunctionIR}
+use Rattle.plan_ir.specs.declared.functions.FunctionIR.TheVariants.{Rename, RowIndex, Unpivot, Explode, FastCount}
+use Rattle.plan_scan.specs.Source.{Source, file, buffer}
+use Rattle.plan_scan.specs.Sources.{sources_of}
 use Rattle.plan_ir.specs.Plans.{Op, slice, filter, scan, frame_scan, simple_projection, select, hstack, sort, group_by, join, distinct, map_function, sink, union, hconcat, cache, invalid}
 use Rattle.plan_expr.specs.Leaves.{Name}
-use Rattle.plan_meaning.specs.Typing.{file_columns}
+use Rattle.plan_meaning.specs.Typing.{reader_columns}
 use Rattle.plan_frame.specs.Values.{Value, AllOf}
 use Rattle.plan_frame.specs.Values as spec
 use Rattle.plan_frame.specs.Frames.{HaveTypes, HoldsAll, IsFrame}
-use Rattle.plan_meaning.specs.Contents.{FitsAt, HasFrame, path}
+use Rattle.plan_meaning.specs.Contents.{FitsAt, FunctionFits, HasFrame, place_of}
 use Rattle.plan_frame.proofs.FrameLemmas.{is_type_some, schema_holds, length-map}
 use Rattle.plan_table.specs.declared.column.Column.{Column as Typed}
 use Rattle.plan_table.specs.declared.source_key.SourceKey.{SourceKey}
@@ -26,7 +28,7 @@ use Rattle.plan_table.specs.declared.value.AnyValue.TheVariants.{Null, Int64, St
 use Rattle.plan_table.specs.declared.value.PlainValue.{PlainValue}
 use Rattle.plan_table.specs.declared.value.PlainValue.TheVariants as singles
 use Rattle.plan_table.specs.Tables.{IsColumn, IsOf, IsPlainOf, IsTable, table_at, types_of}
-use Rattle.plan_fit.specs.Fitting.{AreFormed, HasColumns, IsMet, needs_by, scan_needs}
+use Rattle.plan_fit.specs.Fitting.{AreFormed, HasColumns, IsMet, function_needs, needs_by, source_needs}
 use Rattle.plan_fit.specs.Sources.{contents_of, source_of}
 use Rattle.plan_value.specs.Shown.{columns_shown, frame_of, single_of, value_of, values_of}
 use Rattle.plan_fit.proofs.FitLemmas.{frame-shown}
@@ -153,15 +155,23 @@ met-frame ts key s m f =
       holds = table-holds m.0 s formed m.2;
     }
 
-scan-frames : (ts : List (SourceKey × Table)) (paths : List Name) (info : FileInfo) → AllByRecursion (IsMet ts) (scan_needs (Paths paths) info) → AreFormed ts (scan_needs (Paths paths) info) → AllByRecursion (HasFrame (contents_of ts) (file_columns info)) (map path paths)
-scan-frames ts [] info m f = tt
-scan-frames ts (a ∷ paths) info m f = (met-frame ts (keys.Path a) (file_columns info) m.0 f.0, scan-frames ts paths info m.1 f.1)
+source-frames : (ts : List (SourceKey × Table)) (sources : List Source) (columns : Columns) → AllByRecursion (IsMet ts) (source_needs sources columns) → AreFormed ts (source_needs sources columns) → AllByRecursion (HasFrame (contents_of ts) columns) (map place_of sources)
+source-frames ts [] columns m f = tt
+source-frames ts (file a ∷ sources) columns m f = (met-frame ts (keys.Path a) columns m.0 f.0, source-frames ts sources columns m.1 f.1)
+source-frames ts (buffer i ∷ sources) columns m f = (met-frame ts (keys.Buffer i) columns m.0 f.0, source-frames ts sources columns m.1 f.1)
+
+function-frames : (ts : List (SourceKey × Table)) (function : FunctionIR) → AllByRecursion (IsMet ts) (function_needs function) → AreFormed ts (function_needs function) → FunctionFits (contents_of ts) function
+function-frames ts (Rename existing new swapping) m f = tt
+function-frames ts (RowIndex name offset) m f = tt
+function-frames ts (Unpivot args) m f = tt
+function-frames ts (Explode columns) m f = tt
+function-frames ts (FastCount sources scan_type alias) m f = source-frames ts (sources_of sources) [] m f
 
 -- what a node needs is met: the contents fit it
 pub node-frames : (ts : List (SourceKey × Table)) (op : Op) → AllByRecursion (IsMet ts) (needs_by op) → AreFormed ts (needs_by op) → FitsAt (contents_of ts) op
 node-frames ts (slice offset len) m f = tt
 node-frames ts (filter predicate) m f = tt
-node-frames ts (scan (Paths paths) info predicate output kind options) m f = scan-frames ts paths info m f
+node-frames ts (scan sources info hive predicate output kind options) m f = source-frames ts (sources_of sources) (reader_columns info) m f
 node-frames ts (frame_scan None schema output) m f = tt
 node-frames ts (frame_scan (Some i) schema output) m f = met-frame ts (keys.Frame i) schema m.0 f.0
 node-frames ts (simple_projection columns) m f = tt
@@ -171,7 +181,7 @@ node-frames ts (sort keys part options) m f = tt
 node-frames ts (group_by keys aggs schema ordered options) m f = tt
 node-frames ts (join left_on right_on schema told) m f = tt
 node-frames ts (distinct options) m f = tt
-node-frames ts (map_function function) m f = tt
+node-frames ts (map_function function) m f = function-frames ts function m f
 node-frames ts (sink payload) m f = tt
 node-frames ts (union options) m f = tt
 node-frames ts (hconcat schema options) m f = tt

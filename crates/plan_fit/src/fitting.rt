@@ -4,21 +4,23 @@ ghost use Rattle.std.specs.List.{AllByRecursion};
 ghost use Rattle.plan_tree.specs.Stands.{Trees, StandsOnce};
 ghost use Rattle.plan_expr.specs.declared.aexpr.AExpr.{AExpr};
 ghost use Rattle.plan_ir.specs.declared.ir.IR.{IR as IRType};
-ghost use Rattle.plan_ir.specs.declared.scan.ScanSources.TheVariants.{Paths as PathSources};
+ghost use Rattle.plan_scan.specs.Sources.{source_of, sources_of};
 ghost use Rattle.plan_ir.specs.Parts.{IsPlan, plan_shape};
 ghost use Rattle.plan_ir.specs.Plans.{bare, op_at, plans_at};
 ghost use Rattle.plan_meaning.specs.Contents.{Fits, FitsAll, FitsAt};
 ghost use Rattle.plan_meaning.specs.PlanAt.{plan_at};
 ghost use Rattle.plan_meaning.specs.Checks.{is_column};
-ghost use Rattle.plan_meaning.specs.Typing.{file_columns};
+ghost use Rattle.plan_meaning.specs.Typing.{columns_or};
 ghost use Rattle.plan_table.specs.Tables.{IsTable, table_at, types_of};
-ghost use Rattle.plan_table.specs.declared.source_key.SourceKey.TheVariants.{Frame as frame_key, Path as path_key};
-ghost use Rattle.plan_fit.specs.Fitting.{AreFormed, HasColumns, IsMet, TablesFit, needs_by, scan_needs};
-ghost use Rattle.plan_fit.specs.Sources.{contents_of};
+ghost use Rattle.plan_table.specs.declared.source_key.SourceKey.TheVariants.{Frame as frame_key};
+ghost use Rattle.plan_fit.specs.Fitting.{AreFormed, HasColumns, IsMet, TablesFit, needs_by, source_needs};
+ghost use Rattle.plan_fit.specs.Sources.{contents_of, key_of};
 
 use crate::inputs::{input_at, input_count};
-use plan_core::{Arena, DataType, Node, PlSmallStr, Schema};
-use plan_ir::{FileInfo, IR, ScanSources};
+use crate::sources::table_of;
+use plan_core::{Arena, DataType, Node, Schema};
+use plan_ir::{FunctionIR, IR, ScanSources};
+use plan_scan::ScanSourceRef;
 use plan_table::{SourceKey, Table, Tables};
 
 /// Whether a table has a column of this name and type.
@@ -43,48 +45,38 @@ fn has_columns(table: &Table, columns: &Schema) -> bool
     true
 }
 
-/// Whether a table has the columns that a reader finds.
-fn has_file(table: &Table, info: &FileInfo) -> bool
-    ensures { IsTrue result ↔ HasColumns (file_columns info.now) table.now }
+/// Whether a table has the columns that a reader finds, if it is known what it finds.
+fn has_file(table: &Table, columns: &Option<Schema>) -> bool
+    ensures { IsTrue result ↔ HasColumns (columns_or columns.now []) table.now }
 {
-    match &info.reader_schema {
+    match columns {
         Some(columns) => has_columns(table, columns),
         None => true,
     }
 }
 
-/// Whether the file of a path has a table with the columns that a reader finds.
-fn path_fits(path: &PlSmallStr, info: &FileInfo, tables: &Tables) -> bool
-    ensures met { IsTrue result ↔ IsMet tables.now (path_key path.now, file_columns info.now) }
-    ensures formed { IfSome (table_at tables.now (path_key path.now)) IsTable }
+/// Whether a source has a table with the columns that a reader finds.
+fn source_fits(source: ScanSourceRef<'_>, columns: &Option<Schema>, tables: &Tables) -> bool
+    ensures met { IsTrue result ↔ IsMet tables.now (key_of (source_of source.entry), columns_or columns.now []) }
+    ensures formed { IfSome (table_at tables.now (key_of (source_of source.entry))) IsTable }
 {
-    match tables.get_path(path.as_str()) {
-        Some(table) => has_file(table, info),
+    match table_of(source, tables) {
+        Some(table) => has_file(table, columns),
         None => false,
     }
 }
 
-/// Whether the file of each path has a table with the columns that a reader finds.
-fn paths_fit(paths: &[PlSmallStr], info: &FileInfo, tables: &Tables) -> bool
-    ensures met { IsTrue result ↔ AllByRecursion (IsMet tables.now) (scan_needs (PathSources paths.now) info.now) }
-    ensures formed { IsTrue result → AreFormed tables.now (scan_needs (PathSources paths.now) info.now) }
+/// Whether each source has a table with the columns that a reader finds.
+fn sources_fit(sources: &ScanSources, columns: &Option<Schema>, tables: &Tables) -> bool
+    ensures met { IsTrue result ↔ AllByRecursion (IsMet tables.now) (source_needs (sources_of sources.now) (columns_or columns.now [])) }
+    ensures formed { IsTrue result → AreFormed tables.now (source_needs (sources_of sources.now) (columns_or columns.now [])) }
 {
-    for path in paths {
-        if !path_fits(path, info, tables) {
+    for source in sources.iter() {
+        if !source_fits(source, columns, tables) {
             return false;
         }
     }
     true
-}
-
-/// Whether each source of a scan has a table with the columns that its reader finds.
-fn scan_fits(sources: &ScanSources, info: &FileInfo, tables: &Tables) -> bool
-    ensures met { IsTrue result ↔ AllByRecursion (IsMet tables.now) (scan_needs sources.now info.now) }
-    ensures formed { IsTrue result → AreFormed tables.now (scan_needs sources.now info.now) }
-{
-    match sources {
-        ScanSources::Paths(paths) => paths_fit(paths.as_slice(), info, tables),
-    }
 }
 
 /// Whether the frame of a number has a table with these columns.
@@ -108,7 +100,11 @@ fn is_met(node: &IR, tables: &Tables) -> bool
             sources,
             file_info,
             ..
-        } => scan_fits(sources, file_info, tables),
+        } => sources_fit(sources, &file_info.reader_schema, tables),
+        IR::MapFunction {
+            function: FunctionIR::FastCount { sources, .. },
+            ..
+        } => sources_fit(sources, &None, tables),
         IR::DataFrameScan {
             df: Some(number),
             schema,
@@ -136,8 +132,9 @@ fn are_met(node: Node, lp: &Arena<IR>, tables: &Tables) -> bool
     true
 }
 
-/// Whether tables fit the plan at `root`: each source of a scan has a table with the columns that its reader finds, and
-/// each frame that is handed in by number one with the columns of its scan, of their types. Further columns and tables may
+/// Whether tables fit the plan at `root`: each source of a scan has a table with the columns that its reader finds,
+/// each frame that is handed in by number one with the columns of its scan, of their types, and each source whose rows are counted a
+/// table. Further columns and tables may
 /// be there. It takes no memory.
 pub fn fits(root: Node, lp: &Arena<IR>, tables: &Tables) -> bool
     requires { (ex : List AExpr) × IsPlan lp.now ex root }

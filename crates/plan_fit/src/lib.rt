@@ -3,5 +3,7 @@
 
 mod fitting;
 pub mod inputs;
+mod sources;
 
 pub use fitting::fits;
+pub use sources::table_of;

@@ -1,16 +1,14 @@
 -- Checks made one after another.
-use Rattle.std.proofs.Common.{◌≡◌, ℕ, zero, suc, ◌+◌, ◌<◌, ◌≤◌, ◌^◌, ◌-◌, min, Bool, true, false, not, List, [], ◌∷◌, ◌++◌, length, map, drop, Option, Some, None, refl, sym, ap, ◌∙◌, arith, add-one, add-zero, if◌then◌else◌}
+use Rattle.std.proofs.Common.{◌≡◌, ℕ, zero, suc, ◌+◌, ◌<◌, ◌≤◌, ◌^◌, ◌-◌, min, Bool, true, false, not, List, [], ◌∷◌, ◌++◌, length, map, drop, Some, None, refl, sym, ap, ◌∙◌, arith, add-one, add-zero, if◌then◌else◌}
 use Rattle.std.specs.List.{slice_get}
 use Rattle.plan_core.specs.declared.arena.Node.{Node}
 use Rattle.plan_core.specs.declared.error.At.{At}
 use Rattle.plan_core.specs.declared.error.PolarsError.{PolarsError}
 use Rattle.plan_core.specs.declared.error.PolarsError.TheVariants.{Duplicate}
 use Rattle.plan_core.specs.Names.{has}
-use Rattle.plan_core.specs.Columns.{Columns}
-use Rattle.plan_core.specs.declared.data_type.DataType.{DataType}
 use Rattle.plan_expr.specs.Leaves.{Name}
 use Rattle.plan_meaning.specs.Checks.{Check, check, each, each_new}
-use Rattle.plan_meaning.specs.Typing.{all_read, has_columns, first_fault, or_fault, at}
+use Rattle.plan_meaning.specs.Typing.{first_fault, or_fault, at}
 
 -- the items from a place on
 pub drop-at : {A : Type 0} (xs : List A) (i : ℕ) (x : A) → slice_get xs i ≡ Some x → drop i xs ≡ x ∷ drop (suc i) xs
@@ -73,23 +71,6 @@ past (x ∷ xs) (suc i) e h = past xs i e (omega arith)
 -- a place that was counted without going past the last number
 pub at-capped : (n : Node) (p q : ℕ) → p ≡ min q (2 ^ 64 - 1) → at n p ≡ at n q
 at-capped n p q e = let same : min p 4294967295 ≡ min q 4294967295 = omega arith in ap (λ (x : ℕ). record { node = Some n; place = x }) same
-
--- the columns from a place on are read exactly where all are
-pub record ReadLeft (reads : Option (List Name)) (cs : Columns) (i : ℕ) : Type 0 where
-  pub same : all_read reads (drop i cs) ≡ all_read reads cs
-
-pub read-next : (reads : Option (List Name)) (cs : Columns) (i : ℕ) (c : Name × DataType) → ReadLeft reads cs i → slice_get cs i ≡ Some c → has_columns reads c.0 ≡ true → ReadLeft reads cs (i + 1)
-read-next reads cs i c l e good =
-    let step : all_read reads (c ∷ drop (suc i) cs) ≡ all_read reads (drop (suc i) cs) = rw good refl in
-    record { same = rw (add-one i) (sym step ∙ ap (all_read reads) (sym (drop-at cs i c e)) ∙ l.same) }
-
-pub read-bad : (reads : Option (List Name)) (cs : Columns) (i : ℕ) (c : Name × DataType) → ReadLeft reads cs i → slice_get cs i ≡ Some c → has_columns reads c.0 ≡ false → false ≡ all_read reads cs
-read-bad reads cs i c l e bad =
-    let step : all_read reads (c ∷ drop (suc i) cs) ≡ false = rw bad refl in
-    sym step ∙ ap (all_read reads) (sym (drop-at cs i c e)) ∙ l.same
-
-pub read-end : (reads : Option (List Name)) (cs : Columns) (i : ℕ) → ReadLeft reads cs i → length cs ≤ i → true ≡ all_read reads cs
-read-end reads cs i l h = ap (all_read reads) (sym (drop-end cs i h)) ∙ l.same
 
 -- no name so far is one before it, and the checks from a place on say what all of them say
 pub record NewLeft (n : Node) (k : ℕ) (names before : List Name) (i : ℕ) : Type 0 where

@@ -1,11 +1,12 @@
 //! Functions of whole frames: a renaming has new names for old ones, none twice, and gives no two columns one name; a numbering
-//! of the rows adds a name; an unpivot and an explode have files of their own.
+//! of the rows adds a name; an unpivot, an explode and a count of the rows of files have files of their own.
 ghost use Rattle.std.specs.Prelude.{◌≡◌, Bool, Option, ℕ, [], ◌∷◌};
 ghost use Rattle.plan_ir.specs.declared.functions.FunctionIR.TheVariants.{Rename, RowIndex};
 ghost use Rattle.plan_ir.specs.Plans.{map_function};
 ghost use Rattle.plan_meaning.specs.Typing.{rename_checks, row_index_checks, first_fault, Says};
 ghost use Rattle.plan_meaning.specs.Typed.{IsNodeTyped};
 
+use crate::count::count_schema;
 use crate::explode::explode_schema;
 use crate::names::check_names_new;
 use crate::place::at;
@@ -74,5 +75,6 @@ pub fn function_schema(
         FunctionIR::RowIndex { name, .. } => row_index_schema(alloc, node, name, schema),
         FunctionIR::Unpivot { args } => unpivot_schema(alloc, node, args, schema),
         FunctionIR::Explode { columns } => explode_schema(alloc, node, columns.as_slice(), schema),
+        FunctionIR::FastCount { alias, .. } => Ok(count_schema(alloc, alias)?),
     }
 }

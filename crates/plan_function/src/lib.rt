@@ -1,6 +1,7 @@
 //! Functions of whole frames: how they name columns, the columns that they give, and the checks on them.
 #![tactic(auto)]
 
+mod count;
 mod explode;
 mod function;
 mod names;
@@ -9,6 +10,7 @@ mod renaming;
 mod unpivot;
 mod unpivot_names;
 
+pub use count::count_name;
 pub use function::function_schema;
 pub use names::{check_names_known, check_names_new, is_column, set_of};
 pub use place::at;

@@ -9,7 +9,11 @@ use plan_ir::UnpivotArgsIR;
 use std::alloc::{AllocError, Global};
 
 /// A name, or the other where it is absent. Refuses for want of memory alone.
-fn name_or(alloc: Global, name: &Option<PlSmallStr>, other: &str) -> Result<PlSmallStr, AllocError>
+pub fn name_or(
+    alloc: Global,
+    name: &Option<PlSmallStr>,
+    other: &str,
+) -> Result<PlSmallStr, AllocError>
     ensures { IfOk result (λ a. a ≡ unwrap_or name.now other.now) }
 {
     match name {

@@ -113,7 +113,7 @@ module _ (nodes exprs : List Node) where
   pub inputs-moved : (p : IR) → inputs_of (moved_node nodes exprs p) ≡ map (new_number nodes) (inputs_of p)
   inputs-moved (Slice input offset len) = refl
   inputs-moved (Filter input predicate) = refl
-  inputs-moved (Scan sources file_info predicate output_schema scan_type file_options) = refl
+  inputs-moved (Scan sources file_info hive_parts predicate output_schema scan_type file_options) = refl
   inputs-moved (DataFrameScan df schema output_schema) = refl
   inputs-moved (SimpleProjection input columns) = refl
   inputs-moved (Select input expr schema options) = refl
@@ -132,7 +132,7 @@ module _ (nodes exprs : List Node) where
   pub invalid-moved : (p : IR) → is_invalid (moved_node nodes exprs p) ≡ is_invalid p
   invalid-moved (Slice input offset len) = refl
   invalid-moved (Filter input predicate) = refl
-  invalid-moved (Scan sources file_info predicate output_schema scan_type file_options) = refl
+  invalid-moved (Scan sources file_info hive_parts predicate output_schema scan_type file_options) = refl
   invalid-moved (DataFrameScan df schema output_schema) = refl
   invalid-moved (SimpleProjection input columns) = refl
   invalid-moved (Select input expr schema options) = refl
@@ -198,8 +198,8 @@ module _ (nodes exprs : List Node) where
   roots-moved : (p : IR) → roots_of (moved_node nodes exprs p) ≡ map (new_number exprs) (roots_of p)
   roots-moved (Slice input offset len) = refl
   roots-moved (Filter input predicate) = refl
-  roots-moved (Scan sources file_info None output_schema scan_type file_options) = refl
-  roots-moved (Scan sources file_info (Some predicate) output_schema scan_type file_options) = refl
+  roots-moved (Scan sources file_info hive_parts None output_schema scan_type file_options) = refl
+  roots-moved (Scan sources file_info hive_parts (Some predicate) output_schema scan_type file_options) = refl
   roots-moved (DataFrameScan df schema output_schema) = refl
   roots-moved (SimpleProjection input columns) = refl
   roots-moved (Select input expr schema options) = nodes-moved expr
@@ -251,8 +251,8 @@ module _ (ex ex' : List AExpr) (nodes exprs : List Node) where
   op_at-moved : (p : IR) → AllByRecursion Same (roots_of p) → op_at ex' (moved_node nodes exprs p) ≡ op_at ex p
   op_at-moved (Slice input offset len) same = refl
   op_at-moved (Filter input predicate) same = ap filter (named-moved predicate same.0)
-  op_at-moved (Scan sources file_info None output_schema scan_type file_options) same = refl
-  op_at-moved (Scan sources file_info (Some predicate) output_schema scan_type file_options) same = ap (λ (n : Named). scan sources file_info (Some n) output_schema scan_type file_options) (named-moved predicate same.0)
+  op_at-moved (Scan sources file_info hive_parts None output_schema scan_type file_options) same = refl
+  op_at-moved (Scan sources file_info hive_parts (Some predicate) output_schema scan_type file_options) same = ap (λ (n : Named). scan sources file_info hive_parts (Some n) output_schema scan_type file_options) (named-moved predicate same.0)
   op_at-moved (DataFrameScan df schema output_schema) same = refl
   op_at-moved (SimpleProjection input columns) same = refl
   op_at-moved (Select input expr schema options) same = ap (λ (ns : List Named). select ns schema options) (all-moved expr same)

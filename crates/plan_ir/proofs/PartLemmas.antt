@@ -34,7 +34,7 @@ none_is (j ∷ is) h = cc
 pub inputs-over : (p : IR) (es : List ExprIR) (is : List Node) → length is ≡ length (inputs_of p) → inputs_of (over_parts p es is) ≡ is
 inputs-over (Slice input offset len) es is h = one_is input is h
 inputs-over (Filter input predicate) es is h = one_is input is h
-inputs-over (Scan sources file_info predicate output_schema scan_type file_options) es is h = none_is is h
+inputs-over (Scan sources file_info hive_parts predicate output_schema scan_type file_options) es is h = none_is is h
 inputs-over (DataFrameScan df schema output_schema) es is h = none_is is h
 inputs-over (SimpleProjection input columns) es is h = one_is input is h
 inputs-over (Select input expr schema options) es is h = one_is input is h
@@ -82,8 +82,8 @@ only-value (Some v) = refl
 pub own-parts : (p : IR) → over_parts p (exprs_over p (listed_exprs_of p)) (inputs_of p) ≡ p
 own-parts (Slice input offset len) = refl
 own-parts (Filter input predicate) = refl
-own-parts (Scan sources file_info None output_schema scan_type file_options) = refl
-own-parts (Scan sources file_info (Some predicate) output_schema scan_type file_options) = refl
+own-parts (Scan sources file_info hive_parts None output_schema scan_type file_options) = refl
+own-parts (Scan sources file_info hive_parts (Some predicate) output_schema scan_type file_options) = refl
 own-parts (DataFrameScan df schema output_schema) = refl
 own-parts (SimpleProjection input columns) = refl
 own-parts (Select input expr schema options) = refl
@@ -112,7 +112,7 @@ own-again p es is e i = ap₂ (λ (xs : List ExprIR) (ns : List Node). over_part
 pub kept-length : (p : IR) (es : List ExprIR) → length es ≡ length (listed_exprs_of p) → length (exprs_over p es) ≡ length (exprs_of p)
 kept-length (Slice input offset len) es h = h
 kept-length (Filter input predicate) es h = h
-kept-length (Scan sources file_info predicate output_schema scan_type file_options) es h = h
+kept-length (Scan sources file_info hive_parts predicate output_schema scan_type file_options) es h = h
 kept-length (DataFrameScan df schema output_schema) es h = h
 kept-length (SimpleProjection input columns) es h = h
 kept-length (Select input expr schema options) es h = h

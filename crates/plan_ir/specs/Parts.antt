@@ -21,7 +21,7 @@ list_of (Some x) = x ∷ []
 abbrev pub inputs_of : IR → List Node
 inputs_of (Slice input offset len) = input ∷ []
 inputs_of (Filter input predicate) = input ∷ []
-inputs_of (Scan sources file_info predicate output_schema scan_type file_options) = []
+inputs_of (Scan sources file_info hive_parts predicate output_schema scan_type file_options) = []
 inputs_of (DataFrameScan df schema output_schema) = []
 inputs_of (SimpleProjection input columns) = input ∷ []
 inputs_of (Select input expr schema options) = input ∷ []
@@ -51,7 +51,7 @@ condition_of o = condition_in o.options
 abbrev pub exprs_of : IR → List ExprIR
 exprs_of (Slice input offset len) = []
 exprs_of (Filter input predicate) = predicate ∷ []
-exprs_of (Scan sources file_info predicate output_schema scan_type file_options) = list_of predicate
+exprs_of (Scan sources file_info hive_parts predicate output_schema scan_type file_options) = list_of predicate
 exprs_of (DataFrameScan df schema output_schema) = []
 exprs_of (SimpleProjection input columns) = []
 exprs_of (Select input expr schema options) = expr
@@ -77,7 +77,7 @@ abbrev pub is_invalid : IR → Bool
 is_invalid Invalid = true
 is_invalid (Slice input offset len) = false
 is_invalid (Filter input predicate) = false
-is_invalid (Scan sources file_info predicate output_schema scan_type file_options) = false
+is_invalid (Scan sources file_info hive_parts predicate output_schema scan_type file_options) = false
 is_invalid (DataFrameScan df schema output_schema) = false
 is_invalid (SimpleProjection input columns) = false
 is_invalid (Select input expr schema options) = false
@@ -94,7 +94,7 @@ is_invalid (Cache input id cache_hits) = false
 
 -- a scan of files
 abbrev pub is_file_scan : IR → Bool
-is_file_scan (Scan sources file_info predicate output_schema scan_type file_options) = true
+is_file_scan (Scan sources file_info hive_parts predicate output_schema scan_type file_options) = true
 is_file_scan other = false
 
 -- a scan of a frame
@@ -180,7 +180,7 @@ options_over o other = record { allow_parallel = o.allow_parallel; force_paralle
 abbrev pub over_parts : IR → List ExprIR → List Node → IR
 over_parts (Slice input offset len) exprs inputs = Slice (get_or inputs 0 input) offset len
 over_parts (Filter input predicate) exprs inputs = Filter (get_or inputs 0 input) (get_or exprs 0 predicate)
-over_parts (Scan sources file_info predicate output_schema scan_type file_options) exprs inputs = Scan sources file_info (slice_get exprs 0) output_schema scan_type file_options
+over_parts (Scan sources file_info hive_parts predicate output_schema scan_type file_options) exprs inputs = Scan sources file_info hive_parts (slice_get exprs 0) output_schema scan_type file_options
 over_parts (DataFrameScan df schema output_schema) exprs inputs = DataFrameScan df schema output_schema
 over_parts (SimpleProjection input columns) exprs inputs = SimpleProjection (get_or inputs 0 input) columns
 over_parts (Select input expr schema options) exprs inputs = Select (get_or inputs 0 input) exprs schema options

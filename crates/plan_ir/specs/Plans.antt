@@ -16,8 +16,9 @@ use Rattle.plan_tree.specs.Rose.{Rose, Roses, map_roses}
 use Rattle.plan_expr.specs.declared.aexpr.AExpr.{AExpr}
 use Rattle.plan_join.specs.Told.{Told, told_at}
 use Rattle.plan_ir.specs.declared.scan.FileInfo.{FileInfo}
-use Rattle.plan_ir.specs.declared.scan.FileScan.{FileScan}
-use Rattle.plan_ir.specs.declared.scan.ScanSources.{ScanSources}
+use Rattle.plan_scan.specs.declared.file_scan.FileScan.{FileScan}
+use Rattle.plan_scan.specs.declared.sources.ScanSources.{ScanSources}
+use Rattle.plan_scan.specs.Stats.{Stats}
 use Rattle.plan_ir.specs.declared.functions.FunctionIR.{FunctionIR}
 use Rattle.plan_ir.specs.declared.ir.IR.{IR}
 use Rattle.plan_ir.specs.declared.ir.IR.TheVariants as nodes
@@ -28,7 +29,7 @@ use Rattle.plan_ir.specs.Parts.{plan_shape}
 pub data Op : Type 0 where
   slice : (offset : ℤ) → (len : ℕ) → Op
   filter : (predicate : Named) → Op
-  scan : (sources : ScanSources) → (file_info : FileInfo) → (predicate : Option Named) → (output_schema : Option Columns) → (scan_type : FileScan) → (file_options : FileScanOptions) → Op
+  scan : (sources : ScanSources) → (file_info : FileInfo) → (hive_parts : Option (List Stats)) → (predicate : Option Named) → (output_schema : Option Columns) → (scan_type : FileScan) → (file_options : FileScanOptions) → Op
   frame_scan : (df : Option ℕ) → (schema : Columns) → (output_schema : Option Columns) → Op
   simple_projection : (columns : Columns) → Op
   select : (exprs : List Named) → (schema : Columns) → (options : ProjectionOptions) → Op
@@ -52,7 +53,7 @@ Plan = Rose (Unit {0}) Op
 abbrev pub op_at : List AExpr → IR → Op
 op_at ex (nodes.Slice input offset len) = slice offset len
 op_at ex (nodes.Filter input predicate) = filter (named_at ex predicate)
-op_at ex (nodes.Scan sources file_info predicate output_schema scan_type file_options) = scan sources file_info (option_map (named_at ex) predicate) output_schema scan_type file_options
+op_at ex (nodes.Scan sources file_info hive_parts predicate output_schema scan_type file_options) = scan sources file_info hive_parts (option_map (named_at ex) predicate) output_schema scan_type file_options
 op_at ex (nodes.DataFrameScan df schema output_schema) = frame_scan df schema output_schema
 op_at ex (nodes.SimpleProjection input columns) = simple_projection columns
 op_at ex (nodes.Select input expr schema options) = select (all_named_at ex expr) schema options

@@ -1,18 +1,20 @@
 -- What scans read.
-use Rattle.std.specs.Prelude.{ℕ, Bool, true, false, List, [], map, filter, Option}
+use Rattle.std.specs.Prelude.{ℕ, Bool, true, false, List, [], map, filter, Option, unwrap_or}
 use Rattle.std.specs.Option.{option_map_or}
 use Rattle.plan_core.specs.Columns.{Columns, names_of}
 use Rattle.plan_core.specs.Names.{with_names}
 use Rattle.plan_core.specs.declared.options.FileScanOptions.{FileScanOptions}
 use Rattle.plan_ir.specs.declared.scan.FileInfo.{FileInfo}
+use Rattle.plan_files.specs.FileColumns.{hive_columns, plain_columns}
 use Rattle.plan_ir.specs.declared.ir.IR.{IR}
+use Rattle.plan_scan.specs.Stats.{Stats}
 use Rattle.plan_ir.specs.declared.ir.IR.TheVariants.{Slice, Filter, Scan, DataFrameScan, SimpleProjection, Select, HStack, Sort, GroupBy, Join, Distinct, MapFunction, Sink, Union, HConcat, Cache, Invalid}
 
 -- a node that reads from sources
 abbrev pub is_scan : IR → Bool
 is_scan (Slice input offset len) = false
 is_scan (Filter input predicate) = false
-is_scan (Scan sources file_info predicate output_schema scan_type file_options) = true
+is_scan (Scan sources file_info hive_parts predicate output_schema scan_type file_options) = true
 is_scan (DataFrameScan df schema output_schema) = true
 is_scan (SimpleProjection input columns) = false
 is_scan (Select input expr schema options) = false
@@ -32,13 +34,9 @@ is_scan Invalid = false
 abbrev pub once : List (List ℕ) → List (List ℕ)
 once names = with_names [] names
 
--- the names of the columns that a reader finds, if it is known what it finds
-abbrev pub reader_names : Option Columns → List (List ℕ)
-reader_names schema = option_map_or names_of schema []
-
--- the names that are asked for, each once, or else all that a reader finds
-abbrev pub read_names : FileInfo → FileScanOptions → List (List ℕ)
-read_names info options = option_map_or once options.with_columns (reader_names info.reader_schema)
+-- the names that are asked for, each once, or else all that a reader finds but for hive columns
+abbrev pub names_read : FileInfo → Option (List Stats) → FileScanOptions → List (List ℕ)
+names_read info hive options = option_map_or once options.with_columns (names_of (plain_columns (unwrap_or info.reader_schema []) (hive_columns hive)))
 
 -- the names of what is put out, or else of all that there is
 abbrev pub put_out_names : Option Columns → Columns → List (List ℕ)
@@ -48,7 +46,7 @@ put_out_names output schema = option_map_or names_of output (names_of schema)
 abbrev pub reads_of : IR → List (List ℕ)
 reads_of (Slice input offset len) = []
 reads_of (Filter input predicate) = []
-reads_of (Scan sources file_info predicate output_schema scan_type file_options) = read_names file_info file_options
+reads_of (Scan sources file_info hive_parts predicate output_schema scan_type file_options) = names_read file_info hive_parts file_options
 reads_of (DataFrameScan df schema output_schema) = put_out_names output_schema schema
 reads_of (SimpleProjection input columns) = []
 reads_of (Select input expr schema options) = []

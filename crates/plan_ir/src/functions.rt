@@ -2,6 +2,7 @@
 ghost use Rattle.std.specs.Prelude.{◌≡◌, IfOk};
 
 use plan_core::{Items, PlSmallStr, TryClone};
+use plan_scan::{FileScan, ScanSources};
 use std::alloc::{AllocError, Global};
 
 /// Which columns an unpivot makes one of, and how what it gives is named.
@@ -54,6 +55,15 @@ pub enum FunctionIR {
         /// Which columns, and how what is given is named.
         args: UnpivotArgsIR,
     },
+    /// One row with the number of the rows of all sources. The frame of the input is ignored.
+    FastCount {
+        /// The sources, in order.
+        sources: ScanSources,
+        /// The format of the sources. Nothing depends on it.
+        scan_type: FileScan,
+        /// The name of the column with the number; `len` where it is absent.
+        alias: Option<PlSmallStr>,
+    },
     /// Each row as often as the longest of its lists has values, at least once, with one value of each list in each of these rows.
     Explode {
         /// The columns whose lists are taken apart, side by side.
@@ -81,6 +91,15 @@ impl TryClone for FunctionIR {
             }),
             FunctionIR::Unpivot { args } => Ok(FunctionIR::Unpivot {
                 args: args.try_clone(alloc)?,
+            }),
+            FunctionIR::FastCount {
+                sources,
+                scan_type,
+                alias,
+            } => Ok(FunctionIR::FastCount {
+                sources: sources.try_clone(alloc)?,
+                scan_type: *scan_type,
+                alias: alias.try_clone(alloc)?,
             }),
             FunctionIR::Explode { columns } => Ok(FunctionIR::Explode {
                 columns: columns.try_clone(alloc)?,

@@ -2,13 +2,14 @@
 ghost use Rattle.std.specs.Prelude.{◌≡◌, IfOk};
 
 use crate::functions::FunctionIR;
-use crate::scan::{FileInfo, FileScan, ScanSources};
+use crate::scan::FileInfo;
 use plan_core::{FileScanOptions, Items, Node, ProjectionOptions, Schema, TryClone};
 use plan_expr::ExprIR;
 use plan_join::JoinOptions;
 use plan_options::{
     DistinctOptionsIR, GroupbyOptions, HConcatOptions, SinkType, SortMultipleOptions, UnionOptions,
 };
+use plan_scan::{FileScan, HivePartitions, ScanSources};
 use std::alloc::{AllocError, Global};
 
 /// A node of a plan; it names its inputs and its expressions by their numbers.
@@ -30,12 +31,15 @@ pub enum IR {
         /// A Boolean expression over the columns of the input.
         predicate: ExprIR,
     },
-    /// The rows of files, one source after another.
+    /// The rows of files or buffers, one source after another, with a column that numbers them, the hive columns of each source and
+    /// a column with its path, where there are such.
     Scan {
-        /// The files, in order.
+        /// The sources, in order.
         sources: ScanSources,
         /// The columns of the files.
         file_info: FileInfo,
+        /// The hive columns of each source, in the order of the sources; absent where folders name no columns.
+        hive_parts: Option<Items<HivePartitions>>,
         /// Which rows are put out; all of them where it is absent.
         predicate: Option<ExprIR>,
         /// The columns that are put out, in order; all columns of the files where it is absent.

@@ -20,5 +20,6 @@ pub use functions::{FunctionIR, UnpivotArgsIR};
 pub use ir::IR;
 pub use iterator::{AlpIter, ArenaLpIter};
 pub use moving::into_renumbered;
+pub use plan_scan::{FileScan, HivePartitions, ScanSources};
 pub use reading::{reads, scan_reads};
-pub use scan::{FileInfo, FileScan, ScanSources};
+pub use scan::FileInfo;

@@ -39,6 +39,7 @@ fn take_node(
         IR::Scan {
             sources,
             file_info,
+            hive_parts,
             predicate,
             output_schema,
             scan_type,
@@ -46,6 +47,7 @@ fn take_node(
         } => Ok(IR::Scan {
             sources,
             file_info,
+            hive_parts,
             predicate: take_named(predicate, exprs),
             output_schema,
             scan_type,

@@ -123,6 +123,7 @@ impl IR {
             IR::Scan {
                 sources,
                 file_info,
+                hive_parts,
                 predicate: _,
                 output_schema,
                 scan_type,
@@ -130,6 +131,7 @@ impl IR {
             } => Ok(IR::Scan {
                 sources: sources.try_clone(alloc)?,
                 file_info: file_info.try_clone(alloc)?,
+                hive_parts: hive_parts.try_clone(alloc)?,
                 predicate,
                 output_schema: output_schema.try_clone(alloc)?,
                 scan_type: *scan_type,

@@ -1,12 +1,14 @@
 //! What scans read from their files.
 ghost use Rattle.std.specs.Prelude.{◌≡◌, IfOk, IsTrue};
 ghost use Rattle.plan_core.specs.Columns.{names_of};
-ghost use Rattle.plan_ir.specs.Reads.{is_scan, once, read_names, reads_of, scan_reads_of};
+ghost use Rattle.plan_ir.specs.Reads.{is_scan, once, names_read, reads_of, scan_reads_of};
 
 use crate::copy::PlanCopy;
 use crate::ir::IR;
 use crate::scan::FileInfo;
 use plan_core::{FileScanOptions, Items, Names, Node, PlSmallStr, Schema};
+use plan_files::plain_names;
+use plan_scan::HivePartitions;
 use std::alloc::{AllocError, Global};
 
 impl IR {
@@ -47,19 +49,20 @@ fn column_names(alloc: Global, schema: &Schema) -> Result<Items<PlSmallStr>, All
 fn file_reads(
     alloc: Global,
     info: &FileInfo,
+    hive: &Option<Items<HivePartitions>>,
     options: &FileScanOptions,
 ) -> Result<Items<PlSmallStr>, AllocError>
-    ensures { IfOk result (λ names. names ≡ read_names info.now options.now) }
+    ensures { IfOk result (λ names. names ≡ names_read info.now hive.now options.now) }
 {
     match (&options.with_columns, &info.reader_schema) {
         (Some(names), _) => each_once(alloc, names.as_slice()),
-        (None, Some(schema)) => column_names(alloc, schema),
+        (None, Some(schema)) => plain_names(alloc, schema, hive),
         (None, None) => Ok(Items::new(alloc)),
     }
 }
 
 /// The names of the columns that a scan reads, each once. From files those that `with_columns` asks for, in its order,
-/// or else all that a reader finds; from a frame those that it puts out. Refuses for want of memory alone.
+/// or else all that a reader finds but for hive columns; from a frame those that it puts out. Refuses for want of memory alone.
 pub fn reads(alloc: Global, ir: &IR) -> Result<Items<PlSmallStr>, AllocError>
     requires { IsTrue (is_scan ir.now) }
     ensures { IfOk result (λ names. names ≡ reads_of ir.now) }
@@ -67,9 +70,10 @@ pub fn reads(alloc: Global, ir: &IR) -> Result<Items<PlSmallStr>, AllocError>
     match ir {
         IR::Scan {
             file_info,
+            hive_parts,
             file_options,
             ..
-        } => file_reads(alloc, file_info, file_options),
+        } => file_reads(alloc, file_info, hive_parts, file_options),
         IR::DataFrameScan {
             schema,
             output_schema,

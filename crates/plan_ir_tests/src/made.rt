@@ -43,6 +43,7 @@ pub fn scan(alloc: Global, asked: Option<Items<PlSmallStr>>) -> Result<IR, Alloc
             schema: columns(alloc, &["a", "b", "c"])?,
             reader_schema: Some(columns(alloc, &["a", "b", "c"])?),
         },
+        hive_parts: None,
         predicate: None,
         output_schema: None,
         scan_type: FileScan::Parquet,

@@ -172,12 +172,16 @@ fn lists_expressions_of_nodes(rt: HostRuntime) -> Result<(), Fail> {
     Ok(())
 }
 
+/// Whether the copy of a node is the same as the node.
+fn is_copied(alloc: Global, node: &IR) -> Result<bool, AllocError> {
+    Ok(is_same(&node.try_clone(alloc)?, node))
+}
+
 #[test]
 fn copies_nodes(rt: HostRuntime) -> Result<(), Fail> {
     let alloc = rt.alloc();
     let node = filter(alloc, Node(2), Node(4))?;
-    let copy = node.try_clone(alloc)?;
-    assert!(rt; is_same(&copy, &node));
+    assert!(rt; is_copied(alloc, &node)?);
     Ok(())
 }
 

@@ -100,10 +100,10 @@ fn exploded(alloc: Global, columns: &[&str], len: u32) -> Result<String, AllocEr
         offset: 0,
         len,
     })?;
+    let tables = only(alloc, frame(alloc)?)?;
     let columns = names(alloc, columns)?;
     let function = FunctionIR::Explode { columns };
     let node = IR::MapFunction { input, function };
-    let tables = only(alloc, frame(alloc)?)?;
     given(alloc, node, &mut lp, &Arena::new(alloc), &tables)
 }
 

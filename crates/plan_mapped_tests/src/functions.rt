@@ -36,8 +36,9 @@ fn made(
     function: FunctionIR,
     lp: &mut Arena<IR>,
 ) -> Result<String, AllocError> {
+    let tables = frames(alloc)?;
     let node = IR::MapFunction { input, function };
-    given(alloc, node, lp, &Arena::new(alloc), &frames(alloc)?)
+    given(alloc, node, lp, &Arena::new(alloc), &tables)
 }
 
 /// What a renaming of the scan gives.

@@ -1,5 +1,5 @@
 -- What it takes that the checks on a node hold, part by part.
-use Rattle.std.proofs.Common.{◌≡◌, ℕ, suc, Bool, true, not, ◌||◌, List, [], ◌∷◌, ◌++◌, length, Option, refl, sym, ap, ◌∙◌, subst, is_some, ⊎_elim}
+use Rattle.std.proofs.Common.{◌≡◌, ℕ, suc, Bool, true, not, ◌&&◌, ◌||◌, List, [], ◌∷◌, ◌++◌, length, Option, refl, sym, ap, ◌∙◌, subst, is_some, ⊎_elim}
 use Rattle.std.specs.List.{AllByRecursion}
 use Rattle.std.proofs.lemmas.Bool.{and_parts}
 use Rattle.plan_core.specs.declared.error.At.{At}
@@ -9,6 +9,9 @@ use Rattle.plan_core.specs.declared.options.FileScanOptions.{FileScanOptions}
 use Rattle.plan_core.specs.Columns.{Columns, names_of, type_of, same_columns}
 use Rattle.plan_core.specs.Names.{has}
 use Rattle.plan_core.proofs.SameLemmas.{same_columns-Decides}
+use Rattle.plan_files.specs.FileColumns.{hive_columns, plain_columns}
+use Rattle.plan_files.specs.HiveParts.{are_alike}
+use Rattle.plan_scan.specs.Stats.{Stats}
 use Rattle.plan_ir.specs.declared.scan.FileInfo.{FileInfo}
 use Rattle.plan_expr.specs.Exprs.{Named}
 use Rattle.plan_expr.specs.Forms.{has_form}
@@ -16,8 +19,8 @@ use Rattle.plan_core.specs.declared.data_type.DataType.{DataType}
 use Rattle.plan_expr.specs.Leaves.{Name, leaves}
 use Rattle.plan_expr.specs.Naming.{naming, may_be_named}
 use Rattle.plan_frame.specs.Exprs.{all_known, expr_type}
-use Rattle.plan_meaning.specs.Checks.{Check, each, each_new, is_known, is_column, is_empty, form_checks, leaf_checks, type_checks, once_checks, stored_checks, naming_checks, plain_checks, is_plain_type}
-use Rattle.plan_meaning.specs.Typing.{columns_or, file_columns, put_out_checks, scan_name_checks, is_built_scan, scan_column_checks, scan_checks, frame_checks, number_checks, differ_checks, projection_checks, made_checks, key_checks, AllHold}
+use Rattle.plan_meaning.specs.Checks.{Check, check, each, each_new, is_known, is_column, is_empty, form_checks, leaf_checks, type_checks, once_checks, stored_checks, naming_checks, plain_checks, is_plain_type}
+use Rattle.plan_meaning.specs.Typing.{columns_or, reader_columns, scan_columns, put_out_checks, scan_name_checks, scan_type_checks, schema_checks, is_built_scan, scan_column_checks, scan_checks, frame_checks, number_checks, differ_checks, projection_checks, made_checks, key_checks, AllHold}
 use Rattle.plan_meaning.specs.Functions.{all_differ}
 use Rattle.plan_frame.specs.Frames.{names_or}
 use Rattle.plan_frame.specs.Made.{made_schema}
@@ -70,37 +73,71 @@ known_leaf (b ∷ names) s a h i =
 
 -- scans
 
--- what the checks on a scan say, part by part
-pub record ScanGood (predicate : Option Named) (output : Option Columns) (info : FileInfo) (options : FileScanOptions) : Type 0 where
-  pub built : is_built_scan predicate info options ≡ true
-  pub known : AllHold (scan_name_checks (columns_or output []) (names_or options.with_columns []) (file_columns info))
-  pub put_out : AllHold (put_out_checks output options.with_columns (file_columns info))
-  pub differ : all_differ (names_of (columns_or output (file_columns info))) ≡ true
+-- what the checks on a scan of so many sources say, part by part
+pub record ScanGood (sources : ℕ) (predicate : Option Named) (output : Option Columns) (info : FileInfo) (hive : Option (List Stats)) (options : FileScanOptions) : Type 0 where
+  pub built : is_built_scan sources predicate info hive options ≡ true
+  pub known : AllByRecursion (λ (c : Name × DataType). is_known (scan_columns info hive options) c.0 ≡ true) (columns_or output [])
+  pub told : AllByRecursion (λ (a : Name). is_known (reader_columns info) a ≡ true) (names_or options.with_columns [])
+  pub alike : are_alike hive ≡ true
+  pub put_out : AllHold (put_out_checks output options.with_columns (plain_columns (reader_columns info) (hive_columns hive)) (scan_columns info hive options))
+  pub plain : AllByRecursion (λ (a : Name). not (has (names_of (hive_columns hive)) a) ≡ true) (names_or options.with_columns [])
+  pub differ : all_differ (names_of (columns_or output (scan_columns info hive options))) ≡ true
   pub once : AllHold (each_new (suc (length (columns_or output []))) [] (names_or options.with_columns []))
-  pub stored : same_columns info.schema (file_columns info) ≡ true
+  pub stored : same_columns info.schema (scan_columns info hive options) ≡ true
+  pub apart : all_differ (names_of (scan_columns info hive options)) ≡ true
 
-pub scan_good : (predicate : Option Named) (output : Option Columns) (info : FileInfo) (options : FileScanOptions) → AllHold (scan_checks predicate output info options) → ScanGood predicate output info options
-unfolding scan_column_checks differ_checks stored_checks
-scan_good predicate output info options h =
-    let a = scan_name_checks (columns_or output []) (names_or options.with_columns []) (file_columns info) in
-    let b = put_out_checks output options.with_columns (file_columns info) in
-    let e = differ_checks (columns_or output (file_columns info)) in
-    let c = each_new (suc (length (columns_or output []))) [] (names_or options.with_columns []) in
-    let d = stored_checks info.schema (file_columns info) in
-    let becd = hold_back a (b ++ (e ++ (c ++ d))) h.1 in
-    let ecd = hold_back b (e ++ (c ++ d)) becd in
-    let last = hold_back c d ecd.1 in
-    record { built = h.0; known = hold_front a (b ++ (e ++ (c ++ d))) h.1; put_out = hold_front b (e ++ (c ++ d)) becd; differ = ecd.0; once = hold_front c d ecd.1; stored = last.0 }
+pub scan_good : (sources : ℕ) (predicate : Option Named) (output : Option Columns) (info : FileInfo) (hive : Option (List Stats)) (options : FileScanOptions) → AllHold (scan_checks sources predicate output info hive options) → ScanGood sources predicate output info hive options
+unfolding scan_column_checks scan_name_checks scan_type_checks differ_checks schema_checks
+scan_good sources predicate output info hive options h =
+    let reader = reader_columns info in
+    let file = scan_columns info hive options in
+    let outs = columns_or output [] in
+    let told = names_or options.with_columns [] in
+    let a : List Check = each SchemaFieldNotFound 1 (λ (c : Name × DataType). is_known file c.0) outs in
+    let b : List Check = each SchemaFieldNotFound (suc (length outs)) (is_known reader) told in
+    let c : List Check = put_out_checks output options.with_columns (plain_columns reader (hive_columns hive)) file in
+    let d : List Check = each SchemaMismatch (suc (length outs)) (λ (x : Name). not (has (names_of (hive_columns hive)) x)) told in
+    let e : List Check = differ_checks (columns_or output file) in
+    let f : List Check = each_new (suc (length outs)) [] told in
+    let g : List Check = schema_checks info.schema file in
+    let types : List Check = check SchemaMismatch 0 (are_alike hive) ∷ (c ++ d) in
+    let names = hold_front (a ++ b) (types ++ (e ++ (f ++ g))) h.1 in
+    let rest = hold_back (a ++ b) (types ++ (e ++ (f ++ g))) h.1 in
+    let typed = hold_front types (e ++ (f ++ g)) rest in
+    let last = hold_back types (e ++ (f ++ g)) rest in
+    let stored = and_parts (same_columns info.schema file) (all_differ (names_of file)) (hold_back f g last.1).0 in
+    record {
+      built = h.0;
+      known = each_pass SchemaFieldNotFound 1 (λ (x : Name × DataType). is_known file x.0) outs (hold_front a b names);
+      told = each_pass SchemaFieldNotFound (suc (length outs)) (is_known reader) told (hold_back a b names);
+      alike = typed.0;
+      put_out = hold_front c d typed.1;
+      plain = each_pass SchemaMismatch (suc (length outs)) (λ (x : Name). not (has (names_of (hive_columns hive)) x)) told (hold_back c d typed.1);
+      differ = last.0;
+      once = hold_front f g last.1;
+      stored = stored.0;
+      apart = stored.1;
+    }
 
-pub good_scan : (predicate : Option Named) (output : Option Columns) (info : FileInfo) (options : FileScanOptions) → ScanGood predicate output info options → AllHold (scan_checks predicate output info options)
-unfolding scan_column_checks differ_checks stored_checks
-good_scan predicate output info options g =
-    let a = scan_name_checks (columns_or output []) (names_or options.with_columns []) (file_columns info) in
-    let b = put_out_checks output options.with_columns (file_columns info) in
-    let e = differ_checks (columns_or output (file_columns info)) in
-    let c = each_new (suc (length (columns_or output []))) [] (names_or options.with_columns []) in
-    let d = stored_checks info.schema (file_columns info) in
-    (g.built, hold_join a (b ++ (e ++ (c ++ d))) g.known (hold_join b (e ++ (c ++ d)) g.put_out (g.differ, hold_join c d g.once (g.stored, tt))))
+pub good_scan : (sources : ℕ) (predicate : Option Named) (output : Option Columns) (info : FileInfo) (hive : Option (List Stats)) (options : FileScanOptions) → ScanGood sources predicate output info hive options → AllHold (scan_checks sources predicate output info hive options)
+unfolding scan_column_checks scan_name_checks scan_type_checks differ_checks schema_checks
+good_scan sources predicate output info hive options g =
+    let reader = reader_columns info in
+    let file = scan_columns info hive options in
+    let outs = columns_or output [] in
+    let told = names_or options.with_columns [] in
+    let a : List Check = each SchemaFieldNotFound 1 (λ (c : Name × DataType). is_known file c.0) outs in
+    let b : List Check = each SchemaFieldNotFound (suc (length outs)) (is_known reader) told in
+    let c : List Check = put_out_checks output options.with_columns (plain_columns reader (hive_columns hive)) file in
+    let d : List Check = each SchemaMismatch (suc (length outs)) (λ (x : Name). not (has (names_of (hive_columns hive)) x)) told in
+    let e : List Check = differ_checks (columns_or output file) in
+    let f : List Check = each_new (suc (length outs)) [] told in
+    let last : List Check = schema_checks info.schema file in
+    let types : List Check = check SchemaMismatch 0 (are_alike hive) ∷ (c ++ d) in
+    let names : AllHold (a ++ b) = hold_join a b (pass_each SchemaFieldNotFound 1 (λ (x : Name × DataType). is_known file x.0) outs g.known) (pass_each SchemaFieldNotFound (suc (length outs)) (is_known reader) told g.told) in
+    let typed : AllHold (c ++ d) = hold_join c d g.put_out (pass_each SchemaMismatch (suc (length outs)) (λ (x : Name). not (has (names_of (hive_columns hive)) x)) told g.plain) in
+    let both : (same_columns info.schema file && all_differ (names_of file)) ≡ true = rw g.stored g.apart in
+    (g.built, hold_join (a ++ b) (types ++ (e ++ (f ++ last))) names (hold_join types (e ++ (f ++ last)) (g.alike, typed) (g.differ, hold_join f last g.once (both, tt))))
 
 -- scans of frames
 

@@ -1,5 +1,6 @@
 -- The columns of a valid plan have distinct names.
-use Rattle.std.proofs.Common.{◌≡◌, Bool, true, false, not, ◌&&◌, ◌||◌, cond, List, [], ◌∷◌, ◌++◌, map, fold, refl, sym, ap, ◌∙◌, subst}
+use Rattle.plan_scan.specs.Sources.{sources_of}
+use Rattle.std.proofs.Common.{◌≡◌, length, Bool, true, false, not, ◌&&◌, ◌||◌, cond, List, [], ◌∷◌, ◌++◌, map, fold, refl, sym, ap, ◌∙◌, subst}
 use Rattle.std.specs.List.{AllByRecursion, IsDistinct, list_any}
 use Rattle.std.specs.Str.{bytes_eq}
 use Rattle.std.proofs.lemmas.Bool.{and_parts, not-true, false_from_ne_true, both_ways}
@@ -11,7 +12,7 @@ use Rattle.plan_core.proofs.ColumnLemmas.{HasDistinctNames-none}
 use Rattle.plan_core.proofs.MergeLemmas.{HasDistinctNames-with_type, HasDistinctNames-with_types}
 use Rattle.plan_tree.specs.Rose.{Roses, rose, no_roses, more}
 use Rattle.plan_ir.specs.declared.functions.FunctionIR.{FunctionIR}
-use Rattle.plan_ir.specs.declared.functions.FunctionIR.TheVariants.{Rename, RowIndex, Unpivot, Explode}
+use Rattle.plan_ir.specs.declared.functions.FunctionIR.TheVariants.{Rename, RowIndex, Unpivot, Explode, FastCount}
 use Rattle.plan_ir.specs.declared.functions.UnpivotArgsIR.{UnpivotArgsIR}
 use Rattle.plan_ir.specs.Plans.{Op, slice, filter, scan, frame_scan, simple_projection, select, hstack, sort, group_by, join, distinct, map_function, sink, union, hconcat, cache, Plan}
 use Rattle.plan_expr.specs.Leaves.{Name}
@@ -23,9 +24,9 @@ use Rattle.plan_frame.proofs.MadeColumns.{last_type}
 use Rattle.plan_frame.proofs.NameSets.{named, names-append}
 use Rattle.plan_frame.proofs.ReshapedLemmas.{names-exploded}
 use Rattle.plan_meaning.specs.Checks.{Check, check, each_new}
-use Rattle.plan_meaning.specs.Functions.{become_one, first_type, function_schema, renamed, stay_apart, unpivoted_columns, unpivoted_names, value_name, value_names, variable_name}
+use Rattle.plan_meaning.specs.Functions.{count_name, become_one, first_type, function_schema, renamed, stay_apart, unpivoted_columns, unpivoted_names, value_name, value_names, variable_name}
 use Rattle.plan_meaning.specs.Steps.{IsValid}
-use Rattle.plan_meaning.specs.Typing.{columns_or, file_columns, first_schema, schema, schema_by, schemas, checks, function_checks, rename_checks, row_index_checks, AllHold, AllValid}
+use Rattle.plan_meaning.specs.Typing.{columns_or, scan_columns, first_schema, schema, schema_by, schemas, checks, function_checks, rename_checks, row_index_checks, AllHold, AllValid}
 use Rattle.plan_meaning.proofs.CheckParts.{hold_back, pass_names, scan_good, frame_good, projection_good}
 use Rattle.plan_meaning.proofs.JoinLemmas.{differ_distinct, join_good}
 use Rattle.plan_meaning.proofs.UnpivotLemmas.{unpivot_good}
@@ -100,6 +101,7 @@ function_distinct (RowIndex name offset) s h d = new_apart name (names_of s) (no
 function_distinct (Unpivot args) s h d =
     subst AreDistinct (sym (names-unpivoted args s)) (differ_distinct (unpivoted_names args) (unpivot_good args s h).differ)
 function_distinct (Explode columns) s h d = subst AreDistinct (sym (names-exploded columns s)) d
+function_distinct (FastCount sources scan_type alias) s h d = differ_distinct (count_name alias ∷ []) refl
 
 -- no name comes twice among the columns of each of several inputs
 abbrev pub AllDistinct : List Columns → Type 0
@@ -113,7 +115,7 @@ first_distinct (s ∷ ss) d = d.0
 once_by : (op : Op) (ss : List Columns) → AllHold (checks op ss) → AllDistinct ss → HasDistinctNames (schema_by op ss)
 once_by (slice offset len) ss good d = first_distinct ss d
 once_by (filter predicate) ss good d = first_distinct ss d
-once_by (scan sources info predicate output kind options) [] good d = differ_distinct (names_of (columns_or output (file_columns info))) (scan_good predicate output info options good).differ
+once_by (scan sources info hive predicate output kind options) [] good d = differ_distinct (names_of (columns_or output (scan_columns info hive options))) (scan_good (length (sources_of sources)) predicate output info hive options good).differ
 once_by (frame_scan df schema output) [] good d = differ_distinct (names_of (columns_or output schema)) (frame_good df schema output good).differ
 once_by (simple_projection columns) (s ∷ []) good d = differ_distinct (names_of columns) (projection_good columns s good).differ
 once_by (select es stored options) ss good d = HasDistinctNames-with_types [] (map (made_column (first_schema ss)) es) HasDistinctNames-none

@@ -1,6 +1,6 @@
 -- What a node asks can be asked of its inputs, and what a scan may read is among what it reads.
-use Rattle.std.proofs.Common.{◌≡◌, ◌&&◌, suc, Bool, true, false, cond, List, [], ◌∷◌, ◌++◌, length, map, Option, Some, None, refl, sym, ap, ◌∙◌, subst, is_some, ⊎_elim}
-use Rattle.std.specs.List.{AllByRecursion, filter as only_where}
+use Rattle.std.proofs.Common.{◌≡◌, ◌&&◌, suc, Bool, true, false, cond, not, ◌||◌, List, [], ◌∷◌, ◌++◌, length, map, Option, Some, None, refl, sym, ap, ◌∙◌, subst, is_some, ⊎_elim}
+use Rattle.std.specs.List.{AllByRecursion, filter as only_where, list_all}
 use Rattle.std.proofs.lemmas.Bool.{and_parts}
 use Rattle.plan_core.specs.declared.data_type.DataType.{DataType}
 use Rattle.plan_core.specs.declared.error.PolarsError.TheVariants.{SchemaFieldNotFound, SchemaMismatch}
@@ -13,7 +13,15 @@ use Rattle.plan_expr.specs.Leaves.{Name, leaves}
 use Rattle.plan_frame.specs.Exprs.{all_known}
 use Rattle.plan_frame.specs.Grouping.{gathered, group_exprs}
 use Rattle.plan_meaning.specs.Checks.{each, is_known, is_column}
-use Rattle.plan_meaning.specs.Typing.{has_columns, columns_or, file_columns, all_read, put_out_checks, scan_name_checks, subset_checks, first_schema, schema_by, schemas, checks, AllHold, AllValid}
+use Rattle.plan_core.specs.declared.options.FileScanOptions.{FileScanOptions}
+use Rattle.plan_frame.proofs.BesideLemmas.{or_else}
+use Rattle.plan_scan.specs.Sources.{sources_of}
+use Rattle.plan_scan.specs.declared.file_scan.FileScan.{FileScan}
+use Rattle.plan_scan.specs.declared.file_scan.FileScan.TheVariants as kinds
+use Rattle.plan_files.specs.FileColumns.{file_columns, hive_columns, path_columns, plain_columns, read_names, row_columns}
+use Rattle.plan_files.specs.FileReads.{first_alone, is_counted, is_given, left_names, own_names, stand_in}
+use Rattle.plan_files.proofs.FileLemmas.{type_of-files}
+use Rattle.plan_meaning.specs.Typing.{has_columns, columns_or, is_read, reader_columns, scan_columns, all_read, put_out_checks, subset_checks, first_schema, schema_by, schemas, checks, AllHold, AllValid}
 use Rattle.plan_frame.specs.Beside.{side_by_side}
 use Rattle.plan_frame.specs.Frames.{names_or}
 use Rattle.plan_frame.specs.Made.{made_schema}
@@ -22,7 +30,7 @@ use Rattle.plan_meaning.specs.Relating.{Asked, all, names, cached}
 use Rattle.plan_frame.specs.ExprLists.{counts_rows, all_leaves}
 use Rattle.plan_meaning.specs.Counting.{stand_ins, first_stand_in, stand_in_names}
 use Rattle.plan_meaning.specs.Asked.{asked_names, is_asked, set_of, with_more, kept, asks_columns, kept_exprs, selected_exprs, needed_names, asks_selected, asks_added, asks_stacked, asks_grouped, asks_held, asks_alike, asks_joined, asks, own_site, sites, reads, allowed, Fair, IsFair, SiteFair, AllSites}
-use Rattle.plan_frame.proofs.NameSets.{has_cons, has_first, has_later, some-type_of, keeps_names, from_names, distinct_names, distinct_none}
+use Rattle.plan_frame.proofs.NameSets.{only, has_cons, has_first, has_later, some-type_of, keeps_names, from_names, distinct_names, distinct_none}
 use Rattle.plan_meaning.proofs.CheckParts.{hold_front, each_pass, name_passes, known_leaf, scan_good, projection_good, made_good, keys_good}
 use Rattle.plan_join.specs.Told.{Told}
 use Rattle.plan_meaning.specs.JoinChecks.{join_checks}
@@ -33,7 +41,7 @@ use Rattle.plan_meaning.proofs.FunctionLemmas.{fair_function}
 use Rattle.plan_frame.proofs.GroupLemmas.{all_back, all_front, gathered_known}
 use Rattle.plan_meaning.proofs.KeptColumns.{types_kept}
 use Rattle.plan_meaning.proofs.StandIns.{IsStandIn, AreStandIns, first_stands, are_stand_ins}
-use Rattle.plan_meaning.proofs.KeptExprs.{all_append, all_kept_exprs, all_selected, known_leaves, where_has, distinct_where}
+use Rattle.plan_meaning.proofs.KeptExprs.{has_where, all_append, all_kept_exprs, all_selected, known_leaves, where_has, distinct_where}
 
 -- with the leaves of an expression over the columns, what is asked can be asked of them
 pub fair_more : (others : List Name) (a : Asked) (s : Columns) → ((b : Name) → has others b ≡ true → is_some (type_of s b) ≡ true) → IsFair a s → IsFair (with_more others a) s
@@ -177,7 +185,7 @@ fair_joined left_on right_on stored told cached s t good = (tt, (tt, tt))
 -- per node: what it asks can be asked of its inputs
 pub fair_asks : (op : Op) (a : Asked) (ss : List Columns) (os : List (Option Name)) → AllHold (checks op ss) → AreStandIns os ss → IsFair a (schema_by op ss) → FairAll (asks op a ss os) ss
 fair_asks (filter predicate) a (s ∷ []) os good k f = (fair_more (leaves predicate.expr) a s (λ b i. known_leaf (leaves predicate.expr) s b good.1.0 i) f, tt)
-fair_asks (scan sources info predicate output kind options) a [] os good k f = tt
+fair_asks (scan sources info hive predicate output kind options) a [] os good k f = tt
 fair_asks (simple_projection cols) a (s ∷ []) os good k f =
     (fair_columns cols a s (projection_good cols s good).known, tt)
 fair_asks (slice offset len) a (s ∷ []) os good k f = (f, tt)
@@ -197,39 +205,91 @@ fair_asks op a ss os good k f = absurd (cc)
 
 -- scans
 
-all_read_each : (given : Option (List Name)) (cs : Columns) → all_read given cs ≡ true → AllByRecursion (λ (c : Name × DataType). has_columns given c.0 ≡ true) cs
-all_read_each given [] h = tt
-all_read_each given (c ∷ cs) h = let p = and_parts (has_columns given c.0) (all_read given cs) h in (p.0, all_read_each given cs p.1)
+all_read_each : (told : Option (List Name)) (cs : Columns) → all_read told cs ≡ true → AllByRecursion (λ (c : Name × DataType). has_columns told c.0 ≡ true) cs
+all_read_each told [] h = tt
+all_read_each told (c ∷ cs) h = let p = and_parts (has_columns told c.0) (all_read told cs) h in (p.0, all_read_each told cs p.1)
 
-read_of : (given : Option (List Name)) (file : Columns) (a : Name) → has_columns given a ≡ true → has (names_of file) a ≡ true → has (names_or given (names_of file)) a ≡ true
-read_of None file a h k = k
-read_of (Some ws) file a h k = h
+second_parts : (file : Columns) (told : Option (List Name)) (plain cs : Columns) → AllByRecursion (λ (c : Name × DataType). (is_column file c && is_read told plain c.0) ≡ true) cs → AllByRecursion (λ (c : Name × DataType). is_read told plain c.0 ≡ true) cs
+second_parts file told plain [] h = tt
+second_parts file told plain (c ∷ cs) h = ((and_parts (is_column file c) (is_read told plain c.0) h.0).1, second_parts file told plain cs h.1)
 
-second_parts : (file : Columns) (given : Option (List Name)) (cs : Columns) → AllByRecursion (λ (c : Name × DataType). (is_column file c && has_columns given c.0) ≡ true) cs → AllByRecursion (λ (c : Name × DataType). has_columns given c.0 ≡ true) cs
-second_parts file given [] h = tt
-second_parts file given (c ∷ cs) h = ((and_parts (is_column file c) (has_columns given c.0) h.0).1, second_parts file given cs h.1)
-
--- what a scan puts out is read
-pub out_read : (output : Option Columns) (given : Option (List Name)) (file : Columns) → AllHold (put_out_checks output given file) → (a : Name) → has (names_of (columns_or output file)) a ≡ true → has_columns given a ≡ true
+-- what a scan puts out of its files' own columns is read
+pub out_read : (output : Option Columns) (told : Option (List Name)) (plain file : Columns) → AllHold (put_out_checks output told plain file) → (a : Name) → has (names_of (columns_or output file)) a ≡ true → has (names_of plain) a ≡ true → has_columns told a ≡ true
 unfolding put_out_checks
-out_read None given file h a i = column_passes (λ (x : Name). has_columns given x ≡ true) file (all_read_each given file h.0) a i
-out_read (Some out) given file h a i = column_passes (λ (x : Name). has_columns given x ≡ true) out (second_parts file given out (each_pass SchemaMismatch 1 (λ (c : Name × DataType). is_column file c && has_columns given c.0) out h)) a i
+out_read None told plain file h a i j = column_passes (λ (x : Name). has_columns told x ≡ true) plain (all_read_each told plain h.0) a j
+out_read (Some out) told plain file h a i j = at (has (names_of plain) a) j (column_passes (λ (x : Name). is_read told plain x ≡ true) out (second_parts file told plain out (each_pass SchemaMismatch 1 (λ (c : Name × DataType). is_column file c && is_read told plain c.0) out h)) a i)
+  where
+    at : (b : Bool) → b ≡ true → (not b || has_columns told a) ≡ true → has_columns told a ≡ true
+    at true e q = q
+    at false e q = cc
 
 -- and is found in its files
-pub out_found : (output : Option Columns) (given : Option (List Name)) (file : Columns) → AllHold (scan_name_checks (columns_or output []) (names_or given []) file) → (a : Name) → has (names_of (columns_or output file)) a ≡ true → has (names_of file) a ≡ true
-unfolding scan_name_checks
-out_found None given file h a i = i
-out_found (Some out) given file h a i =
-    let known = each_pass SchemaFieldNotFound 1 (λ (c : Name × DataType). is_known file c.0) out (hold_front (each SchemaFieldNotFound 1 (λ (c : Name × DataType). is_known file c.0) out) (each SchemaFieldNotFound (suc (length out)) (is_known file) (names_or given [])) h) in
-    sym (some-type_of file a) ∙ column_passes (λ (x : Name). is_some (type_of file x) ≡ true) out known a i
+pub out_found : (output : Option Columns) (file : Columns) → AllByRecursion (λ (c : Name × DataType). is_known file c.0 ≡ true) (columns_or output []) → (a : Name) → has (names_of (columns_or output file)) a ≡ true → is_some (type_of file a) ≡ true
+out_found None file h a i = some-type_of file a ∙ i
+out_found (Some out) file h a i = column_passes (λ (x : Name). is_some (type_of file x) ≡ true) out h a i
+
+-- what a scan may read for the names that it is asked is read
+
+first_among : (l : List Name) (a : Name) → has (first_alone l) a ≡ true → has l a ≡ true
+first_among [] a i = i
+first_among (b ∷ l) a i = subst (λ (x : Name). has (b ∷ l) x ≡ true) (sym (only b a i)) (has_first b l)
+
+stand_in_among : (kind : FileScan) (l : List Name) (a : Name) → has (stand_in kind l) a ≡ true → has l a ≡ true
+stand_in_among kinds.Csv l a i = first_among l a i
+stand_in_among kinds.NDJson l a i = first_among l a i
+stand_in_among kinds.Parquet l a i = cc
+stand_in_among kinds.Ipc l a i = cc
+
+none_of : (x y z : Bool) → not ((x || y) || z) ≡ true → (x ≡ false) × (y ≡ false) × (z ≡ false)
+none_of false false false e = (refl, refl, refl)
+none_of true y z e = cc
+none_of false true z e = cc
+none_of false false true e = cc
+
+found_at : (row hive reader path : Option DataType) → is_some row ≡ false → is_some hive ≡ false → is_some path ≡ false → is_some (or_else row (or_else (or_else hive reader) path)) ≡ true → is_some reader ≡ true
+found_at None None None None e f g h = cc
+found_at None None (Some t) path e f g h = refl
+found_at None None None (Some t) e f g h = cc
+found_at None (Some t) reader path e f g h = cc
+found_at (Some t) hive reader path e f g h = cc
+
+names-where : (p : Name → Bool) (cs : Columns) → names_of (only_where (λ (c : Name × DataType). p c.0) cs) ≡ only_where p (names_of cs)
+names-where p [] = refl
+names-where p (c ∷ cs) = at (p c.0) (names-where p cs)
+  where
+    at : (t : Bool) → names_of (only_where (λ (x : Name × DataType). p x.0) cs) ≡ only_where p (names_of cs) → names_of (cond t (c ∷ only_where (λ (x : Name × DataType). p x.0) cs) (only_where (λ (x : Name × DataType). p x.0) cs)) ≡ cond t (c.0 ∷ only_where p (names_of cs)) (only_where p (names_of cs))
+    at true r = ap (λ (l : List Name). c.0 ∷ l) r
+    at false r = r
+
+read_of : (told : Option (List Name)) (reader hive : Columns) (a : Name) → has (names_of (plain_columns reader hive)) a ≡ true → has_columns told a ≡ true → has (read_names told reader hive) a ≡ true
+read_of None reader hive a i h = i
+read_of (Some given) reader hive a i h = h
+
+module _ (wanted : List Name) (kind : FileScan) (told : Option (List Name)) (reader hive : Columns) (options : FileScanOptions) (output : Option Columns) (put : AllHold (put_out_checks output told (plain_columns reader hive) (file_columns reader hive options))) (asked : (b : Name) → has wanted b ≡ true → has (names_of (columns_or output (file_columns reader hive options))) b ≡ true) (found : (b : Name) → has wanted b ≡ true → is_some (type_of (file_columns reader hive options) b) ≡ true) where
+  own_reads : (a : Name) → has (own_names wanted hive options) a ≡ true → has (read_names told reader hive) a ≡ true
+  own_reads a i =
+      let row = row_columns options.row_index in
+      let path = path_columns options.include_file_paths in
+      let q = where_has (λ (b : Name). not (is_given hive options b)) wanted a i in
+      let n = none_of (has (names_of row) a) (has (names_of path) a) (has (names_of hive) a) q.1 in
+      let there : is_some (type_of reader a) ≡ true = found_at (type_of row a) (type_of hive a) (type_of reader a) (type_of path a) (some-type_of row a ∙ n.0) (some-type_of hive a ∙ n.2) (some-type_of path a ∙ n.1) (ap is_some (sym (type_of-files reader hive options a)) ∙ found a q.0) in
+      let plain : has (names_of (plain_columns reader hive)) a ≡ true = subst (λ (l : List Name). has l a ≡ true) (sym (names-where (λ (b : Name). not (has (names_of hive) b)) reader)) (has_where (λ (b : Name). not (has (names_of hive) b)) (names_of reader) a (ap not n.2) (sym (some-type_of reader a) ∙ there)) in
+      read_of told reader hive a plain (out_read output told (plain_columns reader hive) (file_columns reader hive options) put a (asked a q.0) plain)
+
+  scan_reads : (a : Name) → has (left_names kind wanted (read_names told reader hive) hive options) a ≡ true → has (read_names told reader hive) a ≡ true
+  scan_reads a i = at (list_all (is_counted options) wanted) i
+    where
+      at : (b : Bool) → has (cond b (stand_in kind (read_names told reader hive)) (own_names wanted hive options)) a ≡ true → has (read_names told reader hive) a ≡ true
+      at true j = stand_in_among kind (read_names told reader hive) a j
+      at false j = own_reads a j
 
 -- per scan
 site_fair : (op : Op) (a : Asked) (ss : List Columns) → AllHold (checks op ss) → IsFair a (schema_by op ss) → AllByRecursion SiteFair (own_site op a)
-site_fair (scan sources info predicate output kind options) a [] good f =
+site_fair (scan sources info hive predicate output kind options) a [] good f =
     (record { asked = λ b i. asked a f b i; allowed = λ b i. may_read a f b i }, tt)
   where
     here : Op
-    here = scan sources info predicate output kind options
+    here = scan sources info hive predicate output kind options
 
     asked : (x : Asked) → IsFair x (schema_by here []) → (b : Name) → has (asked_names x) b ≡ true → has (names_of (schema_by here [])) b ≡ true
     asked all f b i = cc
@@ -240,9 +300,8 @@ site_fair (scan sources info predicate output kind options) a [] good f =
     may_read all f b i = i
     may_read cached f b i = i
     may_read (names wanted) f b i =
-        let parts = scan_good predicate output info options good in
-        let out = asked (names wanted) f b i in
-        read_of options.with_columns (file_columns info) b (out_read output options.with_columns (file_columns info) parts.put_out b out) (out_found output options.with_columns (file_columns info) parts.known b out)
+        let parts = scan_good (length (sources_of sources)) predicate output info hive options good in
+        scan_reads wanted kind options.with_columns (reader_columns info) (hive_columns hive) options output parts.put_out (λ x j. asked (names wanted) f x j) (λ x j. out_found output (scan_columns info hive options) parts.known x (asked (names wanted) f x j)) b i
 site_fair (frame_scan df schema output) a [] good f =
     (record { asked = λ b i. asked a f b i; allowed = λ b i. may_read a f b i }, tt)
   where
@@ -274,7 +333,7 @@ site_fair (union options) a ss good f = tt
 site_fair (hconcat schema options) a ss good f = tt
 site_fair (cache id hits) a ss good f = tt
 site_fair invalid a ss good f = tt
-site_fair (scan sources info predicate output kind options) a (s ∷ ss) good f = cc
+site_fair (scan sources info hive predicate output kind options) a (s ∷ ss) good f = cc
 
 -- the scans of valid plans that are asked what can be asked of them
 pub sites_fair : (ts : Roses (Unit {0}) Op) (asked : List Asked) → AllValid ts → FairAll asked (schemas ts) → AllByRecursion SiteFair (sites ts asked)

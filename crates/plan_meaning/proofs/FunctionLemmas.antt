@@ -7,13 +7,14 @@ use Rattle.std.proofs.lemmas.List.FromFn.{length-map-range_with_len}
 use Rattle.plan_core.specs.Columns.{Columns, names_of}
 use Rattle.plan_core.specs.Names.{has, with_names, AreDistinct}
 use Rattle.plan_ir.specs.declared.functions.FunctionIR.{FunctionIR}
-use Rattle.plan_ir.specs.declared.functions.FunctionIR.TheVariants.{Rename, RowIndex, Unpivot, Explode}
+use Rattle.plan_ir.specs.declared.functions.FunctionIR.TheVariants.{Rename, RowIndex, Unpivot, Explode, FastCount}
 use Rattle.plan_expr.specs.Leaves.{Name}
 use Rattle.plan_meaning.specs.Functions.{renamed, former, function_schema}
 use Rattle.plan_frame.specs.Reshaped.{exploded_columns}
 use Rattle.plan_meaning.specs.Typing.{function_checks, AllHold}
 use Rattle.plan_frame.specs.Values.{whole}
 use Rattle.plan_frame.specs.Frames.{Frame, HasSchema}
+use Rattle.plan_meaning.specs.Contents.{Contents}
 use Rattle.plan_meaning.specs.Mapped.{mapped}
 use Rattle.plan_meaning.specs.Relating.{Asked, all, names as these, cached}
 use Rattle.plan_meaning.specs.Asked.{set_of, unpivot_names, asks_function, IsFair}
@@ -24,13 +25,14 @@ use Rattle.plan_meaning.proofs.ExplodeLemmas.{explode_known}
 use Rattle.plan_meaning.proofs.UnpivotLemmas.{unpivoted_has, unpivot_apart, unpivot_known}
 
 -- what a function makes of a frame has its columns
-pub mapped_has : (f : FunctionIR) (s : Columns) (g : Frame) → AllHold (function_checks f s) → HasSchema g s → HasSchema (mapped f g) (function_schema f s)
-mapped_has (Rename existing new swapping) s g good h = renamed_have (renamed existing new) g.height g.columns s h
-mapped_has (RowIndex name offset) s g good h =
+pub mapped_has : (c : Contents) (f : FunctionIR) (s : Columns) (g : Frame) → AllHold (function_checks f s) → HasSchema g s → HasSchema (mapped c f g) (function_schema f s)
+mapped_has c (Rename existing new swapping) s g good h = renamed_have (renamed existing new) g.height g.columns s h
+mapped_has c (RowIndex name offset) s g good h =
     let first : ℕ = unwrap_or offset 0 in
     (refl, length-map-range_with_len (λ (i : ℕ). whole (int_wrap w64 (pos i))) first g.height, whole_numbers (range_with_len first g.height), h)
-mapped_has (Unpivot args) s g good h = unpivoted_has args s g good h
-mapped_has (Explode columns) s g good h = exploded_has columns s g h
+mapped_has c (Unpivot args) s g good h = unpivoted_has args s g good h
+mapped_has c (Explode columns) s g good h = exploded_has columns s g h
+mapped_has c (FastCount sources scan_type alias) s g good h = (refl, refl, (tt, tt), tt)
 
 -- the names that become others
 
@@ -105,3 +107,4 @@ fair_function (Unpivot args) (these wanted) s good h =
 fair_function (Explode columns) (these wanted) s good h =
     fair_names (with_names wanted columns) s (distinct_names wanted columns h.once)
     (explode_known columns wanted s good (λ a i. ap (λ (l : List Name). has l a) (sym (names-exploded columns s)) ∙ sym (some-type_of (exploded_columns columns s) a) ∙ h.known a i))
+fair_function (FastCount sources scan_type alias) (these wanted) s good h = tt

@@ -19,7 +19,7 @@ all_join [] ss h k = k
 all_join (o ∷ os) ss h k = (h.0, all_join os ss h.1 k)
 
 own_scans : (op : Op) → AllScans (own_scan op)
-own_scans (scan sources info predicate output kind options) = ((refl, refl), tt)
+own_scans (scan sources info hive predicate output kind options) = ((refl, refl), tt)
 own_scans (frame_scan df schema output) = (refl, tt)
 own_scans (slice offset len) = tt
 own_scans (filter predicate) = tt
@@ -54,7 +54,7 @@ pub keeps_refl : (p : Plan) → Keeps p p
 keeps_refl p = keep_refl (scans p) (are_scans p)
 
 same_trans : (o s r : Op) → SameScan o s → SameScan s r → SameScan o r
-same_trans (scan a b c d e f) (scan a' b' c' d' e' f') (scan a'' b'' c'' d'' e'' f'') h k = (h.0 ∙ k.0, h.1 ∙ k.1)
+same_trans (scan a b c d e f g) (scan a' b' c' d' e' f' g') (scan a'' b'' c'' d'' e'' f'' g'') h k = (h.0 ∙ k.0, h.1 ∙ k.1)
 same_trans (frame_scan a b c) (frame_scan a' b' c') (frame_scan a'' b'' c'') h k = h ∙ k
 same_trans o s r h k = absurd (first_of (search k, search h))
 
@@ -70,7 +70,7 @@ keeps_trans r q p h k = keep_trans (scans r) (scans q) (scans p) h k
 -- the sites of plans stand at their scans
 
 own-site : (op : Op) (a : Asked) → map (λ (s : Site). s.at_scan) (own_site op a) ≡ own_scan op
-own-site (scan sources info predicate output kind options) a = refl
+own-site (scan sources info hive predicate output kind options) a = refl
 own-site (frame_scan df schema output) a = refl
 own-site (slice offset len) a = refl
 own-site (filter predicate) a = refl

@@ -10,6 +10,7 @@ pub mod UnpivotLemmas
 pub mod ExplodeLemmas
 pub mod FunctionLemmas
 pub mod DistinctColumns
+pub mod ScanRuns
 pub mod Runs
 pub mod Refining
 pub mod Related

@@ -1,11 +1,9 @@
 -- What a node gives has its columns, and it gives something; so for plans.
-use Rattle.std.proofs.Common.{◌≡◌, ℕ, ◌&&◌, true, false, List, [], ◌∷◌, map, Option, Some, None, unwrap_or, refl, sym, ap, subst}
+use Rattle.std.proofs.Common.{◌≡◌, ℕ, ◌&&◌, true, false, List, [], ◌∷◌, length, map, Option, Some, None, unwrap_or, refl, sym, ap, subst}
 use Rattle.std.specs.List.{AllByRecursion, range_with_len}
 use Rattle.std.proofs.lemmas.List.Sorted.{IsPermutation-refl}
-use Rattle.std.proofs.lemmas.Bool.{and_parts}
 use Rattle.plan_core.specs.declared.data_type.DataType.{DataType}
-use Rattle.plan_core.specs.declared.error.PolarsError.TheVariants.{SchemaMismatch}
-use Rattle.plan_core.specs.Columns.{Columns, names_of, type_of}
+use Rattle.plan_core.specs.Columns.{Columns, HasDistinctNames, names_of, type_of}
 use Rattle.plan_tree.specs.Rose.{Roses, rose, no_roses, more}
 use Rattle.plan_expr.specs.Exprs.{Named}
 use Rattle.plan_ir.specs.Plans.{Op, slice, filter, scan, frame_scan, simple_projection, select, hstack, sort, group_by, join, distinct, map_function, sink, union, hconcat, cache, Plan}
@@ -17,24 +15,30 @@ use Rattle.plan_options.specs.declared.distinct.UniqueKeepStrategy.TheVariants.{
 use Rattle.plan_frame.specs.Grouping.{group_exprs}
 use Rattle.plan_meaning.specs.Mapped.{mapped}
 use Rattle.plan_meaning.specs.Checks.{is_column, is_plain_type}
-use Rattle.plan_meaning.specs.Typing.{columns_or, file_columns, has_columns, put_out_checks, first_schema, schema_by, schema, schemas, checks, AllHold, AllValid}
+use Rattle.plan_meaning.specs.Typing.{columns_or, reader_columns, scan_columns, first_schema, schema_by, schema, schemas, checks, AllHold, AllValid}
+use Rattle.plan_files.specs.FileColumns.{hive_columns, plain_columns}
+use Rattle.plan_files.proofs.FileLemmas.{path_apart}
+use Rattle.plan_file_frames.specs.FileFrames.{parts_of, scan_frame}
+use Rattle.plan_file_frames.proofs.ScanFrames.{scan_has}
+use Rattle.plan_scan.specs.Sources.{sources_of as scan_sources}
 use Rattle.plan_frame.specs.Made.{made_schema, made, selected, grouped}
 use Rattle.plan_frame.specs.Beside.{side_by_side}
-use Rattle.plan_frame.specs.Frames.{Frame, HasSchema, Holds, HoldsAll, cut, in_turn, beside, stack, rows_at}
+use Rattle.plan_frame.specs.Frames.{Frame, HasSchema, Holds, HoldsAll, cut, in_turn, beside, rows_at}
 use Rattle.plan_frame.specs.Meaning.{are_alike, val}
 use Rattle.plan_frame.specs.Orders.{key_cells, rows_cmp, told_columns}
-use Rattle.plan_meaning.specs.Contents.{Contents, Source, frame_or, no_frame, handed_in, HasFrame, HasHandedIn, sources_of, frames_of, FitsAt, FitsAll, Fits}
+use Rattle.plan_meaning.specs.Contents.{Contents, no_frame, handed_in, HasHandedIn, frames_of, FitsAt, FitsAll, Fits}
 use Rattle.plan_meaning.specs.Steps.{Step, MayAll, May, IsValid}
 use Rattle.plan_frame.specs.Rows.{filtered, true_rows, slice_rows}
-use Rattle.plan_frame.proofs.FrameLemmas.{rows_schema, schema_holds, all_hold, cut_schema, stack_has, is_type_some}
+use Rattle.plan_frame.proofs.FrameLemmas.{rows_schema, schema_holds, all_hold, cut_schema, is_type_some}
 use Rattle.plan_frame.proofs.Sound.{val_sound}
-use Rattle.plan_meaning.proofs.CheckParts.{each_pass, scan_good, FrameGood, frame_good, projection_good, made_good, keys_good}
+use Rattle.plan_meaning.proofs.CheckParts.{scan_good, FrameGood, frame_good, projection_good, made_good, keys_good}
 use Rattle.plan_frame.proofs.KeptRows.{alike_equivalence, kept_exists}
 use Rattle.plan_frame.proofs.TurnLemmas.{HaveSchemas}
 use Rattle.plan_join.specs.Naming.{join_columns}
 use Rattle.plan_join.specs.Told.{column_keys}
 use Rattle.plan_joined.proofs.JoinedLemmas.{joined-has, joins-exist}
 use Rattle.plan_meaning.proofs.JoinLemmas.{differ_distinct, join_good, key_fills}
+use Rattle.plan_meaning.proofs.ScanRuns.{built_one, out_typed, parts_fit}
 use Rattle.plan_meaning.proofs.UnionLemmas.{union_has}
 use Rattle.plan_frame.proofs.BesideLemmas.{beside_has}
 use Rattle.plan_meaning.proofs.FunctionLemmas.{mapped_has}
@@ -45,22 +49,6 @@ use Rattle.plan_frame.proofs.MadeLemmas.{made_have, typed_fill, selected_has, gr
 among_hold : (holds : Name → DataType → Type 0) (s cs : Columns) → ((a : Name) (t : DataType) → type_of s a ≡ Some t → holds a t) → AllByRecursion (λ (c : Name × DataType). is_column s c ≡ true) cs → AllByRecursion (λ (c : Name × DataType). holds c.0 c.1) cs
 among_hold holds s [] by h = tt
 among_hold holds s (c ∷ cs) by h = (by c.0 c.1 (is_type_some (type_of s c.0) c.1 h.0), among_hold holds s cs by h.1)
-
--- what a scan puts out are columns of its files
-pub out_known : (output : Option Columns) (reads : Option (List Name)) (file : Columns) → AllHold (put_out_checks output reads file) → (g : Frame) → HoldsAll g file → HoldsAll g (columns_or output file)
-unfolding put_out_checks
-out_known None reads file h g k = k
-out_known (Some out) reads file h g k = among_hold (λ a t. Holds g (a, t)) file out (λ a t e. all_hold g file a t k e) (typed out (each_pass SchemaMismatch 1 (λ (c : Name × DataType). is_column file c && has_columns reads c.0) out h))
-  where
-    typed : (cs : Columns) → AllByRecursion (λ (c : Name × DataType). (is_column file c && has_columns reads c.0) ≡ true) cs → AllByRecursion (λ (c : Name × DataType). is_column file c ≡ true) cs
-    typed [] h = tt
-    typed (c ∷ cs) h = ((and_parts (is_column file c) (has_columns reads c.0) h.0).0, typed cs h.1)
-
-frames_hold : (c : Contents) (file out : Columns) (ss : List Source) → ((g : Frame) → HoldsAll g file → HoldsAll g out) → AllByRecursion (HasFrame c file) ss → AllByRecursion (λ (g : Frame). HoldsAll g out) (map (frame_or c) ss)
-frames_hold c file out [] by h = tt
-frames_hold c file out (s ∷ ss) by h =
-    let is : frame_or c s ≡ h.0.given = ap (λ (o : Option Frame). unwrap_or o no_frame) h.0.found in
-    (subst (λ (g : Frame). HoldsAll g out) (sym is) (by h.0.given h.0.holds), frames_hold c file out ss by h.1)
 
 -- a frame that is handed in holds what is put out of it
 handed_holds : (c : Contents) (df : Option ℕ) (schema : Columns) (output : Option Columns) → FrameGood df schema output → HasHandedIn c schema df → HoldsAll (handed_in c df) (columns_or output schema)
@@ -94,11 +82,17 @@ keys_are g s (e ∷ keys) has a =
 step_has : (c : Contents) (op : Op) (ss : List Columns) (fs : List Frame) (f : Frame) → AllHold (checks op ss) → FitsAt c op → HaveSchemas fs ss → Step c op fs f → HasSchema f (schema_by op ss)
 step_has c (filter predicate) (s ∷ []) (g ∷ []) f good fit has st =
     subst (λ (x : Frame). HasSchema x s) (sym st) (rows_schema (true_rows (val predicate.expr g) g.height) g s has.0)
-step_has c (scan sources info predicate output kind options) [] [] f good fit has st =
-    let file = file_columns info in
+step_has c (scan sources info hive predicate output kind options) [] [] f good fit has st =
+    let file = scan_columns info hive options in
     let out = columns_or output file in
-    let parts = scan_good predicate output info options good in
-    subst (λ (x : Frame). HasSchema x out) (sym st) (stack_has (frames_of c sources) out (frames_hold c file out (sources_of sources) (out_known output options.with_columns file parts.put_out) fit))
+    let good_parts = scan_good (length (scan_sources sources)) predicate output info hive options good in
+    let names : HasDistinctNames file = differ_distinct (names_of file) good_parts.apart in
+    let one = built_one (length (scan_sources sources)) predicate info hive options good_parts.built in
+    subst (λ (x : Frame). HasSchema x out) (sym st)
+    (scan_has (reader_columns info) (hive_columns hive) options (parts_of hive (scan_sources sources) (frames_of c sources)) out
+    (path_apart (reader_columns info) (hive_columns hive) options names)
+    (parts_fit c (reader_columns info) hive (scan_sources sources) one good_parts.alike fit)
+    (out_typed output options.with_columns (plain_columns (reader_columns info) (hive_columns hive)) file names good_parts.put_out))
 step_has c (slice offset len) (s ∷ []) (g ∷ []) f good fit has st =
     subst (λ (x : Frame). HasSchema x s) (sym st) (rows_schema (slice_rows offset len g.height) g s has.0)
 step_has c (frame_scan df schema output) [] [] f good fit has st =
@@ -121,7 +115,7 @@ step_has c (join left_on right_on stored told) (s ∷ t ∷ []) (g ∷ h ∷ [])
     (joined-has told.args (column_keys left_on) (column_keys right_on) st.0 g h s t has.0 has.1.0 (key_fills left_on right_on stored told s t parts) (differ_distinct (names_of s) parts.left_differ) (differ_distinct (names_of t) parts.right_differ))
 step_has c (distinct options) (s ∷ []) (g ∷ []) f good fit has st =
     subst (λ (x : Frame). HasSchema x s) (sym st.2) (rows_schema st.0 g s has.0)
-step_has c (map_function function) (s ∷ []) (g ∷ []) f good fit has st = subst (λ (x : Frame). HasSchema x (function_schema function s)) (sym st) (mapped_has function s g good has.0)
+step_has c (map_function function) (s ∷ []) (g ∷ []) f good fit has st = subst (λ (x : Frame). HasSchema x (function_schema function s)) (sym st) (mapped_has c function s g good has.0)
 step_has c (sink payload) (s ∷ []) (g ∷ []) f good fit has st = subst (λ (x : Frame). HasSchema x s) (sym st) has.0
 step_has c (union options) ss fs f good fit has st =
     subst (λ (x : Frame). HasSchema x (first_schema ss)) (sym st.2) (rows_schema st.0 (in_turn fs) (first_schema ss) (union_has options ss fs good has))
@@ -132,7 +126,7 @@ step_has c op ss fs f good fit has st = absurd (first_of (search st, cc))
 -- per node: it gives something
 step_runs : (c : Contents) (op : Op) (ss : List Columns) (fs : List Frame) → AllHold (checks op ss) → FitsAt c op → HaveSchemas fs ss → (f : Frame) × Step c op fs f
 step_runs c (filter predicate) (s ∷ []) (g ∷ []) good fit has = (filtered predicate.expr g, refl)
-step_runs c (scan sources info predicate output kind options) [] [] good fit has = (stack (names_of (columns_or output (file_columns info))) (frames_of c sources), refl)
+step_runs c (scan sources info hive predicate output kind options) [] [] good fit has = (scan_frame (names_of (columns_or output (scan_columns info hive options))) options (parts_of hive (scan_sources sources) (frames_of c sources)), refl)
 step_runs c (slice offset len) (s ∷ []) (g ∷ []) good fit has = (rows_at (slice_rows offset len g.height) g, refl)
 step_runs c (frame_scan df schema output) [] [] good fit has = (cut (names_of (columns_or output schema)) (handed_in c df), refl)
 step_runs c (select es stored options) (s ∷ []) (g ∷ []) good fit has = (selected es g, refl)
@@ -151,7 +145,7 @@ step_runs c (distinct options) (s ∷ []) (g ∷ []) good fit has =
     let same = are_alike (told_columns options.subset g) in
     let rows = kept_exists same (alike_equivalence (told_columns options.subset g)) g.height options.maintain_order options.keep_strategy in
     (rows_at rows.0 g, (rows.0, rows.1, refl))
-step_runs c (map_function function) (s ∷ []) (g ∷ []) good fit has = (mapped function g, refl)
+step_runs c (map_function function) (s ∷ []) (g ∷ []) good fit has = (mapped c function g, refl)
 step_runs c (sink payload) (s ∷ []) (g ∷ []) good fit has = (g, refl)
 step_runs c (union options) ss fs good fit has =
     let rows = range_with_len 0 (in_turn fs).height in

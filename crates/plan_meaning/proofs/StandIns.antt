@@ -63,7 +63,7 @@ made_known s base es b i = some-made s base es b ∙ ap (λ (x : Bool). is_some 
 stand_in_known : (op : Op) (ss : List Columns) → IsStandIn (stand_in op (schema_by op ss)) (schema_by op ss)
 stand_in_known (slice offset len) ss = last_known (first_schema ss)
 stand_in_known (filter predicate) ss = last_known (first_schema ss)
-stand_in_known (scan sources info predicate output kind options) ss = last_known (schema_by (scan sources info predicate output kind options) ss)
+stand_in_known (scan sources info hive predicate output kind options) ss = last_known (schema_by (scan sources info hive predicate output kind options) ss)
 stand_in_known (frame_scan df schema output) ss = last_known (schema_by (frame_scan df schema output) ss)
 stand_in_known (simple_projection columns) ss = last_known columns
 stand_in_known (select exprs stored options) ss =

@@ -9,13 +9,15 @@ use Rattle.plan_expr.specs.Exprs.{Named}
 use Rattle.plan_ir.specs.Plans.{Op, slice, filter, scan, frame_scan, simple_projection, select, hstack, sort, group_by, join, distinct, map_function, sink, union, hconcat, cache, invalid, Plan}
 use Rattle.plan_expr.specs.Leaves.{Name, leaves}
 use Rattle.plan_expr.specs.Naming.{name_of}
+use Rattle.plan_files.specs.FileColumns.{hive_columns, read_names}
+use Rattle.plan_files.specs.FileReads.{left_names as file_names}
 use Rattle.plan_meaning.specs.Checks.{is_empty}
 use Rattle.plan_join.specs.Told.{Told}
 use Rattle.plan_meaning.specs.JoinAsked.{left_names, right_names}
-use Rattle.plan_meaning.specs.Typing.{columns_or, file_columns, first_schema, rest_schemas, schema_by, schemas}
+use Rattle.plan_meaning.specs.Typing.{columns_or, reader_columns, first_schema, rest_schemas, schema_by, schemas}
 use Rattle.plan_frame.specs.Frames.{names_or}
 use Rattle.plan_ir.specs.declared.functions.FunctionIR.{FunctionIR}
-use Rattle.plan_ir.specs.declared.functions.FunctionIR.TheVariants.{Rename, RowIndex, Unpivot, Explode}
+use Rattle.plan_ir.specs.declared.functions.FunctionIR.TheVariants.{Rename, RowIndex, Unpivot, Explode, FastCount}
 use Rattle.plan_ir.specs.declared.functions.UnpivotArgsIR.{UnpivotArgsIR}
 use Rattle.plan_meaning.specs.Functions.{renamed, former}
 use Rattle.plan_frame.specs.ExprLists.{all_scalar, first_many, counts_rows, all_leaves}
@@ -98,12 +100,13 @@ asks_grouped keys aggs cached s = cached
 abbrev pub unpivot_names : UnpivotArgsIR → List Name
 unpivot_names args = if is_empty args.on then [] else with_names [] (args.index ++ args.on)
 
--- the names that a function of which these are asked needs of its input: a renaming those that get them, a numbering of the rows those that the input has, an unpivot the same whatever is asked, an explode what is asked and its columns
+-- the names that a function of which these are asked needs of its input: a renaming those that get them, a numbering of the rows those that the input has, an unpivot the same whatever is asked, an explode what is asked and its columns, and a count of the rows of files none
 abbrev pub function_names : FunctionIR → List Name → Columns → List Name
 function_names (Rename existing new swapping) wanted s = filter_map (former (renamed existing new) (names_of s)) wanted
 function_names (RowIndex name offset) wanted s = only_where (has (names_of s)) wanted
 function_names (Unpivot args) wanted s = unpivot_names args
 function_names (Explode columns) wanted s = with_names wanted columns
+function_names (FastCount sources scan_type alias) wanted s = []
 
 -- a function asks for the names that it needs
 abbrev pub asks_function : FunctionIR → Asked → Columns → Asked
@@ -132,7 +135,7 @@ asks_joined left_on right_on told cached s t = cached ∷ cached ∷ []
 abbrev pub asks : Op → Asked → List Columns → List (Option Name) → List Asked
 asks (slice offset len) a ss os = a ∷ []
 asks (filter predicate) a ss os = with_more (leaves predicate.expr) a ∷ []
-asks (scan sources info predicate output kind options) a ss os = []
+asks (scan sources info hive predicate output kind options) a ss os = []
 asks (frame_scan df schema output) a ss os = []
 asks (simple_projection columns) a ss os = asks_columns columns a ∷ []
 asks (select exprs schema options) a ss os = asks_selected exprs (first_stand_in os) a ∷ []
@@ -165,7 +168,7 @@ pub record Site : Type 0 where
 
 -- the site that a node is by itself: a scan is one
 abbrev pub own_site : Op → Asked → List Site
-own_site (scan sources info predicate output kind options) a = record { at_scan = scan sources info predicate output kind options; asked = a } ∷ []
+own_site (scan sources info hive predicate output kind options) a = record { at_scan = scan sources info hive predicate output kind options; asked = a } ∷ []
 own_site (frame_scan df schema output) a = record { at_scan = frame_scan df schema output; asked = a } ∷ []
 own_site (slice offset len) a = []
 own_site (filter predicate) a = []
@@ -193,9 +196,9 @@ sites (more (rose n op ts) rest) asked =
 abbrev pub sites_of : Plan → List Site
 sites_of p = sites (more p no_roses) (all ∷ [])
 
--- the columns that a scan reads: of files those that it names, else all that a reader finds; of a frame those that it puts out
+-- the columns that a scan reads: of files those that it names, else all that a reader finds but for hive columns; of a frame those that it puts out
 abbrev pub reads : Op → List Name
-reads (scan sources info predicate output kind options) = names_or options.with_columns (names_of (file_columns info))
+reads (scan sources info hive predicate output kind options) = read_names options.with_columns (reader_columns info) (hive_columns hive)
 reads (frame_scan df schema output) = names_of (columns_or output schema)
 reads (slice offset len) = []
 reads (filter predicate) = []
@@ -213,10 +216,15 @@ reads (hconcat schema options) = []
 reads (cache id hits) = []
 reads invalid = []
 
+-- what a scan may read for the names that it is asked: of files those that are read from them, or what stands in for its rows; of a frame these
+abbrev pub allowed_names : Op → List Name → List Name
+allowed_names (scan sources info hive predicate output kind options) wanted = file_names kind wanted (read_names options.with_columns (reader_columns info) (hive_columns hive)) (hive_columns hive) options
+allowed_names op wanted = wanted
+
 -- what a scan may read for what it is asked
 abbrev pub allowed : Op → Asked → List Name
 allowed op all = reads op
-allowed op (names wanted) = wanted
+allowed op (names wanted) = allowed_names op wanted
 allowed op cached = reads op
 
 -- names that can be asked of columns: at least one, none twice, each a column's

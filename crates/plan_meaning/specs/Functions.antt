@@ -7,7 +7,7 @@ use Rattle.plan_core.specs.declared.data_type.DataType.TheVariants.{Int64, Strin
 use Rattle.plan_core.specs.Columns.{Columns, names_of}
 use Rattle.plan_core.specs.Names.{has}
 use Rattle.plan_ir.specs.declared.functions.FunctionIR.{FunctionIR}
-use Rattle.plan_ir.specs.declared.functions.FunctionIR.TheVariants.{Rename, RowIndex, Unpivot, Explode}
+use Rattle.plan_ir.specs.declared.functions.FunctionIR.TheVariants.{Rename, RowIndex, Unpivot, Explode, FastCount}
 use Rattle.plan_ir.specs.declared.functions.UnpivotArgsIR.{UnpivotArgsIR}
 use Rattle.plan_expr.specs.Leaves.{Name}
 use Rattle.plan_frame.specs.Reshaped.{renamed_columns, type_or, columns_at, exploded_columns}
@@ -79,9 +79,14 @@ first_type s (a ∷ names) = type_or s a
 abbrev pub unpivoted_columns : UnpivotArgsIR → Columns → Columns
 unpivoted_columns args s = columns_at s args.index ++ (variable_name args, String) ∷ (value_name args, first_type s (value_names args (names_of s))) ∷ []
 
--- the columns that a function gives, from those of its input: a renaming the same under their new names, a numbering of the rows its own before them, an unpivot those that it repeats and its own two, an explode the same, with the types of the values in the lists that it takes apart
+-- the name of the column with the number of the rows of files
+abbrev pub count_name : Option Name → Name
+count_name alias = unwrap_or alias (codes "len")
+
+-- the columns that a function gives, from those of its input: a renaming the same under their new names, a numbering of the rows its own before them, an unpivot those that it repeats and its own two, an explode the same, with the types of the values in the lists that it takes apart, and a count of the rows of files that of the number alone
 abbrev pub function_schema : FunctionIR → Columns → Columns
 function_schema (Rename existing new swapping) s = renamed_columns (renamed existing new) s
 function_schema (RowIndex name offset) s = (name, Int64) ∷ s
 function_schema (Unpivot args) s = unpivoted_columns args s
 function_schema (Explode columns) s = exploded_columns columns s
+function_schema (FastCount sources scan_type alias) s = (count_name alias, Int64) ∷ []

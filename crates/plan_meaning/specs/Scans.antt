@@ -8,7 +8,7 @@ use Rattle.plan_meaning.specs.Asked.{reads}
 
 -- a node, if it is a scan
 abbrev pub own_scan : Op → List Op
-own_scan (scan sources info predicate output kind options) = scan sources info predicate output kind options ∷ []
+own_scan (scan sources info hive predicate output kind options) = scan sources info hive predicate output kind options ∷ []
 own_scan (frame_scan df schema output) = frame_scan df schema output ∷ []
 own_scan (slice offset len) = []
 own_scan (filter predicate) = []
@@ -37,7 +37,7 @@ abbrev mutual
 
 -- two scans are of one kind, over the same sources in the same order, or of the frame that is handed in under one number
 abbrev pub SameScan : Op → Op → Type 0
-SameScan (scan sources info predicate output kind options) (scan sources' info' predicate' output' kind' options') = (sources ≡ sources') × (kind ≡ kind')
+SameScan (scan sources info hive predicate output kind options) (scan sources' info' hive' predicate' output' kind' options') = (sources ≡ sources') × (kind ≡ kind')
 SameScan (frame_scan df schema output) (frame_scan df' schema' output') = df ≡ df'
 SameScan _ _ = ⊥
 

@@ -15,9 +15,13 @@ use Rattle.plan_core.specs.Columns.{Columns, names_of, type_of, same_columns}
 use Rattle.plan_core.specs.Names.{has}
 use Rattle.plan_tree.specs.Rose.{Rose, Roses, rose, no_roses, more}
 use Rattle.plan_ir.specs.declared.functions.FunctionIR.{FunctionIR}
-use Rattle.plan_ir.specs.declared.functions.FunctionIR.TheVariants.{Rename, RowIndex, Unpivot, Explode}
+use Rattle.plan_ir.specs.declared.functions.FunctionIR.TheVariants.{Rename, RowIndex, Unpivot, Explode, FastCount}
 use Rattle.plan_ir.specs.declared.functions.UnpivotArgsIR.{UnpivotArgsIR}
+use Rattle.plan_files.specs.FileColumns.{file_columns, hive_columns, plain_columns}
+use Rattle.plan_files.specs.HiveParts.{are_alike, are_one_each}
 use Rattle.plan_ir.specs.declared.scan.FileInfo.{FileInfo}
+use Rattle.plan_scan.specs.Sources.{sources_of}
+use Rattle.plan_scan.specs.Stats.{Stats}
 use Rattle.plan_expr.specs.Exprs.{Named}
 use Rattle.plan_expr.specs.Forms.{has_form}
 use Rattle.plan_expr.specs.Types.{is_plain}
@@ -43,9 +47,13 @@ abbrev pub columns_or : Option Columns → Columns → Columns
 columns_or None s = s
 columns_or (Some t) s = t
 
--- the columns that the files of a scan can put out: so far those that a reader finds
-abbrev pub file_columns : FileInfo → Columns
-file_columns info = columns_or info.reader_schema []
+-- the columns that a reader finds in the files of a scan
+abbrev pub reader_columns : FileInfo → Columns
+reader_columns info = columns_or info.reader_schema []
+
+-- the columns that a scan can put out: those of its files, in the order of the files
+abbrev pub scan_columns : FileInfo → Option (List Stats) → FileScanOptions → Columns
+scan_columns info hive options = file_columns (reader_columns info) (hive_columns hive) options
 
 -- the columns of the first input
 abbrev pub first_schema : List Columns → Columns
@@ -61,7 +69,7 @@ rest_schemas (s ∷ ss) = ss
 abbrev pub schema_by : Op → List Columns → Columns
 schema_by (slice offset len) ss = first_schema ss
 schema_by (filter predicate) ss = first_schema ss
-schema_by (scan sources info predicate output kind options) ss = columns_or output (file_columns info)
+schema_by (scan sources info hive predicate output kind options) ss = columns_or output (scan_columns info hive options)
 schema_by (frame_scan df schema output) ss = columns_or output schema
 schema_by (simple_projection columns) ss = columns
 schema_by (select exprs schema options) ss = made_schema [] exprs (first_schema ss)
@@ -116,39 +124,54 @@ projection_checks cs s =
 
 -- each column is read
 abbrev pub all_read : Option (List Name) → Columns → Bool
-all_read reads [] = true
-all_read reads (c ∷ cs) = has_columns reads c.0 && all_read reads cs
+all_read told [] = true
+all_read told (c ∷ cs) = has_columns told c.0 && all_read told cs
 
--- what a scan puts out has the files' types and is read; a scan that puts out everything reads everything
-unfoldable pub put_out_checks : Option Columns → Option (List Name) → Columns → List Check
-put_out_checks None reads file = check SchemaMismatch 0 (all_read reads file) ∷ []
-put_out_checks (Some output) reads file = each SchemaMismatch 1 (λ (c : Name × DataType). is_column file c && has_columns reads c.0) output
+-- a name is read where it is one of the columns that are read from the files
+abbrev pub is_read : Option (List Name) → Columns → Name → Bool
+is_read told plain a = not (has (names_of plain) a) || has_columns told a
 
--- what a scan puts out, and then what it reads, are columns of the files
-unfoldable pub scan_name_checks : Columns → List Name → Columns → List Check
-scan_name_checks outs reads file =
+-- what a scan puts out has the files' types and is read where it is read from the files; a scan that puts out everything reads all that is
+unfoldable pub put_out_checks : Option Columns → Option (List Name) → (plain file : Columns) → List Check
+put_out_checks None told plain file = check SchemaMismatch 0 (all_read told plain) ∷ []
+put_out_checks (Some output) told plain file = each SchemaMismatch 1 (λ (c : Name × DataType). is_column file c && is_read told plain c.0) output
+
+-- what a scan puts out are columns of the files, and then what it is told to read are columns that a reader finds
+unfoldable pub scan_name_checks : Columns → List Name → (file reader : Columns) → List Check
+scan_name_checks outs told file reader =
     each SchemaFieldNotFound 1 (λ (c : Name × DataType). is_known file c.0) outs
-    ++ each SchemaFieldNotFound (suc (length outs)) (is_known file) reads
+    ++ each SchemaFieldNotFound (suc (length outs)) (is_known reader) told
 
--- whether a scan has a form that is built: a reader's columns, and no predicate, slice, row index or path column
-unfoldable pub is_built_scan : Option Named → FileInfo → FileScanOptions → Bool
-is_built_scan predicate info options =
-    is_some info.reader_schema && is_none predicate && is_none options.slice && is_none options.row_index && is_none options.include_file_paths
+-- the hive parts are alike; what a scan puts out has its type and is read; and what it is told to read are no hive columns
+unfoldable pub scan_type_checks : Option Columns → Option (List Name) → Option (List Stats) → (reader file : Columns) → List Check
+scan_type_checks output told hive reader file =
+    check SchemaMismatch 0 (are_alike hive)
+    ∷ (put_out_checks output told (plain_columns reader (hive_columns hive)) file
+    ++ each SchemaMismatch (suc (length (columns_or output []))) (λ (a : Name). not (has (names_of (hive_columns hive)) a)) (names_or told []))
 
--- what a scan puts out and reads are columns of its files, each put out once and read once; its stored columns are those of the files
-unfoldable pub scan_column_checks : Option Columns → Option (List Name) → Columns → Columns → List Check
-scan_column_checks output reads stored file =
-    scan_name_checks (columns_or output []) (names_or reads []) file
-    ++ (put_out_checks output reads file
+-- whether a scan of so many sources has a form that is built: a reader's columns, a hive part for each source where parts are given, and neither a predicate nor a slice
+unfoldable pub is_built_scan : ℕ → Option Named → FileInfo → Option (List Stats) → FileScanOptions → Bool
+is_built_scan sources predicate info hive options =
+    is_some info.reader_schema && is_none predicate && is_none options.slice && are_one_each hive sources
+
+-- the stored columns are those that are computed, and no two have one name
+unfoldable pub schema_checks : Columns → Columns → List Check
+schema_checks stored computed = check SchemaMismatch 0 (same_columns stored computed && all_differ (names_of computed)) ∷ []
+
+-- what a scan puts out and is told to read are columns of its files, each put out once and read once; its stored columns are those of the files
+unfoldable pub scan_column_checks : Option Columns → Option (List Name) → Option (List Stats) → (stored reader file : Columns) → List Check
+scan_column_checks output told hive stored reader file =
+    scan_name_checks (columns_or output []) (names_or told []) file reader
+    ++ (scan_type_checks output told hive reader file
     ++ (differ_checks (columns_or output file)
-    ++ (each_new (suc (length (columns_or output []))) [] (names_or reads [])
-    ++ stored_checks stored file)))
+    ++ (each_new (suc (length (columns_or output []))) [] (names_or told [])
+    ++ schema_checks stored file)))
 
--- a scan has a form that is built, and its columns are as they must be
-abbrev pub scan_checks : Option Named → Option Columns → FileInfo → FileScanOptions → List Check
-scan_checks predicate output info options =
-    check InvalidOperation 0 (is_built_scan predicate info options)
-    ∷ scan_column_checks output options.with_columns info.schema (file_columns info)
+-- a scan of so many sources has a form that is built, and its columns are as they must be
+abbrev pub scan_checks : ℕ → Option Named → Option Columns → FileInfo → Option (List Stats) → FileScanOptions → List Check
+scan_checks sources predicate output info hive options =
+    check InvalidOperation 0 (is_built_scan sources predicate info hive options)
+    ∷ scan_column_checks output options.with_columns hive info.schema (reader_columns info) (scan_columns info hive options)
 
 -- without a number a frame has no columns
 unfoldable pub number_checks : Option ℕ → Columns → List Check
@@ -256,6 +279,7 @@ function_checks (Rename existing new swapping) s = rename_checks existing new s
 function_checks (RowIndex name offset) s = row_index_checks name s
 function_checks (Unpivot args) s = unpivot_checks args s
 function_checks (Explode columns) s = explode_checks columns s
+function_checks (FastCount sources scan_type alias) s = []
 
 -- whether a union has a form that is built: some inputs, and no slice
 unfoldable pub is_built_union : UnionOptions → List Columns → Bool
@@ -284,7 +308,7 @@ with_two _ cs = check ComputeError 0 false ∷ []
 abbrev pub checks : Op → List Columns → List Check
 checks (slice offset len) ss = with_one ss (λ s. [])
 checks (filter predicate) ss = with_one ss (filter_checks predicate)
-checks (scan sources info predicate output kind options) ss = with_none ss (scan_checks predicate output info options)
+checks (scan sources info hive predicate output kind options) ss = with_none ss (scan_checks (length (sources_of sources)) predicate output info hive options)
 checks (frame_scan df schema output) ss = with_none ss (frame_checks df schema output)
 checks (simple_projection columns) ss = with_one ss (projection_checks columns)
 checks (select exprs schema options) ss = with_one ss (λ s. check InvalidOperation 0 (not (is_empty exprs)) ∷ made_checks [] exprs schema s)

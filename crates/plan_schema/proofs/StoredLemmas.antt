@@ -1,11 +1,12 @@
 -- In a valid plan the stored columns are those that are computed.
-use Rattle.std.proofs.Common.{◌≡◌, ◌&&◌, Bool, true, false, cond, List, [], ◌∷◌, Option, Some, None, Err, refl, sym, ap, ap₂, ◌∙◌, subst}
+use Rattle.std.proofs.Common.{◌≡◌, ◌&&◌, Bool, true, false, cond, List, [], ◌∷◌, length, Option, Some, None, Err, refl, sym, ap, ap₂, ◌∙◌, subst}
 use Rattle.plan_core.specs.declared.arena.Node.{Node}
 use Rattle.plan_core.specs.declared.error.PolarsError.{PolarsError}
 use Rattle.plan_core.specs.declared.error.PolarsError.TheVariants.{SchemaFieldNotFound, Duplicate, SchemaMismatch, InvalidOperation, ComputeError, OutOfMemory}
 use Rattle.plan_core.specs.Columns.{Columns, same_columns}
 use Rattle.plan_tree.specs.Rose.{Roses, rose, no_roses, more}
 use Rattle.plan_expr.specs.declared.aexpr.AExpr.{AExpr}
+use Rattle.plan_scan.specs.Sources.{sources_of}
 use Rattle.plan_ir.specs.declared.ir.IR.{IR}
 use Rattle.plan_ir.specs.Parts.{IsPlan}
 use Rattle.plan_ir.specs.Plans.{Op, slice, filter, scan, frame_scan, simple_projection, select, hstack, sort, group_by, join, distinct, map_function, sink, union, hconcat, cache, invalid, bare, plans_at}
@@ -14,7 +15,7 @@ use Rattle.plan_meaning.specs.Steps.{IsValid}
 use Rattle.plan_meaning.specs.Functions.{function_schema}
 use Rattle.plan_frame.specs.Grouping.{group_exprs}
 use Rattle.plan_meaning.specs.Checks.{Check, stored_checks}
-use Rattle.plan_meaning.specs.Typing.{at as at_node, columns_or, file_columns, first_fault, first_schema, function_checks, schema, schema_by, schemas, checks, Says, AllHold, AllValid}
+use Rattle.plan_meaning.specs.Typing.{at as at_node, columns_or, first_fault, first_schema, function_checks, scan_columns, schema, schema_by, schemas, checks, Says, AllHold, AllValid}
 use Rattle.plan_frame.specs.Beside.{side_by_side}
 use Rattle.plan_meaning.proofs.Validity.{all_hold_unless, one_stands}
 use Rattle.plan_meaning.proofs.JoinLemmas.{join_good}
@@ -61,9 +62,10 @@ stored_holds stored computed h = h.0
 stored-by : (op : Op) (ss : List Columns) → AllHold (checks op ss) → stored_by op ss ≡ schema_by op ss
 stored-by (slice offset len) ss good = refl
 stored-by (filter predicate) ss good = refl
-stored-by (scan sources info predicate output kind options) [] good =
-    out_same output info.schema (file_columns info) (same_is info.schema (file_columns info) (scan_good predicate output info options good).stored)
-stored-by (scan sources info predicate output kind options) (s ∷ ss) good = cc
+stored-by (scan sources info hive predicate output kind options) [] good =
+    let file = scan_columns info hive options in
+    out_same output info.schema file (same_is info.schema file (scan_good (length (sources_of sources)) predicate output info hive options good).stored)
+stored-by (scan sources info hive predicate output kind options) (s ∷ ss) good = cc
 stored-by (frame_scan df schema output) ss good = refl
 stored-by (simple_projection columns) ss good = refl
 stored-by (select es schema options) (s ∷ []) good = same_is schema _ (made_good [] es schema s good.1).same

@@ -39,7 +39,7 @@ columns_told (Given s) = s
 abbrev pub stored_by : Op → List Columns → Columns
 stored_by (slice offset len) ss = first_schema ss
 stored_by (filter predicate) ss = first_schema ss
-stored_by (scan sources info predicate output kind options) ss = columns_or output info.schema
+stored_by (scan sources info hive predicate output kind options) ss = columns_or output info.schema
 stored_by (frame_scan df schema output) ss = columns_or output schema
 stored_by (simple_projection columns) ss = columns
 stored_by (select exprs schema options) ss = schema

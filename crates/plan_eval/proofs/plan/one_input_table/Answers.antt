@@ -42,10 +42,13 @@ group_by-requires-clause-valid c =
     rw (c.as_slice-in-GroupBy.ensures, c.as_slice-in-GroupBy-2.ensures) valid.1
 
 pub returns-in-Slice : goal.returns-in-Slice
-returns-in-Slice c ts =
+returns-in-Slice c =
+    let ts = c.args.tables.now in
     let fits : SFits w64 c.in-Slice.offset = search rules in
     subst (λ (p : IR). IfOk c.slice.result (Gives ts (op_at c.args.ex.now p) (c.args.table.now ∷ []))) (sym c.in-Slice.is)
     (subst (λ (z : ℤ). IfOk c.slice.result (Gives ts (slice z c.in-Slice.len) (c.args.table.now ∷ []))) (to_z-of_z fits) (c.slice.ensures ts))
 
 pub returns-in-Filter : goal.returns-in-Filter
-returns-in-Filter c ts = subst (λ (p : IR). IfOk c.filter.result (Gives ts (op_at c.args.ex.now p) (c.args.table.now ∷ []))) (sym c.in-Filter.is) (c.filter.ensures ts)
+returns-in-Filter c =
+    let ts = c.args.tables.now in
+    subst (λ (p : IR). IfOk c.filter.result (Gives ts (op_at c.args.ex.now p) (c.args.table.now ∷ []))) (sym c.in-Filter.is) (c.filter.ensures ts)

@@ -27,7 +27,7 @@ pub returns-in-Filter : goal.returns-in-Filter
 returns-in-Filter t c = tells_up c.stored-in-Filter.result c.args.lp.now c.args.node c.in-Filter.input (λ ex. stored_open c.args.lp.now ex c.args.node (Filter c.in-Filter.input c.in-Filter.predicate) c.requires (c.get.ensures.entry ∙ ap Some c.in-Filter.is)) c.stored-in-Filter.ensures
 
 pub returns-in-Scan : goal.returns-in-Scan
-returns-in-Scan t c = λ ex. c.told.ensures ∙ stored_open c.args.lp.now ex c.args.node (Scan c.in-Scan.sources c.in-Scan.file_info c.in-Scan.predicate c.in-Scan.output_schema c.in-Scan.scan_type c.in-Scan.file_options) c.requires (c.get.ensures.entry ∙ ap Some c.in-Scan.is)
+returns-in-Scan t c = λ ex. c.told.ensures ∙ stored_open c.args.lp.now ex c.args.node (Scan c.in-Scan.sources c.in-Scan.file_info c.in-Scan.hive_parts c.in-Scan.predicate c.in-Scan.output_schema c.in-Scan.scan_type c.in-Scan.file_options) c.requires (c.get.ensures.entry ∙ ap Some c.in-Scan.is)
 
 pub returns-in-DataFrameScan : goal.returns-in-DataFrameScan
 returns-in-DataFrameScan t c = λ ex. c.told-in-DataFrameScan.ensures ∙ stored_open c.args.lp.now ex c.args.node (DataFrameScan c.in-DataFrameScan.df c.in-DataFrameScan.schema c.in-DataFrameScan.output_schema) c.requires (c.get.ensures.entry ∙ ap Some c.in-DataFrameScan.is)

@@ -1,0 +1,158 @@
+//! What a scan puts out has the files' types and is read where it is read from the files, and what it is told to read are no hive
+//! columns.
+ghost use Rattle.std.specs.Prelude.{◌≡◌, ◌&&◌, [], not, option_map, IfOk};
+ghost use Rattle.plan_core.specs.declared.error.PolarsError.TheVariants.{SchemaMismatch};
+ghost use Rattle.plan_core.specs.Columns.{names_of};
+ghost use Rattle.plan_core.specs.Names.{has, with_names};
+ghost use Rattle.plan_files.specs.FileColumns.{hive_columns, plain_columns};
+ghost use Rattle.plan_meaning.specs.Checks.{each, is_column as is_one};
+ghost use Rattle.plan_meaning.specs.Typing.{all_read as are_all_read, first_fault, has_columns, is_read as is_one_read, put_out_checks, Says};
+
+use plan_core::{DataType, Items, Names, Node, PlSmallStr, PolarsError, PolarsResult, Schema};
+use plan_files::is_hive;
+use plan_function::{at, is_column, set_of};
+use plan_scan::HivePartitions;
+use std::alloc::{AllocError, Global};
+
+/// The names that a scan is told to read, as a set, where it is told some.
+fn told_set(alloc: Global, told: &Option<Items<PlSmallStr>>) -> Result<Option<Names>, AllocError>
+    ensures { IfOk result (λ set. set ≡ option_map (with_names []) told.now) }
+{
+    match told {
+        None => Ok(None),
+        Some(names) => Ok(Some(set_of(alloc, names.as_slice())?)),
+    }
+}
+
+/// Whether the name is among those that are told; where none are told, each is.
+fn is_told(told: &Option<Names>, name: &str) -> bool
+    ensures { result ≡ has_columns told.now name.now }
+{
+    match told {
+        None => true,
+        Some(names) => names.contains(name),
+    }
+}
+
+/// Whether the name is read, where it is one of the columns that are read from the files: those that a reader finds but for hive
+/// columns.
+#[tactic(auto, using(crate::proofs::ReadLemmas::lacking_read))]
+fn is_read(
+    told: &Option<Names>,
+    hive: &Option<Items<HivePartitions>>,
+    reader: &Schema,
+    name: &str,
+) -> bool
+    ensures { result ≡ is_one_read told.now (plain_columns reader.now (hive_columns hive.now)) name.now }
+{
+    match reader.get(name) {
+        None => true,
+        Some(_) => is_hive(hive, name) || is_told(told, name),
+    }
+}
+
+/// Whether each column is read that a reader finds but for hive columns.
+fn all_read(told: &Option<Names>, hive: &Option<Items<HivePartitions>>, reader: &Schema) -> bool
+    ensures { result ≡ are_all_read told.now (plain_columns reader.now (hive_columns hive.now)) }
+{
+    for (name, _) in reader.iter() {
+        if !is_hive(hive, name) && !is_told(told, name) {
+            return false;
+        }
+    }
+    true
+}
+
+/// Whether a scan can put out the column: it is one of the files', with that type, and is read where it is read from the files.
+fn is_put_out(
+    told: &Option<Names>,
+    hive: &Option<Items<HivePartitions>>,
+    reader: &Schema,
+    file: &Schema,
+    name: &str,
+    dtype: DataType,
+) -> bool
+    ensures { result ≡ (is_one file.now (name.now, dtype) && is_one_read told.now (plain_columns reader.now (hive_columns hive.now)) name.now) }
+{
+    is_column(file, name, dtype) && is_read(told, hive, reader, name)
+}
+
+/// Each column is one that a scan can put out, else `SchemaMismatch` at the column; the first one is at place 1.
+fn check_outputs(
+    node: Node,
+    output: &Schema,
+    told: &Option<Names>,
+    hive: &Option<Items<HivePartitions>>,
+    reader: &Schema,
+    file: &Schema,
+) -> PolarsResult<()>
+    ensures { Says result (first_fault node (each SchemaMismatch 1 (λ c. is_one file.now c && is_one_read told.now (plain_columns reader.now (hive_columns hive.now)) c.0) output.now)) }
+{
+    for i in 0..output.len() {
+        if let Some((name, dtype)) = output.get_at_index(i) {
+            if !is_put_out(told, hive, reader, file, name, *dtype) {
+                return Err(PolarsError::SchemaMismatch(at(node, 1 + i)));
+            }
+        }
+    }
+    Ok(())
+}
+
+/// What is put out can be put out, where the set of the names that are told is this.
+#[tactic(auto, unfolding(plan_meaning::specs::Typing::put_out_checks))]
+fn check_put_out_of(
+    node: Node,
+    output: &Option<Schema>,
+    told: &Option<Names>,
+    hive: &Option<Items<HivePartitions>>,
+    reader: &Schema,
+    file: &Schema,
+) -> PolarsResult<()>
+    ensures { Says result (first_fault node (put_out_checks output.now told.now (plain_columns reader.now (hive_columns hive.now)) file.now)) }
+{
+    match output {
+        None => {
+            if all_read(told, hive, reader) {
+                Ok(())
+            } else {
+                Err(PolarsError::SchemaMismatch(at(node, 0)))
+            }
+        }
+        Some(output) => check_outputs(node, output, told, hive, reader, file),
+    }
+}
+
+/// What the scan puts out has the files' types and is read where it is read from the files, else `SchemaMismatch` at the column; a
+/// scan that puts out everything reads all that is read from the files, else `SchemaMismatch` at place 0.
+#[tactic(auto, using(crate::proofs::ReadLemmas::put_out_same))]
+pub fn check_put_out(
+    alloc: Global,
+    node: Node,
+    output: &Option<Schema>,
+    told: &Option<Items<PlSmallStr>>,
+    hive: &Option<Items<HivePartitions>>,
+    reader: &Schema,
+    file: &Schema,
+) -> PolarsResult<()>
+    ensures { Says result (first_fault node (put_out_checks output.now told.now (plain_columns reader.now (hive_columns hive.now)) file.now)) }
+{
+    let told = told_set(alloc, told)?;
+    check_put_out_of(node, output, &told, hive, reader, file)
+}
+
+/// No name is that of a hive column, else `SchemaMismatch` at the name; the first one is at `place`.
+pub fn check_own(
+    node: Node,
+    place: usize,
+    told: &[PlSmallStr],
+    hive: &Option<Items<HivePartitions>>,
+) -> PolarsResult<()>
+    ensures { Says result (first_fault node (each SchemaMismatch place (λ a. not (has (names_of (hive_columns hive.now)) a)) told.now)) }
+{
+    for (i, name) in told.iter().enumerate() {
+        if is_hive(hive, name.as_str()) {
+            return Err(PolarsError::SchemaMismatch(at(node, place.saturating_add(i))));
+        }
+    }
+    Ok(())
+}
