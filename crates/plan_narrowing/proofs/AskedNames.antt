@@ -126,7 +126,7 @@ one_asked e = ap (λ (x : Asked). x ∷ []) e
 pub asks-each : (l : List Name) (op : Op) (ts : Roses (Unit {0}) Op) → is_closed op ≡ false → AllValid ts → asks_of op (set_of l) (schemas ts) (stand_ins ts (schemas ts)) ≡ sets_of (asks_plans l op ts)
 asks-each l (filter p) ts opens v = one_asked (more-is l (leaves p.expr))
 asks-each l (simple_projection cs) ts opens v = one_asked (projection_asks cs l)
-asks-each l (scan sources info predicate output kind options) ts opens v = refl
+asks-each l (scan sources info hive predicate output kind options) ts opens v = refl
 asks-each l (slice o n) ts opens v = refl
 asks-each l (frame_scan df schema output) ts opens v = refl
 asks-each l (select es schema options) ts opens v =

@@ -32,11 +32,11 @@ asks-cached (distinct options) (more (rose n o us) no_roses) good = refl
 asks-cached (map_function function) (more (rose n o us) no_roses) good = refl
 asks-cached (sink payload) (more (rose n o us) no_roses) good = refl
 asks-cached (cache id hits) (more (rose n o us) no_roses) good = refl
-asks-cached (scan sources info predicate output kind options) no_roses good = refl
+asks-cached (scan sources info hive predicate output kind options) no_roses good = refl
 asks-cached (frame_scan df schema output) no_roses good = refl
 asks-cached (union options) ts good = refl
 asks-cached (hconcat schema options) ts good = held_cached (schemas ts)
-asks-cached (scan sources info predicate output kind options) (more (rose n o us) rest) good = cc
+asks-cached (scan sources info hive predicate output kind options) (more (rose n o us) rest) good = cc
 asks-cached (frame_scan df schema output) (more (rose n o us) rest) good = cc
 asks-cached invalid ts good = cc
 asks-cached op no_roses good = absurd (cc)
@@ -51,7 +51,7 @@ reads_append [] us (s ∷ ss) zs h k = absurd h
 reads_append (o ∷ os) us [] zs h k = absurd h
 
 own_reads : (op : Op) → ReadWithin (own_scan op) (own_site op cached)
-own_reads (scan sources info predicate output kind options) = ((refl, refl), (λ a i. i), tt)
+own_reads (scan sources info hive predicate output kind options) = ((refl, refl), (λ a i. i), tt)
 own_reads (frame_scan df schema output) = (refl, (λ a i. i), tt)
 own_reads (slice offset len) = tt
 own_reads (filter p) = tt
@@ -84,7 +84,7 @@ cached_reads (more (rose n op us) rest) v =
 own_makes : (op : Op) → own_made op ≤ own_kept op cached
 own_makes (select es stored options) = let e = ap reckoned_exprs (selected-all es) in omega (arith, e)
 own_makes (hstack es stored options) = let e = ap length (kept-all es) in omega (arith, e)
-own_makes (scan sources info predicate output kind options) = omega arith
+own_makes (scan sources info hive predicate output kind options) = omega arith
 own_makes (frame_scan df schema output) = omega arith
 own_makes (slice offset len) = omega arith
 own_makes (filter p) = omega arith

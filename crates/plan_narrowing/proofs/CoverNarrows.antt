@@ -24,7 +24,7 @@ use Rattle.plan_schema.specs.Stored.{stored_all}
 use Rattle.plan_narrowing.proofs.NarrowLemmas.{holding_same}
 use Rattle.plan_narrowing.proofs.ProjectionNarrows.{some_is}
 use Rattle.plan_meaning.proofs.AskedSets.{columns_good}
-use Rattle.plan_narrowing.proofs.ScanNarrows.{type_or, columns_at, some_or, typed-known, names-columns_at, type_of-columns_at, each_column}
+use Rattle.plan_narrowing.proofs.TypedNames.{type_or, columns_at, some_or, typed-known, names-columns_at, type_of-columns_at, each_column}
 use Rattle.plan_schema.proofs.StoredLemmas.{stored-schemas}
 
 -- how much of a plan is seen: what is asked, or these columns alone

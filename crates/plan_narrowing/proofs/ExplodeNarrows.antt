@@ -11,6 +11,7 @@ use Rattle.plan_core.specs.Names.{has}
 use Rattle.plan_ir.specs.declared.functions.FunctionIR.TheVariants.{Explode}
 use Rattle.plan_expr.specs.Leaves.{Name}
 use Rattle.plan_frame.specs.Reshaped.{item_type, exploded_columns, items, rows_given, exploded_rows, exploded_values}
+use Rattle.plan_meaning.specs.Contents.{Contents}
 use Rattle.plan_meaning.specs.Mapped.{mapped}
 use Rattle.plan_meaning.specs.Checks.{Check, is_known}
 use Rattle.plan_meaning.specs.Typing.{is_list_type, explode_checks, function_checks, AllHold}
@@ -89,8 +90,8 @@ module _ (columns wanted : List Name) (r s : Columns) (good : AllHold (function_
   explode_within : (a : Name) → is_some (type_of (exploded_columns columns r) a) ≡ true → is_some (type_of (exploded_columns columns s) a) ≡ true
   explode_within a e = some-exploded columns s a ∙ h.within a (sym (some-exploded columns r a) ∙ e)
 
-  explode_agrees : (f0 g0 : Frame) → HasSchema f0 r → HasSchema g0 s → Agree (function_names (Explode columns) wanted s) f0 g0 → Agree wanted (mapped (Explode columns) f0) (mapped (Explode columns) g0)
-  explode_agrees f0 g0 hr hs ag =
+  explode_agrees : (c : Contents) (f0 g0 : Frame) → HasSchema f0 r → HasSchema g0 s → Agree (function_names (Explode columns) wanted s) f0 g0 → Agree wanted (mapped c (Explode columns) f0) (mapped c (Explode columns) g0)
+  explode_agrees c f0 g0 hr hs ag =
       let rows : exploded_rows columns f0 ≡ exploded_rows columns g0 = rows-same columns f0 g0 ag.height (λ a i. or_same f0 g0 a a ag.height (ag.same a (taken_too a i))) in
       record {
         height = ap (λ (l : List (ℕ × ℕ)). length l) rows;

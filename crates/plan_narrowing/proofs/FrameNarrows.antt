@@ -21,7 +21,7 @@ use Rattle.plan_meaning.proofs.JoinLemmas.{distinct_differ}
 use Rattle.plan_narrowing.specs.Pruned.{typed_names}
 use Rattle.plan_narrowing.proofs.NarrowLemmas.{Local, AgreeOnAll}
 use Rattle.plan_narrowing.proofs.ProjectionNarrows.{some_is}
-use Rattle.plan_narrowing.proofs.ScanNarrows.{type_or, columns_at, some_or, typed-known, names-columns_at, type_of-columns_at, each_column, all_typed}
+use Rattle.plan_narrowing.proofs.TypedNames.{type_or, columns_at, some_or, typed-known, names-columns_at, type_of-columns_at, each_column, all_typed}
 
 -- what is put out has the frame's types
 out_type : (df : Option ℕ) (schema : Columns) (output : Option Columns) (a : Name) (t : DataType) → FrameGood df schema output → type_of (columns_or output schema) a ≡ Some t → type_of schema a ≡ Some t

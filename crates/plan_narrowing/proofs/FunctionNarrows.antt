@@ -3,7 +3,7 @@ use Rattle.std.proofs.Common.{◌≡◌, Bool, true, false, cond, List, [], ◌�
 use Rattle.plan_core.specs.Columns.{Columns}
 use Rattle.plan_core.specs.Names.{with_names}
 use Rattle.plan_ir.specs.declared.functions.FunctionIR.{FunctionIR}
-use Rattle.plan_ir.specs.declared.functions.FunctionIR.TheVariants.{Rename, RowIndex, Unpivot, Explode}
+use Rattle.plan_ir.specs.declared.functions.FunctionIR.TheVariants.{Rename, RowIndex, Unpivot, Explode, FastCount}
 use Rattle.plan_ir.specs.Plans.{map_function}
 use Rattle.plan_expr.specs.Leaves.{Name}
 use Rattle.plan_meaning.specs.Functions.{function_schema}
@@ -30,6 +30,7 @@ kept_by (Unpivot args) wanted r s good fair some h = unpivot_kept args wanted r 
     is_told : (b : Bool) → is_empty (cond b [] (with_names [] (args.index ++ args.on))) ≡ false → b ≡ false
     is_told true e = cc
     is_told false e = refl
+kept_by (FastCount sources scan_type alias) wanted r s good fair some h = cc
 
 -- where it needs names, those are kept; where it needs none, everything is
 local_named : (f : FunctionIR) (wanted : List Name) (r s : Columns) → AllHold (function_checks f s) → Fair wanted (function_schema f s) → (needed : List Name) → function_names f wanted s ≡ needed → NarrowColumns (set_of needed) r s → Local (map_function f) (map_function f) (set_of needed ∷ []) (these wanted) (r ∷ []) (s ∷ [])
@@ -39,7 +40,7 @@ local_named f wanted r s good fair [] is h =
       schema = self_holds wanted (function_schema f s) fair;
       fits = λ c k. k;
       step = λ c fs gs g k hr has ag st. one_step c (map_function f) (map_function f) all (these wanted) s s
-          (λ f0 g0 g hr hs e t. (mapped f g0, refl, subst (λ (x : Frame). Agree wanted x (mapped f g0)) (sym (t ∙ ap (mapped f) e)) (record { height = refl; same = λ a i. refl }))) fs gs g hr has ag st;
+          (λ f0 g0 g hr hs e t. (mapped c f g0, refl, subst (λ (x : Frame). Agree wanted x (mapped c f g0)) (sym (t ∙ ap (mapped c f) e)) (record { height = refl; same = λ a i. refl }))) fs gs g hr has ag st;
     })
 local_named f wanted r s good fair (n ∷ needed) is h =
     let kept = kept_by f wanted r s good fair (ap is_empty is) (subst (λ (l : List Name). Holding l r s) (sym is) h) in
@@ -48,7 +49,7 @@ local_named f wanted r s good fair (n ∷ needed) is h =
       schema = kept.schema;
       fits = λ c k. k;
       step = λ c fs gs g k hr has ag st. one_step c (map_function f) (map_function f) (these (n ∷ needed)) (these wanted) r s
-          (λ f0 g0 g hr hs ag t. (mapped f g0, refl, subst (λ (x : Frame). Agree wanted x (mapped f g0)) (sym t) (kept.agrees f0 g0 hr hs (subst (λ (l : List Name). Agree l f0 g0) (sym is) ag)))) fs gs g hr has ag st;
+          (λ f0 g0 g hr hs ag t. (mapped c f g0, refl, subst (λ (x : Frame). Agree wanted x (mapped c f g0)) (sym t) (kept.agrees c f0 g0 hr hs (subst (λ (l : List Name). Agree l f0 g0) (sym is) ag)))) fs gs g hr has ag st;
     }
 
 -- a function over an input that narrows at what it asks narrows at what it is asked

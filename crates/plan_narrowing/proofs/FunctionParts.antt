@@ -4,6 +4,7 @@ use Rattle.plan_core.specs.Columns.{Columns, type_of}
 use Rattle.plan_ir.specs.declared.functions.FunctionIR.{FunctionIR}
 use Rattle.plan_expr.specs.Leaves.{Name}
 use Rattle.plan_meaning.specs.Functions.{function_schema}
+use Rattle.plan_meaning.specs.Contents.{Contents}
 use Rattle.plan_meaning.specs.Mapped.{mapped}
 use Rattle.plan_meaning.specs.Typing.{function_checks, AllHold}
 use Rattle.plan_frame.specs.Frames.{Frame, HasSchema, Agree}
@@ -15,7 +16,7 @@ use Rattle.plan_narrowing.proofs.ProjectionNarrows.{some_is}
 pub record FunctionKept (f : FunctionIR) (wanted : List Name) (r s : Columns) : Type 0 where
   pub good : AllHold (function_checks f r)
   pub schema : Holding wanted (function_schema f r) (function_schema f s)
-  pub agrees : (f0 g0 : Frame) → HasSchema f0 r → HasSchema g0 s → Agree (function_names f wanted s) f0 g0 → Agree wanted (mapped f f0) (mapped f g0)
+  pub agrees : (c : Contents) (f0 g0 : Frame) → HasSchema f0 r → HasSchema g0 s → Agree (function_names f wanted s) f0 g0 → Agree wanted (mapped c f f0) (mapped c f g0)
 
 -- columns hold what can be asked of them
 pub self_holds : (wanted : List Name) (s : Columns) → Fair wanted s → Holding wanted s s

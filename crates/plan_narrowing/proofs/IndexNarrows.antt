@@ -9,6 +9,7 @@ use Rattle.plan_core.specs.Names.{has}
 use Rattle.plan_ir.specs.declared.functions.FunctionIR.TheVariants.{RowIndex}
 use Rattle.plan_expr.specs.Leaves.{Name}
 use Rattle.plan_meaning.specs.Functions.{function_schema}
+use Rattle.plan_meaning.specs.Contents.{Contents}
 use Rattle.plan_meaning.specs.Mapped.{mapped}
 use Rattle.plan_frame.specs.Reshaped.{row_numbers}
 use Rattle.plan_meaning.specs.Typing.{function_checks, row_index_checks, AllHold}
@@ -56,8 +57,8 @@ module _ (name : Name) (offset : Option ℕ) (wanted : List Name) (r s : Columns
       at true e = refl
       at false e = h.within a e
 
-  index_agrees : (f0 g0 : Frame) → HasSchema f0 r → HasSchema g0 s → Agree (function_names (RowIndex name offset) wanted s) f0 g0 → Agree wanted (mapped (RowIndex name offset) f0) (mapped (RowIndex name offset) g0)
-  index_agrees f0 g0 hr hs ag = record { height = ag.height; same = λ a i. at a i (bytes_eq a name) refl }
+  index_agrees : (c : Contents) (f0 g0 : Frame) → HasSchema f0 r → HasSchema g0 s → Agree (function_names (RowIndex name offset) wanted s) f0 g0 → Agree wanted (mapped c (RowIndex name offset) f0) (mapped c (RowIndex name offset) g0)
+  index_agrees c f0 g0 hr hs ag = record { height = ag.height; same = λ a i. at a i (bytes_eq a name) refl }
     where
       at : (a : Name) → has wanted a ≡ true → (b : Bool) → bytes_eq a name ≡ b → cond b (Some (row_numbers (unwrap_or offset 0) f0.height)) (found f0.columns a) ≡ cond b (Some (row_numbers (unwrap_or offset 0) g0.height)) (found g0.columns a)
       at a i true e = ap (λ (n : ℕ). Some (row_numbers (unwrap_or offset 0) n)) ag.height

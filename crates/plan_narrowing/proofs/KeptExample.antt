@@ -16,18 +16,18 @@ use Rattle.plan_meaning.specs.Relating.{names}
 use Rattle.plan_meaning.specs.Counting.{meets_count}
 use Rattle.plan_meaning.specs.Asked.{sites_of}
 use Rattle.plan_meaning.specs.Work.{made, kept}
-use Rattle.plan_narrowing.specs.Pruned.{pruned, reading}
+use Rattle.plan_narrowing.specs.Pruned.{pruned}
 use Rattle.plan_narrowing.proofs.Example.{columns_ab, columns_a, leaf, node, predicate, scanned}
 
 abbrev column_of : Name → Columns
 column_of a = (a, types.Int64) ∷ []
 
 abbrev scan_of : FileScanOptions → Plan
-scan_of options = rose tt (scanned None options) no_roses
+scan_of options = rose tt (scanned None None options) no_roses
 
 -- a narrowed scan of a column, with the projection on top
 abbrev scan_a : FileScanOptions → Plan
-scan_a options = node (simple_projection columns_a) (rose tt (scanned (Some columns_a) (reading (codes "a" ∷ []) options)) no_roses)
+scan_a options = node (simple_projection columns_a) (rose tt (scanned (Some columns_a) (Some (codes "a" ∷ [])) options) no_roses)
 
 -- 1, called "one"
 abbrev one : Named
@@ -69,7 +69,7 @@ module _ (options : FileScanOptions) (how : ProjectionOptions) where
   pub example_idle : pruned true [] idle ≡ node (simple_projection columns_a) (scan_a options)
   example_idle = refl
 
-  pub example_idle_asked : sites_of idle ≡ record { at_scan = scanned None options; asked = names (codes "a" ∷ []) } ∷ []
+  pub example_idle_asked : sites_of idle ≡ record { at_scan = scanned None None options; asked = names (codes "a" ∷ []) } ∷ []
   example_idle_asked = refl
 
   -- a count of the rows of a filter
@@ -80,8 +80,8 @@ module _ (options : FileScanOptions) (how : ProjectionOptions) where
   columns_cb = (codes "c", types.String) ∷ (codes "b", types.Int64) ∷ []
 
   -- the last column stands in for them, and no projection goes on top of the scan
-  pub example_count : pruned true [] count ≡ node (select (record { name = LiteralLhs (codes "len"); expr = leaf row_count } ∷ []) (column_of (codes "len")) how) (node (filter predicate) (rose tt (scanned (Some columns_cb) (reading (codes "c" ∷ codes "b" ∷ []) options)) no_roses))
+  pub example_count : pruned true [] count ≡ node (select (record { name = LiteralLhs (codes "len"); expr = leaf row_count } ∷ []) (column_of (codes "len")) how) (node (filter predicate) (rose tt (scanned (Some columns_cb) (Some (codes "c" ∷ codes "b" ∷ [])) options) no_roses))
   example_count = refl
 
-  pub example_count_asked : (sites_of count ≡ record { at_scan = scanned None options; asked = names (codes "c" ∷ codes "b" ∷ []) } ∷ []) × (meets_count count ≡ true)
+  pub example_count_asked : (sites_of count ≡ record { at_scan = scanned None None options; asked = names (codes "c" ∷ codes "b" ∷ []) } ∷ []) × (meets_count count ≡ true)
   example_count_asked = (refl, refl)

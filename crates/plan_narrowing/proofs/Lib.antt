@@ -5,6 +5,7 @@ mod AddedNames
 mod NarrowLemmas
 mod AskedNames
 mod ProjectionNarrows
+mod TypedNames
 mod ScanNarrows
 mod MadeNarrows
 mod OrderNarrows
@@ -27,3 +28,4 @@ pub mod PrunedReads
 pub mod PrunedWork
 mod Example
 mod KeptExample
+mod FileExample

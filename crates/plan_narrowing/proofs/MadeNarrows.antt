@@ -26,7 +26,7 @@ use Rattle.plan_frame.proofs.MadeColumns.{types_made}
 use Rattle.plan_meaning.proofs.KeptExprs.{all_selected, new_distinct}
 use Rattle.plan_narrowing.specs.Pruned.{typed_names}
 use Rattle.plan_narrowing.proofs.NarrowLemmas.{holding_same, known_within}
-use Rattle.plan_narrowing.proofs.ScanNarrows.{new_from}
+use Rattle.plan_narrowing.proofs.TypedNames.{new_from}
 use Rattle.plan_schema.proofs.StoredLemmas.{same_is, is_same}
 
 -- at names, or at everything where there are none

@@ -10,12 +10,13 @@ use Rattle.plan_core.specs.Columns.{Columns, names_of, with_types}
 use Rattle.plan_core.specs.Names.{with_names}
 use Rattle.plan_tree.specs.Rose.{Roses, rose, no_roses, more}
 use Rattle.plan_ir.specs.declared.scan.FileInfo.{FileInfo}
-use Rattle.plan_ir.specs.declared.scan.FileScan.{FileScan}
-use Rattle.plan_ir.specs.declared.scan.ScanSources.{ScanSources}
+use Rattle.plan_scan.specs.Stats.{Stats}
+use Rattle.plan_scan.specs.declared.file_scan.FileScan.{FileScan}
+use Rattle.plan_scan.specs.declared.sources.ScanSources.{ScanSources}
 use Rattle.plan_expr.specs.Exprs.{Named}
 use Rattle.plan_ir.specs.declared.functions.FunctionIR.{FunctionIR}
 use Rattle.plan_ir.specs.Plans.{Op, slice, filter, scan, frame_scan, simple_projection, select, hstack, sort, group_by, join, distinct, map_function, sink, union, hconcat, cache, invalid, Plan}
-use Rattle.plan_meaning.specs.Typing.{columns_or, file_columns, first_schema, rest_schemas, schema_by, schema, schemas, checks, AllHold, AllValid}
+use Rattle.plan_meaning.specs.Typing.{columns_or, scan_columns, first_schema, rest_schemas, schema_by, schema, schemas, checks, AllHold, AllValid}
 use Rattle.plan_frame.specs.Frames.{names_or, Agree}
 use Rattle.plan_frame.specs.ExprLists.{out_names, all_leaves}
 use Rattle.plan_frame.specs.Made.{made_schema, made}
@@ -35,7 +36,7 @@ use Rattle.plan_join.specs.Told.{Told}
 use Rattle.plan_meaning.specs.JoinAsked.{left_names, right_names}
 use Rattle.plan_join_narrowing.specs.JoinPruned.{pruned_join}
 use Rattle.plan_join_narrowing.proofs.JoinNarrows.{join_narrows}
-use Rattle.plan_narrowing.specs.Pruned.{asked_with, kept, pruned_output, typed_names, reading, projected, stacked_names, mapped_names, held_names, pruned_select, pruned_group_by, stacked, pruned_hstack, asks_plans, left_below, rebuilt, top_below, top_after, pruned, pruned_all}
+use Rattle.plan_narrowing.specs.Pruned.{asked_with, kept, pruned_output, typed_names, scan_columns_left, left_scan, projected, stacked_names, mapped_names, held_names, pruned_select, pruned_group_by, stacked, pruned_hstack, asks_plans, left_below, rebuilt, top_below, top_after, pruned, pruned_all}
 use Rattle.plan_schema.specs.Stored.{stored_all}
 use Rattle.plan_narrowing.proofs.AskedNames.{set_some, kept-is, more-is, stacked_asks, function_asks, sets_of, stored_each, fair_each}
 use Rattle.plan_narrowing.proofs.NarrowLemmas.{Local, same_one, same_none, local_filter, local_slice}
@@ -51,7 +52,7 @@ use Rattle.plan_narrowing.proofs.StackNarrows.{dropped_holds, dropped_agrees, lo
 use Rattle.plan_schema.proofs.StoredLemmas.{stored-schemas}
 use Rattle.plan_narrowing.proofs.FrameNarrows.{local_frame}
 use Rattle.plan_narrowing.proofs.ProjectionNarrows.{local_columns, asked_some}
-use Rattle.plan_narrowing.proofs.ScanNarrows.{local_scan, left_holds, top_good, top_agrees}
+use Rattle.plan_narrowing.proofs.ScanNarrows.{local_scan, top_good, top_holds, top_agrees}
 
 abbrev pub NarrowSchemas : List Asked → List Columns → List Columns → Type 0
 NarrowSchemas = SchemasRelated Asked NarrowColumns AgreeOn
@@ -107,30 +108,30 @@ projection_narrows cs l rs t s is v fair h =
 
 -- scans
 
-module _ (sources : ScanSources) (info : FileInfo) (predicate : Option Named) (output : Option Columns) (kind : FileScan) (options : FileScanOptions) (rs : Roses (Unit {0}) Op) (v : IsValid (rose tt (scan sources info predicate output kind options) no_roses)) (h : AllNarrow [] rs no_roses) where
+module _ (sources : ScanSources) (info : FileInfo) (hive : Option (List Stats)) (predicate : Option Named) (output : Option Columns) (kind : FileScan) (options : FileScanOptions) (rs : Roses (Unit {0}) Op) (v : IsValid (rose tt (scan sources info hive predicate output kind options) no_roses)) (h : AllNarrow [] rs no_roses) where
   abbrev given : Op
-  given = scan sources info predicate output kind options
+  given = scan sources info hive predicate output kind options
 
-  whole_scan : Narrows (rose tt (scan sources info predicate output kind options) rs) (rose tt (scan sources info predicate output kind options) no_roses) all
+  whole_scan : Narrows (rose tt (scan sources info hive predicate output kind options) rs) (rose tt (scan sources info hive predicate output kind options) no_roses) all
   whole_scan = relates_node Asked NarrowColumns AgreeOn given given [] all rs no_roses v h (λ k. none_here given given all (schemas rs) k (same_none given v.0))
 
-  module _ (wanted : List Name) (fair : IsFair (names wanted) (columns_or output (file_columns info))) where
+  module _ (wanted : List Name) (fair : IsFair (names wanted) (columns_or output (scan_columns info hive options))) where
     abbrev left : Op
-    left = scan sources info predicate (Some (typed_names info.schema wanted)) kind (reading wanted options)
+    left = left_scan wanted sources info hive predicate kind options
 
-    bare_scan : Narrows (rose tt (scan sources info predicate (Some (typed_names info.schema wanted)) kind (reading wanted options)) rs) (rose tt (scan sources info predicate output kind options) no_roses) (names wanted)
-    bare_scan = relates_node Asked NarrowColumns AgreeOn left given [] (names wanted) rs no_roses v h (λ k. none_here left given (names wanted) (schemas rs) k (local_scan sources info predicate output kind options wanted v.0 fair))
+    bare_scan : Narrows (rose tt (left_scan wanted sources info hive predicate kind options) rs) (rose tt (scan sources info hive predicate output kind options) no_roses) (names wanted)
+    bare_scan = relates_node Asked NarrowColumns AgreeOn left given [] (names wanted) rs no_roses v h (λ k. none_here left given (names wanted) (schemas rs) k (local_scan sources info hive predicate output kind options wanted v.0 fair))
 
-    top_scan : (top : Bool) → Narrows (projected top (typed_names info.schema wanted) (rose tt (scan sources info predicate (Some (typed_names info.schema wanted)) kind (reading wanted options)) rs)) (rose tt (scan sources info predicate output kind options) no_roses) (names wanted)
+    top_scan : (top : Bool) → Narrows (projected top (typed_names (scan_columns_left wanted info hive kind options) wanted) (rose tt (left_scan wanted sources info hive predicate kind options) rs)) (rose tt (scan sources info hive predicate output kind options) no_roses) (names wanted)
     top_scan false = bare_scan
     top_scan true =
-        relates_top Asked NarrowColumns AgreeOn (simple_projection (typed_names info.schema wanted)) (names wanted) (names wanted) (rose tt left rs) (rose tt given no_roses)
-        (top_good sources info predicate output kind options wanted v.0 fair) (left_holds sources info predicate output kind options wanted v.0 fair) (λ c. tt)
-        (λ c f g x has ag st. top_agrees sources info predicate output kind options wanted v.0 fair f g x has.0 ag st) v bare_scan
+        relates_top Asked NarrowColumns AgreeOn (simple_projection (typed_names (scan_columns_left wanted info hive kind options) wanted)) (names wanted) (names wanted) (rose tt left rs) (rose tt given no_roses)
+        (top_good sources info hive predicate output kind options wanted v.0 fair) (top_holds sources info hive predicate output kind options wanted v.0 fair) (λ c. tt)
+        (λ c f g x has ag st. top_agrees sources info hive predicate output kind options wanted v.0 fair f g x has.0 ag st) v bare_scan
 
-scan_narrows : (top : Bool) (l : List Name) (sources : ScanSources) (info : FileInfo) (predicate : Option Named) (output : Option Columns) (kind : FileScan) (options : FileScanOptions) (rs : Roses (Unit {0}) Op) → IsValid (rose tt (scan sources info predicate output kind options) no_roses) → IsFair (set_of l) (columns_or output (file_columns info)) → AllNarrow [] rs no_roses → Narrows (rebuilt top l (scan sources info predicate output kind options) [] rs) (rose tt (scan sources info predicate output kind options) no_roses) (set_of l)
-scan_narrows top [] sources info predicate output kind options rs v fair h = whole_scan sources info predicate output kind options rs v h
-scan_narrows top (a ∷ l) sources info predicate output kind options rs v fair h = top_scan sources info predicate output kind options rs v h (a ∷ l) fair top
+scan_narrows : (top : Bool) (l : List Name) (sources : ScanSources) (info : FileInfo) (hive : Option (List Stats)) (predicate : Option Named) (output : Option Columns) (kind : FileScan) (options : FileScanOptions) (rs : Roses (Unit {0}) Op) → IsValid (rose tt (scan sources info hive predicate output kind options) no_roses) → IsFair (set_of l) (columns_or output (scan_columns info hive options)) → AllNarrow [] rs no_roses → Narrows (rebuilt top l (scan sources info hive predicate output kind options) [] rs) (rose tt (scan sources info hive predicate output kind options) no_roses) (set_of l)
+scan_narrows top [] sources info hive predicate output kind options rs v fair h = whole_scan sources info hive predicate output kind options rs v h
+scan_narrows top (a ∷ l) sources info hive predicate output kind options rs v fair h = top_scan sources info hive predicate output kind options rs v h (a ∷ l) fair top
 
 -- slices
 
@@ -284,8 +285,8 @@ rebuilt_narrows top l (filter p) rs no_roses opens v fair h = cc
 rebuilt_narrows top l (simple_projection cs) rs (more (rose n o us) no_roses) opens v fair h = projection_narrows cs l rs (rose n o us) (schema_by o (schemas us)) refl v fair h
 rebuilt_narrows top l (simple_projection cs) rs (more (rose n o us) (more (rose m o' us') rest)) opens v fair h = cc
 rebuilt_narrows top l (simple_projection cs) rs no_roses opens v fair h = cc
-rebuilt_narrows top l (scan sources info predicate output kind options) rs no_roses opens v fair h = scan_narrows top l sources info predicate output kind options rs v fair h
-rebuilt_narrows top l (scan sources info predicate output kind options) rs (more (rose n o us) rest) opens v fair h = cc
+rebuilt_narrows top l (scan sources info hive predicate output kind options) rs no_roses opens v fair h = scan_narrows top l sources info hive predicate output kind options rs v fair h
+rebuilt_narrows top l (scan sources info hive predicate output kind options) rs (more (rose n o us) rest) opens v fair h = cc
 rebuilt_narrows top l (slice offset len) rs (more (rose n o us) no_roses) opens v fair h = slice_narrows offset len l rs (rose n o us) (schema_by o (schemas us)) refl v h
 rebuilt_narrows top l (slice offset len) rs (more (rose n o us) (more (rose m o' us') rest)) opens v fair h = cc
 rebuilt_narrows top l (slice offset len) rs no_roses opens v fair h = cc

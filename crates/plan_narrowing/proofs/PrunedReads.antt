@@ -53,7 +53,7 @@ few_for top lists (hstack es schema options) (more p no_roses) good = tt
 few_for top lists (hstack es schema options) (more (rose n o us) (more (rose m q vs) rest)) good = cc
 few_for top lists (slice offset len) ts good = tt
 few_for top lists (filter p) ts good = tt
-few_for top lists (scan sources info predicate output kind options) ts good = tt
+few_for top lists (scan sources info hive predicate output kind options) ts good = tt
 few_for top lists (frame_scan df schema output) ts good = tt
 few_for top lists (simple_projection cs) ts good = tt
 few_for top lists (select es schema options) ts good = tt
@@ -113,9 +113,9 @@ rebuilt_reads top [] (hconcat schema options) ss rs zs few h = h
 rebuilt_reads top (b ∷ l) (hconcat schema options) ss rs zs few h = h
 rebuilt_reads top l (cache id hits) ss rs zs few h = subst (λ (os : List Op). ReadWithin os zs) (sym (covered_scans l (rose tt (cache id hits) rs))) h
 rebuilt_reads top l invalid ss rs zs few h = h
-rebuilt_reads top [] (scan sources info predicate output kind options) ss rs zs few h = ((refl, refl), (λ a i. i), h)
-rebuilt_reads false (b ∷ l) (scan sources info predicate output kind options) ss rs zs few h = ((refl, refl), (λ a i. i), h)
-rebuilt_reads true (b ∷ l) (scan sources info predicate output kind options) ss rs zs few h =
+rebuilt_reads top [] (scan sources info hive predicate output kind options) ss rs zs few h = ((refl, refl), (λ a i. i), h)
+rebuilt_reads false (b ∷ l) (scan sources info hive predicate output kind options) ss rs zs few h = ((refl, refl), (λ a i. i), h)
+rebuilt_reads true (b ∷ l) (scan sources info hive predicate output kind options) ss rs zs few h =
     ((refl, refl), (λ a i. i), subst (λ (os : List Op). ReadWithin os zs) (sym (append-nil (scans_in rs))) h)
 
 -- a node over inputs that are left as they are below it
@@ -240,9 +240,9 @@ rebuilt_nodes top [] (hconcat schema options) us ss rs w = omega arith
 rebuilt_nodes top (b ∷ l) (hconcat schema options) us ss rs w = omega arith
 rebuilt_nodes top [] (cache id hits) us ss rs w = omega arith
 rebuilt_nodes top (b ∷ l) (cache id hits) us ss rs w = omega arith
-rebuilt_nodes top [] (scan sources info predicate output kind options) us ss rs w = omega arith
-rebuilt_nodes false (b ∷ l) (scan sources info predicate output kind options) us ss rs w = omega arith
-rebuilt_nodes true (b ∷ l) (scan sources info predicate output kind options) us ss rs w = omega arith
+rebuilt_nodes top [] (scan sources info hive predicate output kind options) us ss rs w = omega arith
+rebuilt_nodes false (b ∷ l) (scan sources info hive predicate output kind options) us ss rs w = omega arith
+rebuilt_nodes true (b ∷ l) (scan sources info hive predicate output kind options) us ss rs w = omega arith
 
 -- a node over inputs that are left as they are below it
 left_nodes : (top : Bool) (l : List Name) (op : Op) (rs ts : Roses (Unit {0}) Op) → AllValid ts → width rs ≡ length (schemas ts) → size rs ≤ size ts + tops_in ts (sets_of (asks_plans l op ts)) → nodes (rebuilt top l op (stored_all ts) (left_below (is_closed op) ts rs)) ≤ 1 + own_tops op (set_of l) (schemas ts) + (size ts + tops_in ts (asks_of op (set_of l) (schemas ts) (stand_ins ts (schemas ts))))

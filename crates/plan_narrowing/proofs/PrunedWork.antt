@@ -71,9 +71,9 @@ rebuilt_made top [] (hconcat schema options) ss rs = omega arith
 rebuilt_made top (b ∷ l) (hconcat schema options) ss rs = omega arith
 rebuilt_made top l (cache id hits) ss rs = let e = covered_made l (rose tt (cache id hits) rs) in omega (arith, e)
 rebuilt_made top l invalid ss rs = omega arith
-rebuilt_made top [] (scan sources info predicate output kind options) ss rs = omega arith
-rebuilt_made false (b ∷ l) (scan sources info predicate output kind options) ss rs = omega arith
-rebuilt_made true (b ∷ l) (scan sources info predicate output kind options) ss rs = omega arith
+rebuilt_made top [] (scan sources info hive predicate output kind options) ss rs = omega arith
+rebuilt_made false (b ∷ l) (scan sources info hive predicate output kind options) ss rs = omega arith
+rebuilt_made true (b ∷ l) (scan sources info hive predicate output kind options) ss rs = omega arith
 
 -- a node over inputs that are left as they are below it
 left_made : (top : Bool) (l : List Name) (op : Op) (rs ts : Roses (Unit {0}) Op) → AllHold (checks op (schemas ts)) → AllValid ts → made_in rs ≤ kept_in ts (sets_of (asks_plans l op ts)) → made (rebuilt top l op (stored_all ts) (left_below (is_closed op) ts rs)) ≤ own_kept op (set_of l) + kept_in ts (asks_of op (set_of l) (schemas ts) (stand_ins ts (schemas ts)))

@@ -10,6 +10,7 @@ use Rattle.plan_ir.specs.declared.functions.FunctionIR.TheVariants.{Rename}
 use Rattle.plan_expr.specs.Leaves.{Name}
 use Rattle.plan_meaning.specs.Functions.{renamed, former, stay_apart, function_schema}
 use Rattle.plan_frame.specs.Reshaped.{renamed_columns}
+use Rattle.plan_meaning.specs.Contents.{Contents}
 use Rattle.plan_meaning.specs.Mapped.{mapped}
 use Rattle.plan_meaning.specs.Checks.{Check, check, each_new}
 use Rattle.plan_meaning.specs.Typing.{function_checks, rename_checks, AllHold}
@@ -129,8 +130,8 @@ module _ (existing new : List Name) (swapping : Bool) (wanted : List Name) (r s 
       let b = from_renamed now (names_of r) a (ap (λ (l : List Name). has l a) (sym (names-renamed now r)) ∙ sym (some-type_of (renamed_columns now r) a) ∙ e) in
       some-type_of (renamed_columns now s) a ∙ ap (λ (l : List Name). has l a) (names-renamed now s) ∙ ap (has (map now (names_of s))) b.2 ∙ to_renamed now (names_of s) b.0 (left_known b.0 b.1)
 
-  rename_agrees : (f0 g0 : Frame) → HasSchema f0 r → HasSchema g0 s → Agree (function_names (Rename existing new swapping) wanted s) f0 g0 → Agree wanted (mapped (Rename existing new swapping) f0) (mapped (Rename existing new swapping) g0)
-  rename_agrees f0 g0 hr hs ag = record { height = ag.height; same = λ a i. same a i (asked_from a i) }
+  rename_agrees : (c : Contents) (f0 g0 : Frame) → HasSchema f0 r → HasSchema g0 s → Agree (function_names (Rename existing new swapping) wanted s) f0 g0 → Agree wanted (mapped c (Rename existing new swapping) f0) (mapped c (Rename existing new swapping) g0)
+  rename_agrees c f0 g0 hr hs ag = record { height = ag.height; same = λ a i. same a i (asked_from a i) }
     where
       own : (cs : Columns) (f : Frame) → HasSchema f cs → stay_apart now (names_of cs) ≡ true → (b : Name) → has (names_of cs) b ≡ true → found (under now f.columns) (now b) ≡ found f.columns b
       own cs f k e b j = found-renamed now b f.columns (λ c m q. apart_one now (names_of cs) e c b (ap (λ (l : List Name). has l c) (sym (names-are f.height f.columns cs k)) ∙ m) j q)

@@ -14,6 +14,7 @@ use Rattle.plan_expr.specs.Leaves.{Name}
 use Rattle.plan_meaning.specs.Functions.{told_names, value_names, first_type, variable_name, value_name, unpivoted_names, all_differ, function_schema}
 use Rattle.plan_frame.specs.Reshaped.{type_or, repeated, names_down, values_down}
 use Rattle.plan_frame.specs.Exprs.{is_type}
+use Rattle.plan_meaning.specs.Contents.{Contents}
 use Rattle.plan_meaning.specs.Mapped.{mapped}
 use Rattle.plan_meaning.specs.Checks.{Check, check, each, is_empty, is_known, is_column}
 use Rattle.plan_meaning.specs.Typing.{unpivot_name_checks, unpivot_type_checks, unpivot_checks, function_checks, AllHold}
@@ -122,8 +123,8 @@ module _ (args : UnpivotArgsIR) (wanted : List Name) (r s : Columns) (some : is_
       (map_same (λ (a : Name). (a, type_or r a)) (λ (a : Name). (a, type_or s a)) args.index (λ a i. ap (λ (o : Option DataType). (a, unwrap_or o Int64)) (types a (of_index a i))))
       value
 
-  frames-same : (f0 g0 : Frame) → Agree (function_names (Unpivot args) wanted s) f0 g0 → mapped (Unpivot args) f0 ≡ mapped (Unpivot args) g0
-  frames-same f0 g0 ag =
+  frames-same : (c : Contents) (f0 g0 : Frame) → Agree (function_names (Unpivot args) wanted s) f0 g0 → mapped c (Unpivot args) f0 ≡ mapped c (Unpivot args) g0
+  frames-same c f0 g0 ag =
       let column : (a : Name) → has (function_names (Unpivot args) wanted s) a ≡ true → column_or f0 a ≡ column_or g0 a = λ a i. or_same f0 g0 a a ag.height (ag.same a i) in
       let repeats : table_columns args.index (repeated args.on f0) ≡ table_columns args.index (repeated args.on g0) =
       map_same (λ (a : Name). record { name = a; values = repeated args.on f0 a }) (λ (a : Name). record { name = a; values = repeated args.on g0 a }) args.index (λ a i. ap (λ (vs : List Value). record { name = a; values = flat_map (λ (b : Name). vs) args.on }) (column a (of_index a i))) in
@@ -139,5 +140,5 @@ module _ (args : UnpivotArgsIR) (wanted : List Name) (r s : Columns) (some : is_
   unpivot_kept = record {
     good = subst AllHold (sym checks-same) good;
     schema = subst (λ (x : Columns). Holding wanted x (function_schema (Unpivot args) s)) (sym schema-same) (self_holds wanted (function_schema (Unpivot args) s) fair);
-    agrees = λ f0 g0 hr hs ag. subst (λ (x : Frame). Agree wanted x (mapped (Unpivot args) g0)) (sym (frames-same f0 g0 ag)) (record { height = refl; same = λ a i. refl });
+    agrees = λ c f0 g0 hr hs ag. subst (λ (x : Frame). Agree wanted x (mapped c (Unpivot args) g0)) (sym (frames-same c f0 g0 ag)) (record { height = refl; same = λ a i. refl });
   }

@@ -6,9 +6,13 @@ use Rattle.plan_core.specs.Names.{has, with_names}
 use Rattle.plan_core.specs.declared.data_type.DataType.{DataType}
 use Rattle.plan_core.specs.declared.options.FileScanOptions.{FileScanOptions}
 use Rattle.plan_tree.specs.Rose.{Roses, rose, no_roses, more}
+use Rattle.plan_files.specs.FileColumns.{hive_columns, read_names}
+use Rattle.plan_files.specs.FileReads.{left_names as file_names}
+use Rattle.plan_file_narrowing.specs.Left.{columns_left, in_file_order, left_options, left_output, left_parts}
 use Rattle.plan_ir.specs.declared.scan.FileInfo.{FileInfo}
-use Rattle.plan_ir.specs.declared.scan.FileScan.{FileScan}
-use Rattle.plan_ir.specs.declared.scan.ScanSources.{ScanSources}
+use Rattle.plan_scan.specs.Stats.{Stats}
+use Rattle.plan_scan.specs.declared.file_scan.FileScan.{FileScan}
+use Rattle.plan_scan.specs.declared.sources.ScanSources.{ScanSources}
 use Rattle.plan_expr.specs.Exprs.{Named}
 use Rattle.plan_ir.specs.Plans.{Op, slice, filter, scan, frame_scan, simple_projection, select, hstack, sort, group_by, join, distinct, map_function, sink, union, hconcat, cache, invalid, Plan}
 use Rattle.plan_core.specs.declared.options.ProjectionOptions.{ProjectionOptions}
@@ -16,7 +20,7 @@ use Rattle.plan_options.specs.declared.group.GroupbyOptions.{GroupbyOptions}
 use Rattle.plan_options.specs.declared.union.HConcatOptions.{HConcatOptions}
 use Rattle.plan_core.specs.Columns.{with_types}
 use Rattle.plan_expr.specs.Leaves.{Name, leaves}
-use Rattle.plan_meaning.specs.Typing.{first_schema, rest_schemas}
+use Rattle.plan_meaning.specs.Typing.{first_schema, reader_columns, rest_schemas}
 use Rattle.plan_meaning.specs.JoinAsked.{left_names, right_names}
 use Rattle.plan_join_narrowing.specs.JoinPruned.{pruned_join}
 use Rattle.plan_frame.specs.Frames.{names_or}
@@ -52,10 +56,6 @@ abbrev pub asked_columns : List Name → Columns → Option Columns
 asked_columns [] cs = None
 asked_columns (a ∷ asked) cs = Some (typed_names cs (a ∷ asked))
 
--- the options of a scan that reads these names
-abbrev pub reading : List Name → FileScanOptions → FileScanOptions
-reading names options = record options { with_columns = Some names }
-
 -- a plan with a projection on top, or without
 abbrev pub projected : Bool → Columns → Plan → Plan
 projected true columns plan = rose tt (simple_projection columns) (more plan no_roses)
@@ -86,12 +86,27 @@ are_several no_roses = false
 are_several (more plan no_roses) = false
 are_several (more plan (more other plans)) = true
 
--- a scan that reads and puts out the asked names alone, with a projection to them on top or without; asked nothing, it stays
-abbrev pub pruned_scan : Bool → List Name → ScanSources → FileInfo → Option Named → Option Columns → FileScan → FileScanOptions → Roses (Unit {0}) Op → Plan
-pruned_scan top [] sources info predicate output kind options inputs = rose tt (scan sources info predicate output kind options) inputs
-pruned_scan top (a ∷ asked) sources info predicate output kind options inputs =
-    let columns = typed_names info.schema (a ∷ asked) in
-    projected top columns (rose tt (scan sources info predicate (Some columns) kind (reading (a ∷ asked) options)) inputs)
+-- what a scan that is asked these names reads
+abbrev pub reads_left : List Name → FileInfo → Option (List Stats) → FileScan → FileScanOptions → List Name
+reads_left wanted info hive kind options =
+    file_names kind wanted (read_names options.with_columns (reader_columns info) (hive_columns hive)) (hive_columns hive) options
+
+-- the columns that a scan which is asked these names can put out, of each name the first
+abbrev pub scan_columns_left : List Name → FileInfo → Option (List Stats) → FileScan → FileScanOptions → Columns
+scan_columns_left wanted info hive kind options = side_by_side (columns_left wanted (reads_left wanted info hive kind options) (reader_columns info) hive options ∷ [])
+
+-- what is left of a scan that is asked these names
+abbrev pub left_scan : List Name → ScanSources → FileInfo → Option (List Stats) → Option Named → FileScan → FileScanOptions → Op
+left_scan wanted sources info hive predicate kind options =
+    let file = scan_columns_left wanted info hive kind options in
+    scan sources (record info { schema = file }) (left_parts wanted hive) predicate
+    (Some (left_output (in_file_order kind hive options) options.include_file_paths wanted file)) kind (left_options wanted (reads_left wanted info hive kind options) options)
+
+-- what is left of a scan that is asked names, with a projection to them on top or without; asked nothing, it stays
+abbrev pub pruned_scan : Bool → List Name → ScanSources → FileInfo → Option (List Stats) → Option Named → Option Columns → FileScan → FileScanOptions → Roses (Unit {0}) Op → Plan
+pruned_scan top [] sources info hive predicate output kind options inputs = rose tt (scan sources info hive predicate output kind options) inputs
+pruned_scan top (a ∷ asked) sources info hive predicate output kind options inputs =
+    projected top (typed_names (scan_columns_left (a ∷ asked) info hive kind options) (a ∷ asked)) (rose tt (left_scan (a ∷ asked) sources info hive predicate kind options) inputs)
 
 -- what a scan of a frame puts out where names are asked; asked nothing, what it put out
 abbrev pub pruned_output : List Name → Columns → Option Columns → Option Columns
@@ -166,7 +181,7 @@ rest_names (names ∷ lists) = lists
 abbrev pub asks : List Name → Op → List Columns → List (Option Name) → List (List Name)
 asks asked (slice offset len) ss os = asked ∷ []
 asks asked (filter predicate) ss os = asked_with asked (leaves predicate.expr) ∷ []
-asks asked (scan sources info predicate output kind options) ss os = []
+asks asked (scan sources info hive predicate output kind options) ss os = []
 asks asked (frame_scan df schema output) ss os = []
 asks asked (select exprs schema options) ss os = needed_names exprs (first_stand_in os) (selected_exprs (set_of asked) exprs) ∷ []
 asks asked (hstack exprs schema options) ss os = stacked_names asked exprs (first_schema ss) ∷ []
@@ -189,7 +204,7 @@ asks asked invalid ss os = []
 abbrev pub rebuilt : Bool → List Name → Op → List Columns → Roses (Unit {0}) Op → Plan
 rebuilt top asked (slice offset len) ss inputs = rose tt (slice offset len) inputs
 rebuilt top asked (filter predicate) ss inputs = rose tt (filter predicate) inputs
-rebuilt top asked (scan sources info predicate output kind options) ss inputs = pruned_scan top asked sources info predicate output kind options inputs
+rebuilt top asked (scan sources info hive predicate output kind options) ss inputs = pruned_scan top asked sources info hive predicate output kind options inputs
 rebuilt top asked (frame_scan df schema output) ss inputs = rose tt (frame_scan df schema (pruned_output asked schema output)) inputs
 rebuilt top asked (select exprs schema options) ss inputs = pruned_select asked exprs schema options inputs
 rebuilt top asked (hstack exprs schema options) ss inputs = pruned_hstack asked exprs schema options inputs

@@ -34,7 +34,7 @@ tops_each cached (s ∷ t ∷ ss) = 0
 
 -- the projections that may be put on a node or its inputs: where names are asked one on a scan, one on a cache, one on a join that puts out columns of its right side, a selection or a projection, and one on each of more than one inputs of a union
 abbrev pub own_tops : Op → Asked → List Columns → ℕ
-own_tops (scan sources info predicate output kind options) a ss = one_if_asked a
+own_tops (scan sources info hive predicate output kind options) a ss = one_if_asked a
 own_tops (slice offset len) a ss = 0
 own_tops (filter predicate) a ss = 0
 own_tops (frame_scan df schema output) a ss = 0

@@ -65,7 +65,7 @@ fn unpivot_names(alloc: Global, args: &UnpivotArgsIR) -> Result<Names, AllocErro
 
 /// The names that a function of which these are asked needs of its input, which has these columns: a renaming those that become
 /// the asked names, a numbering of the rows the asked names that are columns, in the order of the asked names; an unpivot what it names, where it
-/// tells value columns; an explode the asked names, and then its columns. Refuses for want of memory alone.
+/// tells value columns; an explode the asked names, and then its columns; a count of the rows of files none. Refuses for want of memory alone.
 pub fn needed_names(
     alloc: Global,
     function: &FunctionIR,
@@ -80,6 +80,7 @@ pub fn needed_names(
         }
         FunctionIR::RowIndex { .. } => known_names(alloc, asked, columns),
         FunctionIR::Unpivot { args } => unpivot_names(alloc, args),
+        FunctionIR::FastCount { .. } => Ok(Names::new(alloc)),
         FunctionIR::Explode { columns } => {
             let mut names = copied_names(alloc, asked)?;
             add_listed(&mut names, columns.as_slice())?;

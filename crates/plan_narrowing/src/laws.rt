@@ -21,7 +21,7 @@ pub fn pruned_plans_refine()
     ensures { (top : Bool) (p : Plan) → IsValid p → Refines (pruned top [] p) p }
 {}
 
-/// The scans of a pruned plan stand one for one for those of the plan, and read only what is asked of them.
+/// The scans of a pruned plan stand one for one for those of the plan, and read only what they may for what is asked of them.
 pub fn pruned_plans_read_what_is_asked()
     ensures { (top : Bool) (p : Plan) → IsValid p → ReadWithin (scans (pruned top [] p)) (sites_of p) }
 {}

@@ -93,7 +93,7 @@ is_closed_step b ex asked (Cache i id hits) q columns e = refl
 is_closed_step b ex asked (Join left right schema left_on right_on options) q columns e = cc
 is_closed_step b ex asked (Slice j offset len) q columns e = cc
 is_closed_step b ex asked (Filter j predicate) q columns e = cc
-is_closed_step b ex asked (Scan sources info predicate output kind options) q columns e = cc
+is_closed_step b ex asked (Scan sources info hive predicate output kind options) q columns e = cc
 is_closed_step b ex asked (DataFrameScan df schema output) q columns e = cc
 is_closed_step b ex asked (SimpleProjection j cs) q columns e = cc
 is_closed_step b ex asked (Select j es schema options) q columns e = cc
@@ -119,7 +119,7 @@ module _ (asked : List Name) (a b : List IR) (ex : List AExpr) (n : Node) (q d :
   closed_pruned (Join left right schema left_on right_on options) e is = cc
   closed_pruned (Slice j offset len) e is = cc
   closed_pruned (Filter j predicate) e is = cc
-  closed_pruned (Scan sources info predicate output kind options) e is = cc
+  closed_pruned (Scan sources info hive predicate output kind options) e is = cc
   closed_pruned (DataFrameScan df schema output) e is = cc
   closed_pruned (SimpleProjection j cs) e is = cc
   closed_pruned (Select j es schema options) e is = cc

@@ -217,16 +217,16 @@ module _ (top low : Bool) (covers : Option (List Name)) (a b c z : List IR) (ex 
       ∙ ap (λ (w : Bool). whole w names ls rs ls rs (first_schema (stored_all left)) (first_schema (rest_schemas (stored_all left))) own kinds left) (same_kind options.args (may_coalesce options.args names rs s))
       ∙ ap₂ (λ (u v : Columns). pruned_join names ls rs schema told u v left) (left_columns b ex f h) (right_columns b ex f h)
 
-  pub join_pruned : (asked : List Name) (lists : List (List Name)) (kept : Option Kept) → lists ≡ asked_of asked s t → ((kids : Trees IR) → StandsOnce plan_shape b (l ∷ r ∷ []) kids → StandExprs ex (roots_in kids) → PrunesEach low covers lists b c ex mid (l ∷ r ∷ []) kids) → Keeps asked own kept → IsPutBack top (is_some_name asked) kept c z mid grown n (nodes.Join l r schema left_on right_on (joined_options asked rs options s)) → (u : Trees IR) → StandsOnce plan_shape a (n ∷ []) u → StandExprs ex (roots_in u) → slice_get a n.0 ≡ Some p → Prunes top asked a z ex grown n u
+  pub join_pruned : (asked : List Name) (lists : List (List Name)) (kept : Option Kept) → lists ≡ asked_of asked s t → ((kids : Trees IR) → StandsOnce plan_shape b (l ∷ r ∷ []) kids → StandExprs ex (roots_in kids) → PrunesEach low covers lists b c ex mid (l ∷ r ∷ []) kids) → Keeps asked own kept → IsPutBack (is_some_name asked) kept c z mid grown n (nodes.Join l r schema left_on right_on (joined_options asked rs options s)) → (u : Trees IR) → StandsOnce plan_shape a (n ∷ []) u → StandExprs ex (roots_in u) → slice_get a n.0 ≡ Some p → Prunes top asked a z ex grown n u
   join_pruned [] lists kept lists_are below keeps back u h st e =
-      let y : ((es : List AExpr) → z ≡ slice_set c n.0 p) × (grown ≡ mid) = subst (λ (o : Option Kept). IsPutBack top false o c z mid grown n p) keeps back in
+      let y : ((es : List AExpr) → z ≡ slice_set c n.0 p) × (grown ≡ mid) = subst (λ (o : Option Kept). IsPutBack false o c z mid grown n p) keeps back in
       subst (λ (es : List AExpr). Prunes top [] a z ex es n u) (sym y.1)
       (each_finish top low [] covers lists a b c z ex mid n p p d u longer h st e taken (y.0 mid) refl refl (λ before after w. w) refl
       (λ kids under stand. let x = below kids under stand in (x, ap (λ (f : Roses (Unit {0}) Op). rose tt (op_at ex p) f) (sides_pruned [] lists kids lists_are under x))))
   join_pruned (f ∷ asked) lists kept lists_are below keeps back u h st e =
       let names : List Name = f ∷ asked in
       let k : Kept = keeps.0 in
-      let y : JoinPut k c z mid grown n (nodes.Join l r schema left_on right_on (joined_options names rs options s)) = subst (λ (o : Option Kept). IsPutBack top true o c z mid grown n (nodes.Join l r schema left_on right_on (joined_options names rs options s))) keeps.1 back in
+      let y : JoinPut k c z mid grown n (nodes.Join l r schema left_on right_on (joined_options names rs options s)) = subst (λ (o : Option Kept). IsPutBack true o c z mid grown n (nodes.Join l r schema left_on right_on (joined_options names rs options s))) keeps.1 back in
       let j : IsJoined k c mid grown l r left_on right_on (joined_options names rs options s) y.made y.top = y.is in
       let q : IR = nodes.Join l r j.schema left_on right_on j.now in
       let m : Node = record { 0 = length c } in

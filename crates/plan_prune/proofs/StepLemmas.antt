@@ -1,5 +1,5 @@
 -- A node that was taken is pruned by its step.
-use Rattle.std.proofs.Common.{◌≡◌, ◌<◌, Bool, true, false, not, List, [], ◌∷◌, ◌++◌, ◌&&◌, ◌||◌, length, max, ◌+◌, Option, Some, None, unwrap_or, refl, sym, ap, ◌∙◌, arith, subst}
+use Rattle.std.proofs.Common.{◌≡◌, ◌<◌, Bool, true, false, not, List, [], ◌∷◌, ◌++◌, ◌||◌, length, max, ◌+◌, Option, Some, None, unwrap_or, refl, sym, ap, ◌∙◌, arith, subst}
 use Rattle.std.specs.List.{slice_get, slice_set}
 use Rattle.plan_core.specs.declared.arena.Node.{Node}
 use Rattle.plan_tree.specs.Rose.{levels, no_roses}
@@ -17,7 +17,7 @@ use Rattle.plan_prune.proofs.JoinPruned.{join_pruned}
 use Rattle.plan_expr.specs.Exprs.{Named, all_named_at}
 use Rattle.plan_ir.specs.Plans.{bare, op_at, plans_at}
 use Rattle.plan_expr.specs.Leaves.{Name}
-use Rattle.plan_core.specs.Columns.{names_of}
+use Rattle.plan_core.specs.Columns.{Columns, names_of}
 use Rattle.plan_frame.specs.Frames.{names_or}
 use Rattle.plan_meaning.specs.Counting.{is_count}
 use Rattle.plan_meaning.specs.Asked.{grouping_names, kept_exprs, needed_names, selected_exprs, set_of}
@@ -27,18 +27,18 @@ use Rattle.plan_prune_parts.specs.Kept.{is_some_name, names_at, selected_at, sta
 use Rattle.plan_renamed.specs.Renamed.{IsLonger}
 use Rattle.plan_prune_parts.specs.Places.{StandExprs}
 use Rattle.plan_prune.specs.Prunes.{AreInputs, InputsPruned, MarksAt, Prunes, PrunesAt, PrunesEach, PrunesUnder}
-use Rattle.plan_prune_parts.specs.Tops.{covered_at}
-use Rattle.plan_prune_steps.specs.Scans.{kept_scan, with_node}
+use Rattle.plan_prune_parts.specs.Tops.{covered_at, with_columns_on}
+use Rattle.plan_prune.specs.Taken.{top_columns}
 use Rattle.plan_prune_parts.specs.Said.{columns_at, stand_in_at}
 use Rattle.plan_prune.proofs.PruneLemmas.{finish, one_list, stays, stands_taken, stands_after}
-use Rattle.plan_prune.proofs.ScanPruned.{scan_pruned}
+use Rattle.plan_prune.proofs.ScanPruned.{plain_top, scan_pruned}
 use Rattle.plan_prune_parts.proofs.LongerLemmas.{below_exprs, exprs_longer, own_exprs, plan_trees}
 use Rattle.plan_prune_parts.proofs.KeptLemmas.{selected_named, selected_place, select_built, hstack_asks}
 use Rattle.plan_prune.proofs.HStackPruned.{hstack_pruned, found as there}
 use Rattle.plan_prune.proofs.GroupPruned.{grouped_asks, grouped_built, grouped_place}
 use Rattle.plan_prune.proofs.ConcatPruned.{concat_pruned}
 use Rattle.plan_prune.proofs.EachLemmas.{each_marks, one_covered, one_plain, tall, union_pruned}
-use Rattle.plan_prune.proofs.TakenSteps.{each_parts, is_each, is_over, over_parts, leaf_part, IsEach}
+use Rattle.plan_prune.proofs.TakenSteps.{each_parts, is_each, is_over, over_parts, leaf_parts, IsEach}
 
 -- what stands at the input of the node that goes back, once the input is pruned
 pub over_stands : (low : Bool) (asked names : List Name) (a b c : List IR) (ex grown : List AExpr) (n i : Node) (p q d : IR) (t : Trees IR) → StandsOnce plan_shape a (n ∷ []) t → slice_get a n.0 ≡ Some p → b ≡ slice_set a n.0 d → Over i names q ≡ step_of b ex asked p → PrunesAt low names b c ex grown i → (u : Trees IR) × StandsOnce plan_shape c (inputs_of q) u
@@ -48,22 +48,20 @@ over_stands low asked names a b c ex grown n i p q d t h e taken is below =
     (s.0, subst (λ (ns : List Node). StandsOnce plan_shape c ns s.0) (sym o.same) s.1)
 
 -- a node without inputs is pruned by its step
-module _ (top : Bool) (asked : List Name) (a b z : List IR) (ex : List AExpr) (n : Node) (q d : IR) (t : Trees IR) (h : StandsOnce plan_shape a (n ∷ []) t) (taken : b ≡ slice_set a n.0 d) (back : z ≡ put_back top (is_some_name asked) b ex n q) where
-  put_leaf : (r : IR) → Leaf q ≡ Leaf r → z ≡ put_back top (is_some_name asked) b ex n r
-  put_leaf r e = back ∙ ap (put_back top (is_some_name asked) b ex n) (leaf_part q r e)
+module _ (top : Bool) (asked : List Name) (a b z : List IR) (ex : List AExpr) (n : Node) (columns : Option Columns) (q d : IR) (t : Trees IR) (h : StandsOnce plan_shape a (n ∷ []) t) (taken : b ≡ slice_set a n.0 d) (back : z ≡ with_columns_on (top_columns top columns) b n q) where
+  put_leaf : (o : Option Columns) (r : IR) → Leaf columns q ≡ Leaf o r → z ≡ with_columns_on (top_columns top o) b n r
+  put_leaf o r e =
+      let x = leaf_parts columns o q r e in
+      back ∙ ap (λ (u : Option Columns). with_columns_on (top_columns top u) b n q) x.0 ∙ ap (with_columns_on (top_columns top o) b n) x.1
 
-  pub leaf_pruned : (p : IR) → slice_get a n.0 ≡ Some p → Leaf q ≡ step_of b ex asked p → Prunes top asked a z ex ex n t
-  leaf_pruned (Scan sources info predicate output kind options) e is =
-      scan_pruned a b ex n d t h sources info predicate output kind options e taken top asked z (put_leaf _ is ∙ scan_put asked)
-    where
-      scan_put : (l : List Name) → put_back top (is_some_name asked) b ex n (kept_scan l (Scan sources info predicate output kind options)) ≡ with_node (is_some_name asked && top) b n (kept_scan l (Scan sources info predicate output kind options))
-      scan_put [] = refl
-      scan_put (x ∷ l) = refl
+  pub leaf_pruned : (p : IR) → slice_get a n.0 ≡ Some p → Leaf columns q ≡ step_of b ex asked p → Prunes top asked a z ex ex n t
+  leaf_pruned (Scan sources info hive predicate output kind options) e is = rw (put_leaf _ _ is) (scan_pruned a b ex n d t h sources info hive predicate output kind options e taken top asked)
   leaf_pruned (DataFrameScan df schema output) e is =
-      rw (put_leaf _ is) (stays a b ex n (DataFrameScan df schema output) d t h refl e taken top asked (DataFrameScan df schema (pruned_output asked schema output)) refl refl refl refl refl)
+      rw (put_leaf _ _ is ∙ plain_top top b n (DataFrameScan df schema (pruned_output asked schema output)))
+      (stays a b ex n (DataFrameScan df schema output) d t h refl e taken top asked (DataFrameScan df schema (pruned_output asked schema output)) refl refl refl refl refl)
   leaf_pruned (Slice j offset len) e is = cc
   leaf_pruned (Filter j predicate) e is = cc
-  leaf_pruned (SimpleProjection j columns) e is = cc
+  leaf_pruned (SimpleProjection j cs) e is = cc
   leaf_pruned (Select j es schema options) e is = cc
   leaf_pruned (HStack j es schema options) e is = cc
   leaf_pruned (Sort j keys part options) e is = cc
@@ -78,9 +76,9 @@ module _ (top : Bool) (asked : List Name) (a b z : List IR) (ex : List AExpr) (n
   leaf_pruned Invalid e is = let o = opened plan_shape a n Invalid t h e in let v : true ≡ false = o.valid in cc
 
 -- a node over an input is pruned by its step, once the input is pruned
-module _ (top low : Bool) (asked names : List Name) (a b c z : List IR) (ex grown : List AExpr) (longer : IsLonger ex grown) (n i : Node) (q d : IR) (t : Trees IR) (h : StandsOnce plan_shape a (n ∷ []) t) (s : StandExprs ex (roots_in t)) (taken : b ≡ slice_set a n.0 d) (below : PrunesAt low names b c ex grown i) (back : z ≡ put_back top (is_some_name asked) c grown n q) where
-  put_over : (j : Node) (others : List Name) (r : IR) → Over i names q ≡ Over j others r → z ≡ put_back top (is_some_name asked) c grown n r
-  put_over j others r e = let x = over_parts i j names others q r e in back ∙ ap (put_back top (is_some_name asked) c grown n) x.2
+module _ (top low : Bool) (asked names : List Name) (a b c z : List IR) (ex grown : List AExpr) (longer : IsLonger ex grown) (n i : Node) (q d : IR) (t : Trees IR) (h : StandsOnce plan_shape a (n ∷ []) t) (s : StandExprs ex (roots_in t)) (taken : b ≡ slice_set a n.0 d) (below : PrunesAt low names b c ex grown i) (back : z ≡ put_back (is_some_name asked) c grown n q) where
+  put_over : (j : Node) (others : List Name) (r : IR) → Over i names q ≡ Over j others r → z ≡ put_back (is_some_name asked) c grown n r
+  put_over j others r e = let x = over_parts i j names others q r e in back ∙ ap (put_back (is_some_name asked) c grown n) x.2
 
   named : (j : Node) (others : List Name) (r : IR) → Over i names q ≡ Over j others r → names ≡ others
   named j others r e = let x = over_parts i j names others q r e in x.1
@@ -134,7 +132,7 @@ module _ (top low : Bool) (asked names : List Name) (a b c z : List IR) (ex grow
   over_pruned (Sink j payload) e low_is is =
       rw (put_over _ _ _ is) (finish top low asked names a b c ex grown n i (Sink j payload) (Sink j payload) d t longer h s e taken (one _ _ _ is) refl refl (λ before after x. x) refl low_is (one_list (named _ _ _ is)) refl below)
   over_pruned (Join left right schema left_on right_on options) e low_is is = cc
-  over_pruned (Scan sources info predicate output kind options) e low_is is = cc
+  over_pruned (Scan sources info hive predicate output kind options) e low_is is = cc
   over_pruned (Union inputs options) e low_is is = cc
   over_pruned (HConcat inputs schema options) e low_is is = cc
   over_pruned (Cache j id cache_hits) e low_is is = cc
@@ -147,12 +145,12 @@ one_more top (Some names) asked b c z ex grown n x on off low t h = one_covered 
 one_more top None asked b c z ex grown n x on off low t h = rw (off refl) (one_plain top asked b c ex grown n t (x t h))
 
 -- a node over inputs is pruned by its step, once these are pruned
-module _ (top low : Bool) (asked : List Name) (lists : List (List Name)) (covers : Option (List Name)) (kept : Option Kept) (a b c z : List IR) (ex mid grown : List AExpr) (longer : IsLonger ex mid) (further : IsLonger mid grown) (n : Node) (inputs : List Node) (q d : IR) (t : Trees IR) (h : StandsOnce plan_shape a (n ∷ []) t) (s : StandExprs ex (roots_in t)) (taken : b ≡ slice_set a n.0 d) (back : IsPutBack top (is_some_name asked) kept c z mid grown n q) (below : (kids : Trees IR) → StandsOnce plan_shape b inputs kids → StandExprs ex (roots_in kids) → PrunesEach low covers lists b c ex mid inputs kids) where
+module _ (top low : Bool) (asked : List Name) (lists : List (List Name)) (covers : Option (List Name)) (kept : Option Kept) (a b c z : List IR) (ex mid grown : List AExpr) (longer : IsLonger ex mid) (further : IsLonger mid grown) (n : Node) (inputs : List Node) (q d : IR) (t : Trees IR) (h : StandsOnce plan_shape a (n ∷ []) t) (s : StandExprs ex (roots_in t)) (taken : b ≡ slice_set a n.0 d) (back : IsPutBack (is_some_name asked) kept c z mid grown n q) (below : (kids : Trees IR) → StandsOnce plan_shape b inputs kids → StandExprs ex (roots_in kids) → PrunesEach low covers lists b c ex mid inputs kids) where
   -- where nothing is kept of it, it goes back as it is, and no expressions are added
-  put_plain : (r : IR) → kept ≡ None → q ≡ r → (z ≡ put_back top (is_some_name asked) c mid n r) × (grown ≡ mid)
+  put_plain : (r : IR) → kept ≡ None → q ≡ r → (z ≡ put_back (is_some_name asked) c mid n r) × (grown ≡ mid)
   put_plain r none e =
-      let y : ((es : List AExpr) → z ≡ put_back top (is_some_name asked) c es n q) × (grown ≡ mid) = subst (λ (o : Option Kept). IsPutBack top (is_some_name asked) o c z mid grown n q) none back in
-      (y.0 mid ∙ ap (put_back top (is_some_name asked) c mid n) e, y.1)
+      let y : ((es : List AExpr) → z ≡ put_back (is_some_name asked) c es n q) × (grown ≡ mid) = subst (λ (o : Option Kept). IsPutBack (is_some_name asked) o c z mid grown n q) none back in
+      (y.0 mid ∙ ap (put_back (is_some_name asked) c mid n) e, y.1)
 
   below_own : (own : List Node) → inputs ≡ own → (kids : Trees IR) → StandsOnce plan_shape b own kids → StandExprs ex (roots_in kids) → PrunesEach low covers lists b c ex mid own kids
   below_own own is = subst (λ (ns : List Node). (kids : Trees IR) → StandsOnce plan_shape b ns kids → StandExprs ex (roots_in kids) → PrunesEach low covers lists b c ex mid ns kids) is below
@@ -168,10 +166,10 @@ module _ (top low : Bool) (asked : List Name) (lists : List (List Name)) (covers
       subst (λ (es : List AExpr). Prunes top asked a z ex es n t) (sym y.1) (concat_pruned top low asked covers lists a b c z ex mid longer n own schema options d taken y.0 low_is x.1 x.2 (below_own own x.0) t h s e)
   each_pruned (Join left right schema left_on right_on options) e low_is keeps is =
       let x = each_parts inputs _ lists _ covers _ q _ is in
-      join_pruned top low covers a b c z ex mid grown longer further n left right schema left_on right_on options d taken low_is x.2 asked lists kept x.1 (below_own (left ∷ right ∷ []) x.0) keeps (subst (λ (r : IR). IsPutBack top (is_some_name asked) kept c z mid grown n r) x.3 back) t h s e
+      join_pruned top low covers a b c z ex mid grown longer further n left right schema left_on right_on options d taken low_is x.2 asked lists kept x.1 (below_own (left ∷ right ∷ []) x.0) keeps (subst (λ (r : IR). IsPutBack (is_some_name asked) kept c z mid grown n r) x.3 back) t h s e
   each_pruned (Slice j offset len) e low_is keeps is = cc
   each_pruned (Filter j predicate) e low_is keeps is = cc
-  each_pruned (Scan sources info predicate output kind options) e low_is keeps is = cc
+  each_pruned (Scan sources info hive predicate output kind options) e low_is keeps is = cc
   each_pruned (DataFrameScan df schema output) e low_is keeps is = cc
   each_pruned (SimpleProjection j cs) e low_is keeps is = cc
   each_pruned (Select j es schema options) e low_is keeps is = cc
@@ -228,7 +226,7 @@ module _ (asked : List Name) (a b : List IR) (ex : List AExpr) (n : Node) (input
       let stand : StandExprs ex (roots_of p) = own_exprs ex p o.kids no_roses (rw o.is at (plan_trees a ex n plan.nodes plan plan.stands.nodes)) in
       subst (λ (ns : List Node). StandExprs grown ns) (sym each_is.exprs) (exprs_longer ex grown longer (roots_of p) stand)
 
-  pub each_step : (top before mid : Bool) (kept : Option Kept) (c z : List IR) (now grown : List AExpr) → not before ≡ top_below top (op_at ex p) → IsKept b ex asked p kept → InputsPruned before mid covers lists b c ex now inputs → IsLonger ex now → IsLonger now grown → IsPutBack top (is_some_name asked) kept c z now grown n q → PrunesAt top asked a z ex grown n
+  pub each_step : (top before mid : Bool) (kept : Option Kept) (c z : List IR) (now grown : List AExpr) → not before ≡ top_below top (op_at ex p) → IsKept b ex asked p kept → InputsPruned before mid covers lists b c ex now inputs → IsLonger ex now → IsLonger now grown → IsPutBack (is_some_name asked) kept c z now grown n q → PrunesAt top asked a z ex grown n
   each_step top before mid kept c z now grown low keeps x longer further back t h =
       each_pruned top (not before) asked lists covers kept a b c z ex now grown longer further n inputs q d t h (plan_trees a ex n t plan h) taken back x.prunes p e low keeps step
 

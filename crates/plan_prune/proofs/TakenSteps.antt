@@ -2,12 +2,11 @@
 use Rattle.std.proofs.Common.{◌≡◌, Bool, true, false, not, List, [], ◌∷◌, ◌&&◌, ◌||◌, length, Option, Some, None, refl, sym, ap, ◌∙◌, subst}
 use Rattle.std.specs.List.{slice_get, slice_set}
 use Rattle.plan_core.specs.declared.arena.Node.{Node}
-use Rattle.plan_tree.specs.Rose.{no_roses}
-use Rattle.plan_tree.specs.Stands.{Trees, StandsOnce}
+use Rattle.plan_tree.specs.Stands.{Trees}
 use Rattle.plan_expr.specs.declared.aexpr.AExpr.{AExpr}
 use Rattle.plan_ir.specs.declared.ir.IR.{IR}
 use Rattle.plan_ir.specs.declared.ir.IR.TheVariants.{Slice, Filter, Scan, DataFrameScan, SimpleProjection, Select, HStack, Sort, GroupBy, Join, Distinct, MapFunction, Sink, Union, HConcat, Cache, Invalid}
-use Rattle.plan_ir.specs.Parts.{plan_shape, inputs_of, is_join, roots_of}
+use Rattle.plan_ir.specs.Parts.{inputs_of, is_join, roots_of}
 use Rattle.plan_expr.specs.declared.expr_ir.ExprIR.{ExprIR}
 use Rattle.plan_join.specs.declared.options.JoinOptions.{JoinOptions}
 use Rattle.plan_prune_parts.specs.declared.kept.Kept.{Kept}
@@ -26,26 +25,25 @@ use Rattle.plan_prune.specs.Prunes.{MarksAt}
 use Rattle.plan_prune_parts.specs.Said.{columns_at}
 use Rattle.plan_prune_parts.specs.Steps.{with_kept}
 use Rattle.plan_prune.proofs.PruneLemmas.{alone}
-use Rattle.plan_prune.proofs.ScanPruned.{kept_alone}
 use Rattle.plan_prune_steps.proofs.AlikeLemmas.{length-alike}
 use Rattle.plan_prune.proofs.ConcatPruned.{length-held}
 
 -- a step with what is kept is the step of a node, over no inputs, one, or several
-leaf_kept : (kept : Option Kept) (s : Step) (q : IR) → Leaf q ≡ with_kept kept s → Leaf q ≡ s
-leaf_kept kept (Leaf p) q e = e
-leaf_kept kept (Over i names p) q e = cc
-leaf_kept kept (Closed columns p) q e = cc
-leaf_kept kept (Each inputs lists covers k p) q e = cc
+leaf_kept : (kept : Option Kept) (s : Step) (columns : Option Columns) (q : IR) → Leaf columns q ≡ with_kept kept s → Leaf columns q ≡ s
+leaf_kept kept (Leaf others p) columns q e = e
+leaf_kept kept (Over i names p) columns q e = cc
+leaf_kept kept (Closed others p) columns q e = cc
+leaf_kept kept (Each inputs lists covers k p) columns q e = cc
 
 over_kept : (kept : Option Kept) (s : Step) (i : Node) (names : List Name) (q : IR) → Over i names q ≡ with_kept kept s → Over i names q ≡ s
 over_kept kept (Over j others p) i names q e = e
-over_kept kept (Leaf p) i names q e = cc
+over_kept kept (Leaf others p) i names q e = cc
 over_kept kept (Closed columns p) i names q e = cc
 over_kept kept (Each inputs lists covers k p) i names q e = cc
 
 closed_kept : (kept : Option Kept) (s : Step) (columns : Option Columns) (q : IR) → Closed columns q ≡ with_kept kept s → Closed columns q ≡ s
 closed_kept kept (Closed others p) columns q e = e
-closed_kept kept (Leaf p) columns q e = cc
+closed_kept kept (Leaf others p) columns q e = cc
 closed_kept kept (Over i names p) columns q e = cc
 closed_kept kept (Each inputs lists covers k p) columns q e = cc
 
@@ -57,7 +55,7 @@ kept_in other = None
 none_in : (lp : List IR) (ex : List AExpr) (asked : List Name) (p : IR) → kept_in (step_of lp ex asked p) ≡ None
 none_in lp ex asked (Slice j offset len) = refl
 none_in lp ex asked (Filter j predicate) = refl
-none_in lp ex asked (Scan sources info predicate output kind options) = refl
+none_in lp ex asked (Scan sources info hive predicate output kind options) = refl
 none_in lp ex asked (DataFrameScan df schema output) = refl
 none_in lp ex asked (SimpleProjection j columns) = refl
 none_in lp ex asked (Select j es schema options) = refl
@@ -75,14 +73,14 @@ none_in lp ex asked Invalid = refl
 
 each_kept : (kept k : Option Kept) (s : Step) (inputs : List Node) (lists : List (List Name)) (covers : Option (List Name)) (q : IR) → kept_in s ≡ None → Each inputs lists covers k q ≡ with_kept kept s → (kept ≡ k) × (Each inputs lists covers None q ≡ s)
 each_kept kept k (Each ns ls o j p) inputs lists covers q none e = (cc, cc)
-each_kept kept k (Leaf p) inputs lists covers q none e = cc
+each_kept kept k (Leaf columns p) inputs lists covers q none e = cc
 each_kept kept k (Over i names p) inputs lists covers q none e = cc
 each_kept kept k (Closed columns p) inputs lists covers q none e = cc
 
 -- so it is of what was taken
 module _ (before after : Bool) (lp new : List IR) (ex : List AExpr) (asked : List Name) (n : Node) (step : Step) (taken : IsTaken before after lp new ex asked n step) where
-  pub leaf_taken : (q : IR) → step ≡ Leaf q → Leaf q ≡ step_of new ex asked taken.entry
-  leaf_taken q e = leaf_kept taken.kept (step_of new ex asked taken.entry) q (sym e ∙ taken.step_is)
+  pub leaf_taken : (columns : Option Columns) (q : IR) → step ≡ Leaf columns q → Leaf columns q ≡ step_of new ex asked taken.entry
+  leaf_taken columns q e = leaf_kept taken.kept (step_of new ex asked taken.entry) columns q (sym e ∙ taken.step_is)
 
   pub over_taken : (i : Node) (names : List Name) (q : IR) → step ≡ Over i names q → Over i names q ≡ step_of new ex asked taken.entry
   over_taken i names q e = over_kept taken.kept (step_of new ex asked taken.entry) i names q (sym e ∙ taken.step_is)
@@ -103,8 +101,8 @@ module _ (before after : Bool) (lp new : List IR) (ex : List AExpr) (asked : Lis
 pub over_parts : (i j : Node) (names others : List Name) (p q : IR) → Over i names p ≡ Over j others q → (i ≡ j) × (names ≡ others) × (p ≡ q)
 over_parts i j names others p q e = (cc, cc, cc)
 
-pub leaf_part : (p q : IR) → Leaf p ≡ Leaf q → p ≡ q
-leaf_part p q e = cc
+pub leaf_parts : (o u : Option Columns) (p q : IR) → Leaf o p ≡ Leaf u q → (o ≡ u) × (p ≡ q)
+leaf_parts o u p q e = (cc, cc)
 
 -- a step over an input is that of a node with this input, and the node goes back over it
 pub record IsOver (p q : IR) (i : Node) : Type 0 where
@@ -122,7 +120,7 @@ made_over i j names others p q r opens one same e =
 pub is_over : (lp : List IR) (ex : List AExpr) (asked names : List Name) (p q : IR) (i : Node) → Over i names q ≡ step_of lp ex asked p → IsOver p q i
 is_over lp ex asked names (Slice j offset len) q i e = made_over i j names _ (Slice j offset len) q _ (λ ex. refl) refl refl e
 is_over lp ex asked names (Filter j predicate) q i e = made_over i j names _ (Filter j predicate) q _ (λ ex. refl) refl refl e
-is_over lp ex asked names (Scan sources info predicate output kind options) q i e = cc
+is_over lp ex asked names (Scan sources info hive predicate output kind options) q i e = cc
 is_over lp ex asked names (DataFrameScan df schema output) q i e = cc
 is_over lp ex asked names (SimpleProjection j columns) q i e = made_over i j names _ (SimpleProjection j columns) q _ (λ ex. refl) refl refl e
 is_over lp ex asked names (Select j es schema options) q i e = made_over i j names _ (Select j es schema options) q _ (λ ex. refl) refl refl e
@@ -138,48 +136,25 @@ is_over lp ex asked names (HConcat inputs schema options) q i e = cc
 is_over lp ex asked names (Cache j id cache_hits) q i e = cc
 is_over lp ex asked names Invalid q i e = cc
 
--- a step without an input puts back a node without inputs
-is_leaf : (lp : List IR) (ex : List AExpr) (asked : List Name) (p q : IR) → Leaf q ≡ step_of lp ex asked p → inputs_of q ≡ []
-is_leaf lp ex asked (Slice j offset len) q e = cc
-is_leaf lp ex asked (Filter j predicate) q e = cc
-is_leaf lp ex asked (Scan sources info predicate output kind options) q e = ap inputs_of (leaf_part q _ e) ∙ kept_alone asked (Scan sources info predicate output kind options) refl
-is_leaf lp ex asked (DataFrameScan df schema output) q e = ap inputs_of (leaf_part q _ e)
-is_leaf lp ex asked (SimpleProjection j columns) q e = cc
-is_leaf lp ex asked (Select j es schema options) q e = cc
-is_leaf lp ex asked (HStack j es schema options) q e = cc
-is_leaf lp ex asked (Sort j keys part options) q e = cc
-is_leaf lp ex asked (GroupBy j keys aggs schema ordered options) q e = cc
-is_leaf lp ex asked (Join left right schema left_on right_on options) q e = cc
-is_leaf lp ex asked (Distinct j options) q e = cc
-is_leaf lp ex asked (MapFunction j function) q e = cc
-is_leaf lp ex asked (Sink j payload) q e = cc
-is_leaf lp ex asked (Union inputs options) q e = cc
-is_leaf lp ex asked (HConcat inputs schema options) q e = cc
-is_leaf lp ex asked (Cache j id cache_hits) q e = cc
-is_leaf lp ex asked Invalid q e = ap inputs_of (leaf_part q _ e)
-
--- and it is that of a node without inputs
-leaf_alone : (lp : List IR) (ex : List AExpr) (asked : List Name) (p q : IR) → Leaf q ≡ step_of lp ex asked p → inputs_of p ≡ []
-leaf_alone lp ex asked (Slice j offset len) q e = cc
-leaf_alone lp ex asked (Filter j predicate) q e = cc
-leaf_alone lp ex asked (Scan sources info predicate output kind options) q e = refl
-leaf_alone lp ex asked (DataFrameScan df schema output) q e = refl
-leaf_alone lp ex asked (SimpleProjection j columns) q e = cc
-leaf_alone lp ex asked (Select j es schema options) q e = cc
-leaf_alone lp ex asked (HStack j es schema options) q e = cc
-leaf_alone lp ex asked (Sort j keys part options) q e = cc
-leaf_alone lp ex asked (GroupBy j keys aggs schema ordered options) q e = cc
-leaf_alone lp ex asked (Join left right schema left_on right_on options) q e = cc
-leaf_alone lp ex asked (Distinct j options) q e = cc
-leaf_alone lp ex asked (MapFunction j function) q e = cc
-leaf_alone lp ex asked (Sink j payload) q e = cc
-leaf_alone lp ex asked (Union inputs options) q e = cc
-leaf_alone lp ex asked (HConcat inputs schema options) q e = cc
-leaf_alone lp ex asked (Cache j id cache_hits) q e = cc
-leaf_alone lp ex asked Invalid q e = refl
-
-pub leaf_stands : (lp : List IR) (ex : List AExpr) (asked : List Name) (p q : IR) → Leaf q ≡ step_of lp ex asked p → (t : Trees IR) × StandsOnce plan_shape lp (inputs_of q) t
-leaf_stands lp ex asked p q e = rw (is_leaf lp ex asked p q e) (no_roses, record { stands = tt; once = tt })
+-- a step without an input is that of a node without inputs
+leaf_alone : (lp : List IR) (ex : List AExpr) (asked : List Name) (columns : Option Columns) (p q : IR) → Leaf columns q ≡ step_of lp ex asked p → inputs_of p ≡ []
+leaf_alone lp ex asked columns (Slice j offset len) q e = cc
+leaf_alone lp ex asked columns (Filter j predicate) q e = cc
+leaf_alone lp ex asked columns (Scan sources info hive predicate output kind options) q e = refl
+leaf_alone lp ex asked columns (DataFrameScan df schema output) q e = refl
+leaf_alone lp ex asked columns (SimpleProjection j cs) q e = cc
+leaf_alone lp ex asked columns (Select j es schema options) q e = cc
+leaf_alone lp ex asked columns (HStack j es schema options) q e = cc
+leaf_alone lp ex asked columns (Sort j keys part options) q e = cc
+leaf_alone lp ex asked columns (GroupBy j keys aggs schema ordered options) q e = cc
+leaf_alone lp ex asked columns (Join left right schema left_on right_on options) q e = cc
+leaf_alone lp ex asked columns (Distinct j options) q e = cc
+leaf_alone lp ex asked columns (MapFunction j function) q e = cc
+leaf_alone lp ex asked columns (Sink j payload) q e = cc
+leaf_alone lp ex asked columns (Union inputs options) q e = cc
+leaf_alone lp ex asked columns (HConcat inputs schema options) q e = cc
+leaf_alone lp ex asked columns (Cache j id cache_hits) q e = cc
+leaf_alone lp ex asked columns Invalid q e = refl
 
 -- the mark after it is set where a node counts rows, and else left
 
@@ -203,9 +178,9 @@ marked_once false true c = refl
 marked_once false false true = refl
 marked_once false false false = refl
 
-pub marks_leaf : (before mid : Bool) (lp b : List IR) (ex : List AExpr) (asked : List Name) (n : Node) (p q : IR) → slice_get lp n.0 ≡ Some p → Leaf q ≡ step_of b ex asked p → mid ≡ (before || is_count (op_at ex p)) → MarksAt before mid lp ex n
-marks_leaf before mid lp b ex asked n p q e leaf is t h =
-    is ∙ marked_once before (is_count (op_at ex p)) (is_closed (op_at ex p)) ∙ ap (λ (u : Trees IR). before || meet_count (bare (plans_of ex u))) (sym (alone lp (slice_set lp n.0 p) ex n p p t h (leaf_alone b ex asked p q leaf) e refl))
+pub marks_leaf : (before mid : Bool) (lp b : List IR) (ex : List AExpr) (asked : List Name) (n : Node) (columns : Option Columns) (p q : IR) → slice_get lp n.0 ≡ Some p → Leaf columns q ≡ step_of b ex asked p → mid ≡ (before || is_count (op_at ex p)) → MarksAt before mid lp ex n
+marks_leaf before mid lp b ex asked n columns p q e leaf is t h =
+    is ∙ marked_once before (is_count (op_at ex p)) (is_closed (op_at ex p)) ∙ ap (λ (u : Trees IR). before || meet_count (bare (plans_of ex u))) (sym (alone lp (slice_set lp n.0 p) ex n p p t h (leaf_alone b ex asked columns p q leaf) e refl))
 
 -- names that are there are the same, or aren't there
 pub some_same : (o : Option (List Name)) (x y : List Name) → o ≡ Some x → o ≡ Some y → x ≡ y
@@ -242,7 +217,7 @@ is_each b ex asked inputs lists covers (Union own options) q e = made_each input
 is_each b ex asked inputs lists covers (HConcat own schema options) q e = made_each inputs own lists _ covers _ (HConcat own schema options) q _ (λ ex. refl) refl refl (length-held b ex asked own) refl e
 is_each b ex asked inputs lists covers (Slice j offset len) q e = cc
 is_each b ex asked inputs lists covers (Filter j predicate) q e = cc
-is_each b ex asked inputs lists covers (Scan sources info predicate output kind options) q e = cc
+is_each b ex asked inputs lists covers (Scan sources info hive predicate output kind options) q e = cc
 is_each b ex asked inputs lists covers (DataFrameScan df schema output) q e = cc
 is_each b ex asked inputs lists covers (SimpleProjection j cs) q e = cc
 is_each b ex asked inputs lists covers (Select j es schema options) q e = cc
@@ -267,7 +242,7 @@ kept_join b ex asked inputs lists covers kept k (Union own options) q keeps some
 kept_join b ex asked inputs lists covers kept k (HConcat own schema options) q keeps some e = absurd (none_kept kept k keeps some)
 kept_join b ex asked inputs lists covers kept k (Slice j offset len) q keeps some e = cc
 kept_join b ex asked inputs lists covers kept k (Filter j predicate) q keeps some e = cc
-kept_join b ex asked inputs lists covers kept k (Scan sources info predicate output kind options) q keeps some e = cc
+kept_join b ex asked inputs lists covers kept k (Scan sources info hive predicate output kind options) q keeps some e = cc
 kept_join b ex asked inputs lists covers kept k (DataFrameScan df schema output) q keeps some e = cc
 kept_join b ex asked inputs lists covers kept k (SimpleProjection j cs) q keeps some e = cc
 kept_join b ex asked inputs lists covers kept k (Select j es schema options) q keeps some e = cc

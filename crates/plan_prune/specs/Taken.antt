@@ -1,5 +1,6 @@
 -- What a node becomes that is taken.
-use Rattle.std.specs.Prelude.{◌≡◌, ◌||◌, Bool, List, Option, Some, slice_get, slice_set}
+use Rattle.std.specs.Prelude.{◌≡◌, ◌||◌, Bool, true, false, List, Option, None, Some, slice_get, slice_set}
+use Rattle.plan_core.specs.Columns.{Columns}
 use Rattle.plan_core.specs.declared.arena.Node.{Node}
 use Rattle.plan_expr.specs.declared.aexpr.AExpr.{AExpr}
 use Rattle.plan_expr.specs.Leaves.{Name}
@@ -11,6 +12,11 @@ use Rattle.plan_prune_parts.specs.declared.step.Step.{Step}
 use Rattle.plan_prune_parts.specs.Steps.{with_kept}
 use Rattle.plan_prune_steps.specs.Steps.{step_of}
 use Rattle.plan_prune_joins.specs.Joined.{IsKept}
+
+-- the columns of the projection that goes on top of a node without inputs, where projections go on top
+abbrev pub top_columns : Bool → Option Columns → Option Columns
+top_columns true columns = columns
+top_columns false columns = None
 
 -- a node that is asked names was taken: what is to be done at it is its step with what is to be kept of it, and the mark is set where it was or where the node counts rows
 pub record IsTaken (before after : Bool) (lp new : List IR) (ex : List AExpr) (asked : List Name) (n : Node) (step : Step) : Type 0 where

@@ -1,7 +1,7 @@
 //! The pass that prunes a plan to the columns that it needs.
 //! Each node is told the names that are asked of it, and asks its inputs the names that it needs;
 //! no names stand for every column. The rule of a node kind is in a file of its own of plan_prune_steps, and its `step` finds it.
-ghost use Rattle.std.specs.Prelude.{◌≡◌, ◌≤◌, ◌+◌, [], ◌∷◌, IfOk, OnOk, ◌||◌, false, length, not, true};
+ghost use Rattle.std.specs.Prelude.{◌≡◌, ◌<◌, ◌≤◌, ◌+◌, [], ◌∷◌, Err, IfOk, OnOk, ◌||◌, false, length, not, true};
 ghost use Rattle.plan_ir.specs.Parts.{IsPlan};
 ghost use Rattle.plan_ir.specs.Plans.{bare, plans_at};
 ghost use Rattle.plan_meaning.specs.PlanAt.{plan_at};
@@ -14,10 +14,11 @@ ghost use Rattle.plan_meaning.specs.Work.{made, kept};
 ghost use Rattle.plan_narrowing.specs.Pruned.{pruned_all};
 ghost use Rattle.plan_narrowing.specs.Reads.{ReadWithin, tops};
 ghost use Rattle.plan_renamed.specs.Renamed.{IsLonger};
-ghost use Rattle.plan_prune.specs.Taken.{IsTaken};
+ghost use Rattle.plan_prune_parts.specs.Tops.{with_columns_on};
+ghost use Rattle.plan_prune.specs.Taken.{IsTaken, top_columns};
 ghost use Rattle.plan_prune.specs.Prunes.{AreInputs, InputsPruned, MarksAt, PrunesAt, PrunesUnder};
 
-use plan_core::{Arena, Names, Node};
+use plan_core::{Arena, Names, Node, Schema};
 use plan_expr::AExpr;
 use plan_ir::IR;
 use plan_narrowing::copied_names;
@@ -26,6 +27,41 @@ use plan_prune_parts::cover::cover;
 use plan_prune_parts::{Step, cover};
 use plan_prune_steps::{select, step};
 use std::alloc::{AllocError, Global};
+
+/// Puts a node without inputs at `node`, under a projection where there are columns and projections go on top. Refuses for want of
+/// memory alone, and then nothing is known of what stands at `node`.
+fn put_leaf(
+    node: Node,
+    entry: IR,
+    on_top: bool,
+    columns: Option<Schema>,
+    lp: &mut Arena<IR>,
+) -> Result<(), AllocError>
+    requires { node.0 < length lp.old }
+    ensures placed { OnOk result (lp.new ≡ with_columns_on (top_columns on_top columns) lp.old node entry) }
+    ensures grows { length lp.old ≤ length lp.new }
+{
+    if on_top {
+        return cover::put(node, entry, columns, lp);
+    }
+    lp.put(node, entry);
+    Ok(())
+}
+
+/// Puts a node back at `node` whose inputs could not be pruned, and refuses as they did.
+fn given_back(
+    node: Node,
+    entry: IR,
+    refused: AllocError,
+    lp: &mut Arena<IR>,
+) -> Result<(), AllocError>
+    requires { node.0 < length lp.old }
+    ensures refused { result ≡ Err refused }
+    ensures grows { length lp.old ≤ length lp.new }
+{
+    lp.put(node, entry);
+    Err(refused)
+}
 
 /// Prunes plans to the columns that they need.
 #[derive(Drop)]
@@ -122,14 +158,16 @@ impl ProjectionPushDown {
         let is_asked = asked.len() > 0;
         let on_top = !self.is_count_star;
         match self.take(alloc, node, asked, lp, ex)? {
-            Step::Leaf { entry } => step::put(alloc, node, entry, is_asked, on_top, lp),
+            Step::Leaf { columns, entry } => put_leaf(node, entry, on_top, columns, lp),
             Step::Over {
                 input,
                 asked,
                 entry,
             } => {
-                self.push_down(alloc, input, asked, lp, ex)?;
-                step::put(alloc, node, entry, is_asked, on_top, lp)
+                match self.push_down(alloc, input, asked, lp, ex) {
+                    Ok(()) => step::put(alloc, node, entry, is_asked, lp),
+                    Err(refused) => given_back(node, entry, refused, lp),
+                }
             }
             Step::Closed { columns, entry } => cover::put(node, entry, columns, lp),
             Step::Each {
@@ -139,8 +177,11 @@ impl ProjectionPushDown {
                 kept,
                 entry,
             } => {
-                self.push_inputs(alloc, inputs.as_slice(), asked.as_slice(), &covered, lp, ex)?;
-                step::put_over(alloc, node, entry, kept, is_asked, on_top, lp, ex)
+                let (own, lists) = (inputs.as_slice(), asked.as_slice());
+                match self.push_inputs(alloc, own, lists, &covered, lp, ex) {
+                    Ok(()) => step::put_over(alloc, node, entry, kept, is_asked, lp, ex),
+                    Err(refused) => given_back(node, entry, refused, lp),
+                }
             }
         }
     }

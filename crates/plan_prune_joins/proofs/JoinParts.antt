@@ -1,5 +1,5 @@
 -- The parts of a join: what stands at its sides, its keys and its condition, and what is kept of it.
-use Rattle.std.proofs.Common.{◌≡◌, ◌∙◌, All, length, List, [], ◌∷◌, ◌++◌, Option, None, Some, refl, ap, ap₂, subst, arith}
+use Rattle.std.proofs.Common.{◌≡◌, All, length, List, [], ◌∷◌, ◌++◌, Option, None, Some, refl, ap, ap₂, subst, arith}
 use Rattle.plan_core.specs.declared.arena.Node.{Node}
 use Rattle.plan_core.specs.Columns.{Columns}
 use Rattle.plan_tree.specs.Stands.{Trees, StandsOnce}
@@ -61,7 +61,7 @@ keeps_none lp ex [] (Join left right schema left_on right_on options) e = refl
 keeps_none lp ex (a ∷ asked) (Join left right schema left_on right_on options) e = absurd (omega (arith, e))
 keeps_none lp ex asked (Slice j offset len) e = refl
 keeps_none lp ex asked (Filter j predicate) e = refl
-keeps_none lp ex asked (Scan sources info predicate output kind options) e = refl
+keeps_none lp ex asked (Scan sources info hive predicate output kind options) e = refl
 keeps_none lp ex asked (DataFrameScan df schema output) e = refl
 keeps_none lp ex asked (SimpleProjection j cs) e = refl
 keeps_none lp ex asked (Select j es schema options) e = refl

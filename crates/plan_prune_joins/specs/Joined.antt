@@ -42,7 +42,7 @@ joined_step ex asked left right schema left_on right_on options s t =
 -- the step of a join that is asked names, of which nothing is kept yet; another node goes back as it is
 abbrev pub step_of_join : List IR → List AExpr → List Name → IR → Step
 step_of_join lp ex asked (Join left right schema left_on right_on options) = joined_step ex asked left right schema left_on right_on options (columns_at lp ex left) (columns_at lp ex right)
-step_of_join lp ex asked other = Leaf other
+step_of_join lp ex asked other = Leaf None other
 
 -- these names are kept, and from which columns they come; nothing, where there are none
 abbrev pub Keeps : List Name → (by : Name → Option (Side × Name)) → Option Kept → Type 0

@@ -119,8 +119,8 @@ module _ (ex grown : List AExpr) (longer : IsLonger ex grown) where
   op_same : (p : IR) → AllByRecursion Same (roots_of p) → op_at grown p ≡ op_at ex p
   op_same (Slice input offset len) same = refl
   op_same (Filter input predicate) same = ap filter (named_same predicate same.0)
-  op_same (Scan sources file_info None output_schema scan_type file_options) same = refl
-  op_same (Scan sources file_info (Some predicate) output_schema scan_type file_options) same = ap (λ (n : Named). scan sources file_info (Some n) output_schema scan_type file_options) (named_same predicate same.0)
+  op_same (Scan sources file_info hive_parts None output_schema scan_type file_options) same = refl
+  op_same (Scan sources file_info hive_parts (Some predicate) output_schema scan_type file_options) same = ap (λ (n : Named). scan sources file_info hive_parts (Some n) output_schema scan_type file_options) (named_same predicate same.0)
   op_same (DataFrameScan df schema output_schema) same = refl
   op_same (SimpleProjection input columns) same = refl
   op_same (Select input expr schema options) same = ap (λ (ns : List Named). select ns schema options) (list_same expr same)

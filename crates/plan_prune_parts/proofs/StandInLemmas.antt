@@ -46,7 +46,7 @@ no_last (c ∷ cs) n = absurd (omega (arith, n))
 stand_in_by : (ex : List AExpr) (p : IR) (s : Columns) → stand_in (op_at ex p) s ≡ first_name (first_many (all_named_at ex (made_by p))) (last_name s)
 stand_in_by ex (Slice i offset len) s = refl
 stand_in_by ex (Filter i predicate) s = refl
-stand_in_by ex (Scan sources info predicate output kind options) s = refl
+stand_in_by ex (Scan sources info hive predicate output kind options) s = refl
 stand_in_by ex (DataFrameScan df schema output) s = refl
 stand_in_by ex (SimpleProjection i columns) s = refl
 stand_in_by ex (Select i es schema options) s = refl
@@ -72,7 +72,7 @@ module _ (lp : List IR) (ex : List AExpr) (n : Node) (h : IsPlan lp ex n) where
   made_stand (HStack i es schema options) e = all_stand lp ex n (HStack i es schema options) es h e refl
   made_stand (Slice i offset len) e = none_stand (λ (x : ExprIR). IsExpr ex x.node)
   made_stand (Filter i predicate) e = none_stand (λ (x : ExprIR). IsExpr ex x.node)
-  made_stand (Scan sources info predicate output kind options) e = none_stand (λ (x : ExprIR). IsExpr ex x.node)
+  made_stand (Scan sources info hive predicate output kind options) e = none_stand (λ (x : ExprIR). IsExpr ex x.node)
   made_stand (DataFrameScan df schema output) e = none_stand (λ (x : ExprIR). IsExpr ex x.node)
   made_stand (SimpleProjection i columns) e = none_stand (λ (x : ExprIR). IsExpr ex x.node)
   made_stand (Sort i keys part options) e = none_stand (λ (x : ExprIR). IsExpr ex x.node)

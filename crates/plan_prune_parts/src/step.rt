@@ -11,6 +11,8 @@ use plan_ir::IR;
 pub enum Step {
     /// The node has no input.
     Leaf {
+        /// The columns of the projection that goes on top of the node where projections go on top; none where none goes there.
+        columns: Option<Schema>,
         /// The node that goes back.
         entry: IR,
     },

@@ -2,3 +2,4 @@
 pub mod AlikeLemmas
 mod GroupParts
 mod ConcatParts
+mod ScanParts

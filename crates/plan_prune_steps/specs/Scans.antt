@@ -1,65 +1,33 @@
--- The node of a pruned scan, and its place in an arena.
-use Rattle.std.specs.Prelude.{Bool, true, false, List, [], ◌∷◌, Option, Some, None, slice_set}
-use Rattle.plan_core.specs.declared.arena.Node.{Node}
+-- The step of a scan of files.
+use Rattle.std.specs.Prelude.{List, [], ◌∷◌, Option, Some}
 use Rattle.plan_core.specs.Columns.{Columns}
-use Rattle.plan_ir.specs.declared.ir.IR.{IR}
-use Rattle.plan_ir.specs.declared.ir.IR.TheVariants.{Slice, Filter, Scan, DataFrameScan, SimpleProjection, Select, HStack, Sort, GroupBy, Join, Distinct, MapFunction, Sink, Union, HConcat, Cache, Invalid}
+use Rattle.plan_core.specs.declared.options.FileScanOptions.{FileScanOptions}
 use Rattle.plan_expr.specs.Leaves.{Name}
-use Rattle.plan_narrowing.specs.Pruned.{typed_names, reading}
-use Rattle.plan_prune_parts.specs.Tops.{with_top}
+use Rattle.plan_expr.specs.declared.expr_ir.ExprIR.{ExprIR}
+use Rattle.plan_scan.specs.Stats.{Stats}
+use Rattle.plan_scan.specs.declared.file_scan.FileScan.{FileScan}
+use Rattle.plan_scan.specs.declared.sources.ScanSources.{ScanSources}
+use Rattle.plan_file_narrowing.specs.Left.{in_file_order, left_options, left_output, left_parts}
+use Rattle.plan_ir.specs.declared.ir.IR.{IR}
+use Rattle.plan_ir.specs.declared.ir.IR.TheVariants.{Scan}
+use Rattle.plan_ir.specs.declared.scan.FileInfo.{FileInfo}
+use Rattle.plan_narrowing.specs.Pruned.{asked_columns, reads_left, scan_columns_left}
+use Rattle.plan_prune_parts.specs.declared.step.Step.{Step}
+use Rattle.plan_prune_parts.specs.declared.step.Step.TheVariants.{Leaf}
 
--- a scan that reads and puts out the names alone
-abbrev pub narrowed : List Name → IR → IR
-narrowed names (Scan sources file_info predicate output_schema scan_type file_options) =
-    Scan sources file_info predicate (Some (typed_names file_info.schema names)) scan_type (reading names file_options)
-narrowed names (Slice input offset len) = Slice input offset len
-narrowed names (Filter input predicate) = Filter input predicate
-narrowed names (DataFrameScan df schema output_schema) = DataFrameScan df schema output_schema
-narrowed names (Select input expr schema options) = Select input expr schema options
-narrowed names (HStack input exprs schema options) = HStack input exprs schema options
-narrowed names (SimpleProjection input columns) = SimpleProjection input columns
-narrowed names (Sort input keys part options) = Sort input keys part options
-narrowed names (GroupBy input keys aggs schema ordered options) = GroupBy input keys aggs schema ordered options
-narrowed names (Join input_left input_right schema left_on right_on options) = Join input_left input_right schema left_on right_on options
-narrowed names (Distinct input options) = Distinct input options
-narrowed names (MapFunction input function) = MapFunction input function
-narrowed names (Sink input payload) = Sink input payload
-narrowed names (Union inputs options) = Union inputs options
-narrowed names (HConcat inputs schema options) = HConcat inputs schema options
-narrowed names (Cache input id cache_hits) = Cache input id cache_hits
-narrowed names Invalid = Invalid
+-- what is left of a scan that is asked these names
+abbrev pub left_node : List Name → ScanSources → FileInfo → Option (List Stats) → Option ExprIR → FileScan → FileScanOptions → IR
+left_node wanted sources info hive predicate kind options =
+    let file = scan_columns_left wanted info hive kind options in
+    Scan sources (record info { schema = file }) (left_parts wanted hive) predicate
+    (Some (left_output (in_file_order kind hive options) options.include_file_paths wanted file)) kind (left_options wanted (reads_left wanted info hive kind options) options)
 
--- the scan that goes back where names are asked; asked nothing, it stays
-abbrev pub kept_scan : List Name → IR → IR
-kept_scan [] p = p
-kept_scan (a ∷ asked) p = narrowed (a ∷ asked) p
+-- the scan that goes back where names are asked: what is left of it; asked nothing, it stays
+abbrev pub kept_scan : List Name → ScanSources → FileInfo → Option (List Stats) → Option ExprIR → Option Columns → FileScan → FileScanOptions → IR
+kept_scan [] sources info hive predicate output kind options = Scan sources info hive predicate output kind options
+kept_scan (a ∷ asked) sources info hive predicate output kind options = left_node (a ∷ asked) sources info hive predicate kind options
 
--- the columns that are told, else no columns
-abbrev pub columns_or_none : Option Columns → Columns
-columns_or_none None = []
-columns_or_none (Some cs) = cs
-
--- what a scan says that it puts out
-abbrev pub output_of : IR → Columns
-output_of (Scan sources file_info predicate output_schema scan_type file_options) = columns_or_none output_schema
-output_of (Slice input offset len) = []
-output_of (Filter input predicate) = []
-output_of (DataFrameScan df schema output_schema) = []
-output_of (Select input expr schema options) = []
-output_of (HStack input exprs schema options) = []
-output_of (SimpleProjection input columns) = []
-output_of (Sort input keys part options) = []
-output_of (GroupBy input keys aggs schema ordered options) = []
-output_of (Join input_left input_right schema left_on right_on options) = []
-output_of (Distinct input options) = []
-output_of (MapFunction input function) = []
-output_of (Sink input payload) = []
-output_of (Union inputs options) = []
-output_of (HConcat inputs schema options) = []
-output_of (Cache input id cache_hits) = []
-output_of Invalid = []
-
--- the node at a number, with a projection on top that takes the number, or without
-abbrev pub with_node : Bool → List IR → Node → IR → List IR
-with_node true lp n p = with_top (output_of p) lp n p
-with_node false lp n p = slice_set lp n.0 p
+-- the step of a scan that is asked names: it goes back, under a projection to these names where projections go on top
+abbrev pub scan_step : List Name → ScanSources → FileInfo → Option (List Stats) → Option ExprIR → Option Columns → FileScan → FileScanOptions → Step
+scan_step asked sources info hive predicate output kind options =
+    Leaf (asked_columns asked (scan_columns_left asked info hive kind options)) (kept_scan asked sources info hive predicate output kind options)

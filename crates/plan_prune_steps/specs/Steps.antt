@@ -1,5 +1,5 @@
 -- What is done at a node that was taken: before its input is pruned, and after.
-use Rattle.std.specs.Prelude.{Bool, true, false, ◌&&◌, List, [], ◌∷◌, ◌++◌, map, Option, None, Some, slice_set, ◌≡◌}
+use Rattle.std.specs.Prelude.{Bool, true, false, List, [], ◌∷◌, ◌++◌, map, Option, None, Some, slice_set, ◌≡◌}
 use Rattle.plan_core.specs.declared.arena.Node.{Node}
 use Rattle.plan_core.specs.declared.options.ProjectionOptions.{ProjectionOptions}
 use Rattle.plan_core.specs.Columns.{Columns, names_of}
@@ -19,7 +19,7 @@ use Rattle.plan_prune_parts.specs.declared.kept.Kept.{Kept}
 use Rattle.plan_prune_parts.specs.declared.step.Step.{Step}
 use Rattle.plan_prune_parts.specs.declared.step.Step.TheVariants.{Leaf, Over, Closed, Each}
 use Rattle.plan_prune_parts.specs.Kept.{selected_at, stacked_at, is_some_name, names_at, stored_after, asks_after, beside_after, with_stacked}
-use Rattle.plan_prune_steps.specs.Scans.{kept_scan, with_node}
+use Rattle.plan_prune_steps.specs.Scans.{scan_step}
 use Rattle.plan_prune_parts.specs.Said.{columns_at, stand_in_at}
 use Rattle.plan_prune_joins.specs.Joined.{JoinPut, joined_step}
 
@@ -65,8 +65,8 @@ is_cache other = false
 abbrev pub step_of : List IR → List AExpr → List Name → IR → Step
 step_of lp ex asked (Slice i offset len) = Over i asked (Slice i offset len)
 step_of lp ex asked (Filter i predicate) = Over i (asked_with asked (leaves (expr_at ex predicate.node))) (Filter i predicate)
-step_of lp ex asked (Scan sources info predicate output kind options) = Leaf (kept_scan asked (Scan sources info predicate output kind options))
-step_of lp ex asked (DataFrameScan df schema output) = Leaf (DataFrameScan df schema (pruned_output asked schema output))
+step_of lp ex asked (Scan sources info hive predicate output kind options) = scan_step asked sources info hive predicate output kind options
+step_of lp ex asked (DataFrameScan df schema output) = Leaf None (DataFrameScan df schema (pruned_output asked schema output))
 step_of lp ex asked (SimpleProjection i columns) = Over i (with_names [] (names_of (kept asked columns))) (SimpleProjection i (kept asked columns))
 step_of lp ex asked (Select i es schema options) = selected_step ex asked i es schema options (stand_in_at lp ex i)
 step_of lp ex asked (HStack i es schema options) = stacked_step ex asked i es schema options (columns_at lp ex i)
@@ -79,29 +79,29 @@ step_of lp ex asked (Sink i payload) = Over i asked (Sink i payload)
 step_of lp ex asked (Union inputs options) = Each inputs (names_alike asked inputs) (covering inputs asked) None (Union inputs options)
 step_of lp ex asked (HConcat inputs schema options) = Each inputs (held_at lp ex asked inputs) None None (HConcat inputs schema options)
 step_of lp ex asked (Cache i id cache_hits) = Closed (asked_columns asked (columns_at lp ex i)) (Cache i id cache_hits)
-step_of lp ex asked Invalid = Leaf Invalid
+step_of lp ex asked Invalid = Leaf None Invalid
 
--- the arena with a node back at its number, over its pruned input: with projections on top of narrowed scans or without, where names are asked of it or none
-abbrev pub put_back : Bool → Bool → List IR → List AExpr → Node → IR → List IR
-put_back top some lp ex n (Scan sources info predicate output kind options) = with_node (some && top) lp n (Scan sources info predicate output kind options)
-put_back top some lp ex n (HStack i es schema options) = with_stacked some lp n i es schema options (columns_at lp ex i)
-put_back top some lp ex n (Slice i offset len) = slice_set lp n.0 (Slice i offset len)
-put_back top some lp ex n (Filter i predicate) = slice_set lp n.0 (Filter i predicate)
-put_back top some lp ex n (DataFrameScan df schema output) = slice_set lp n.0 (DataFrameScan df schema output)
-put_back top some lp ex n (SimpleProjection i columns) = slice_set lp n.0 (SimpleProjection i columns)
-put_back top some lp ex n (Select i es schema options) = slice_set lp n.0 (Select i es schema options)
-put_back top some lp ex n (Sort i keys part options) = slice_set lp n.0 (Sort i keys part options)
-put_back top some lp ex n (GroupBy i keys aggs schema ordered options) = slice_set lp n.0 (GroupBy i keys aggs schema ordered options)
-put_back top some lp ex n (Join left right schema left_on right_on options) = slice_set lp n.0 (Join left right schema left_on right_on options)
-put_back top some lp ex n (Distinct i options) = slice_set lp n.0 (Distinct i options)
-put_back top some lp ex n (MapFunction i function) = slice_set lp n.0 (MapFunction i function)
-put_back top some lp ex n (Sink i payload) = slice_set lp n.0 (Sink i payload)
-put_back top some lp ex n (Union inputs options) = slice_set lp n.0 (Union inputs options)
-put_back top some lp ex n (HConcat inputs schema options) = slice_set lp n.0 (HConcat inputs (beside_after some (map (columns_at lp ex) inputs) schema) options)
-put_back top some lp ex n (Cache i id cache_hits) = slice_set lp n.0 (Cache i id cache_hits)
-put_back top some lp ex n Invalid = slice_set lp n.0 Invalid
+-- the arena with a node back at its number, over its pruned input, where names are asked of it or none
+abbrev pub put_back : Bool → List IR → List AExpr → Node → IR → List IR
+put_back some lp ex n (Scan sources info hive predicate output kind options) = slice_set lp n.0 (Scan sources info hive predicate output kind options)
+put_back some lp ex n (HStack i es schema options) = with_stacked some lp n i es schema options (columns_at lp ex i)
+put_back some lp ex n (Slice i offset len) = slice_set lp n.0 (Slice i offset len)
+put_back some lp ex n (Filter i predicate) = slice_set lp n.0 (Filter i predicate)
+put_back some lp ex n (DataFrameScan df schema output) = slice_set lp n.0 (DataFrameScan df schema output)
+put_back some lp ex n (SimpleProjection i columns) = slice_set lp n.0 (SimpleProjection i columns)
+put_back some lp ex n (Select i es schema options) = slice_set lp n.0 (Select i es schema options)
+put_back some lp ex n (Sort i keys part options) = slice_set lp n.0 (Sort i keys part options)
+put_back some lp ex n (GroupBy i keys aggs schema ordered options) = slice_set lp n.0 (GroupBy i keys aggs schema ordered options)
+put_back some lp ex n (Join left right schema left_on right_on options) = slice_set lp n.0 (Join left right schema left_on right_on options)
+put_back some lp ex n (Distinct i options) = slice_set lp n.0 (Distinct i options)
+put_back some lp ex n (MapFunction i function) = slice_set lp n.0 (MapFunction i function)
+put_back some lp ex n (Sink i payload) = slice_set lp n.0 (Sink i payload)
+put_back some lp ex n (Union inputs options) = slice_set lp n.0 (Union inputs options)
+put_back some lp ex n (HConcat inputs schema options) = slice_set lp n.0 (HConcat inputs (beside_after some (map (columns_at lp ex) inputs) schema) options)
+put_back some lp ex n (Cache i id cache_hits) = slice_set lp n.0 (Cache i id cache_hits)
+put_back some lp ex n Invalid = slice_set lp n.0 Invalid
 
 -- a node is back at its number over its pruned inputs: a join of which something is kept so, and another as it is, while no expressions are added
-abbrev pub IsPutBack : Bool → Bool → Option Kept → (lp new : List IR) → (ex grown : List AExpr) → Node → IR → Type 0
-IsPutBack top some None lp new ex grown n p = ((es : List AExpr) → new ≡ put_back top some lp es n p) × (grown ≡ ex)
-IsPutBack top some (Some kept) lp new ex grown n p = JoinPut kept lp new ex grown n p
+abbrev pub IsPutBack : Bool → Option Kept → (lp new : List IR) → (ex grown : List AExpr) → Node → IR → Type 0
+IsPutBack some None lp new ex grown n p = ((es : List AExpr) → new ≡ put_back some lp es n p) × (grown ≡ ex)
+IsPutBack some (Some kept) lp new ex grown n p = JoinPut kept lp new ex grown n p

@@ -24,6 +24,7 @@ pub fn prepare(alloc: Global, scan: IR, asked: &Names) -> Result<Step, AllocErro
         } => {
             let output_schema = pruned_output(alloc, output_schema, &schema, asked)?;
             Ok(Step::Leaf {
+                columns: None,
                 entry: IR::DataFrameScan {
                     df,
                     schema,

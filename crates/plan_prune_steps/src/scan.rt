@@ -1,87 +1,87 @@
-//! A scan that is asked something reads and puts out the asked names alone, in the asked order.
-//! It moves to a new number, and a projection to the asked names stands on top at the old one;
-//! without the projection it stays at its number. Asked nothing, a scan is unchanged.
-ghost use Rattle.std.specs.Prelude.{◌≡◌, ◌<◌, ◌≤◌, IfOk, OnOk, length};
-ghost use Rattle.plan_prune_parts.specs.declared.step.Step.TheVariants.{Leaf};
-ghost use Rattle.plan_prune_steps.specs.Scans.{kept_scan, narrowed as narrowed_to, output_of, with_node};
+//! A scan of files that is asked something reads what the asked names need, and puts these out alone. A projection to the asked names
+//! goes on top where projections go on top. Asked nothing, a scan is unchanged.
+ghost use Rattle.std.specs.Prelude.{◌≡◌, IfOk, IsTrue, List};
+ghost use Rattle.plan_expr.specs.declared.aexpr.AExpr.{AExpr};
+ghost use Rattle.plan_file_narrowing.specs.Left.{in_file_order, left_options, left_output, left_parts};
+ghost use Rattle.plan_ir.specs.declared.ir.IR.{IR};
+ghost use Rattle.plan_ir.specs.Parts.{is_file_scan};
+ghost use Rattle.plan_narrowing.specs.Pruned.{reads_left, scan_columns_left};
+ghost use Rattle.plan_prune_steps.specs.Steps.{step_of};
 
-use plan_core::{Arena, Names, Node, Schema, TryClone};
-use plan_ir::IR;
-use plan_narrowing::{listed_names, typed_columns};
+use plan_core::{FileScanOptions, Items, Names, Schema};
+use plan_file_prune::{LeftScan, left_scan};
+use plan_ir::{FileInfo, IR};
+use plan_narrowing::typed_columns;
 use plan_prune_parts::Step;
-use plan_prune_parts::cover::put_under;
+use plan_scan::{FileScan, HivePartitions};
 use std::alloc::{AllocError, Global};
 
-/// The scan with the asked names alone; any other node stays.
-fn narrowed(alloc: Global, scan: IR, asked: &Names) -> Result<IR, AllocError>
-    ensures { IfOk result (λ node. node ≡ narrowed_to asked.now scan) }
+/// What is left of a scan; where no reader has looked at its files, it finds no columns in them.
+fn left(
+    alloc: Global,
+    kind: FileScan,
+    asked: &Names,
+    info: &FileInfo,
+    hive_parts: Option<Items<HivePartitions>>,
+    options: FileScanOptions,
+) -> Result<LeftScan, AllocError>
+    ensures hive_parts { IfOk result (λ l. l.hive_parts ≡ left_parts asked.now hive_parts) }
+    ensures options { IfOk result (λ l. l.options ≡ left_options asked.now (reads_left asked.now info.now hive_parts kind options) options) }
+    ensures columns { IfOk result (λ l. l.columns ≡ scan_columns_left asked.now info.now hive_parts kind options) }
+    ensures output { IfOk result (λ l. l.output ≡ left_output (in_file_order kind hive_parts options) options.include_file_paths asked.now (scan_columns_left asked.now info.now hive_parts kind options)) }
 {
+    match &info.reader_schema {
+        Some(reader) => left_scan(alloc, kind, asked, reader, hive_parts, options),
+        None => left_scan(alloc, kind, asked, &Schema::new(alloc), hive_parts, options),
+    }
+}
+
+/// The step of a scan of files.
+pub fn prepare(alloc: Global, scan: IR, asked: &Names) -> Result<Step, AllocError>
+    requires { IsTrue (is_file_scan scan) }
+    ensures { IfOk result (λ step. (lp : List IR) (ex : List AExpr) → step ≡ step_of lp ex asked.now scan) }
+{
+    if asked.len() == 0 {
+        return Ok(Step::Leaf {
+            columns: None,
+            entry: scan,
+        });
+    }
     match scan {
         IR::Scan {
             sources,
             file_info,
+            hive_parts,
             predicate,
             output_schema: _,
             scan_type,
-            mut file_options,
+            file_options,
         } => {
-            let columns = typed_columns(alloc, asked, &file_info.schema)?;
-            file_options.with_columns = Some(listed_names(alloc, asked)?);
-            Ok(IR::Scan {
-                sources,
-                file_info,
-                predicate,
-                output_schema: Some(columns),
+            let left = left(
+                alloc,
                 scan_type,
+                asked,
+                &file_info,
+                hive_parts,
                 file_options,
+            )?;
+            let columns = typed_columns(alloc, asked, &left.columns)?;
+            Ok(Step::Leaf {
+                columns: Some(columns),
+                entry: IR::Scan {
+                    sources,
+                    file_info: FileInfo {
+                        schema: left.columns,
+                        reader_schema: file_info.reader_schema,
+                    },
+                    hive_parts: left.hive_parts,
+                    predicate,
+                    output_schema: Some(left.output),
+                    scan_type,
+                    file_options: left.options,
+                },
             })
         }
-        other => Ok(other),
+        _ => unreachable!(),
     }
-}
-
-/// A copy of what a scan puts out; no columns where it doesn't say, and for any other node.
-fn output(alloc: Global, scan: &IR) -> Result<Schema, AllocError>
-    ensures { IfOk result (λ columns. columns ≡ output_of scan.now) }
-{
-    match scan {
-        IR::Scan {
-            output_schema: Some(columns),
-            ..
-        } => columns.try_clone(alloc),
-        _ => Ok(Schema::new(alloc)),
-    }
-}
-
-/// The step of a scan.
-pub fn prepare(alloc: Global, scan: IR, asked: &Names) -> Result<Step, AllocError>
-    ensures { IfOk result (λ step. step ≡ Leaf (kept_scan asked.now scan)) }
-{
-    if asked.len() == 0 {
-        return Ok(Step::Leaf { entry: scan });
-    }
-    Ok(Step::Leaf {
-        entry: narrowed(alloc, scan, asked)?,
-    })
-}
-
-/// Puts the scan at `node`, with the projection on top or without it. Refuses for want of memory alone, and then nothing is
-/// known of what stands at `node`.
-pub fn put(
-    alloc: Global,
-    node: Node,
-    scan: IR,
-    on_top: bool,
-    lp: &mut Arena<IR>,
-) -> Result<(), AllocError>
-    requires { node.0 < length lp.old }
-    ensures placed { OnOk result (lp.new ≡ with_node on_top lp.old node scan) }
-    ensures grows { length lp.old ≤ length lp.new }
-{
-    if !on_top {
-        lp.put(node, scan);
-        return Ok(());
-    }
-    let columns = output(alloc, &scan)?;
-    put_under(node, scan, columns, lp)
 }

@@ -53,24 +53,25 @@ pub fn prepare(
         IR::Union { inputs, options } => union::prepare(alloc, inputs, options, asked),
         concatenation @ IR::HConcat { .. } => hconcat::prepare(alloc, concatenation, &asked, lp),
         cache @ IR::Cache { .. } => cache::prepare(alloc, cache, &asked, lp),
-        IR::Invalid => Ok(Step::Leaf { entry: IR::Invalid }),
+        IR::Invalid => Ok(Step::Leaf {
+            columns: None,
+            entry: IR::Invalid,
+        }),
     }
 }
 
-/// Puts a node back at its number, once its inputs are pruned. It is told whether names are asked of it, and whether a
-/// projection goes on top of a narrowed scan. Refuses for want of memory alone, and then nothing is known of what stands at
-/// the number.
+/// Puts a node back at its number, once its inputs are pruned. It is told whether names are asked of it. Refuses for want of memory
+/// alone, and then nothing is known of what stands at the number.
 pub fn put(
     alloc: Global,
     node: Node,
     entry: IR,
     is_asked: bool,
-    on_top: bool,
     lp: &mut Arena<IR>,
 ) -> Result<(), AllocError>
     requires node { node.0 < length lp.old }
     requires inputs { (t : Trees IR) × StandsOnce plan_shape lp.old (inputs_of entry) t }
-    ensures placed { OnOk result ((ex : List AExpr) → lp.new ≡ put_back on_top is_asked lp.old ex node entry) }
+    ensures placed { OnOk result ((ex : List AExpr) → lp.new ≡ put_back is_asked lp.old ex node entry) }
     ensures grows { length lp.old ≤ length lp.new }
 {
     match entry {
@@ -85,7 +86,6 @@ pub fn put(
             schema,
             options,
         } => hconcat::put(alloc, node, inputs, is_asked, schema, options, lp),
-        scan @ IR::Scan { .. } => scan::put(alloc, node, scan, is_asked && on_top, lp),
         other => {
             lp.put(node, other);
             Ok(())
@@ -101,7 +101,6 @@ pub fn put_over(
     entry: IR,
     kept: Option<Kept>,
     is_asked: bool,
-    on_top: bool,
     lp: &mut Arena<IR>,
     ex: &mut Arena<AExpr>,
 ) -> Result<(), AllocError>
@@ -109,12 +108,12 @@ pub fn put_over(
     requires node { node.0 < length lp.old }
     requires exprs { StandExprs ex.old (roots_of entry) }
     requires inputs { (t : Trees IR) × StandsOnce plan_shape lp.old (inputs_of entry) t }
-    ensures placed { OnOk result (IsPutBack on_top is_asked kept lp.old lp.new ex.old ex.new node entry) }
+    ensures placed { OnOk result (IsPutBack is_asked kept lp.old lp.new ex.old ex.new node entry) }
     ensures grows { length lp.old ≤ length lp.new }
     ensures longer { IsLonger ex.old ex.new }
 {
     match kept {
         Some(kept) => join::put(alloc, node, entry, kept, lp, ex),
-        None => put(alloc, node, entry, is_asked, on_top, lp),
+        None => put(alloc, node, entry, is_asked, lp),
     }
 }

@@ -8,8 +8,8 @@ use Rattle.plan_core.specs.Options.{default_scan}
 use Rattle.plan_expr.specs.Leaves.{Name}
 use Rattle.plan_ir.specs.declared.ir.IR.{IR}
 use Rattle.plan_ir.specs.declared.ir.IR.TheVariants.{Scan}
-use Rattle.plan_ir.specs.declared.scan.FileScan.TheVariants.{Parquet}
-use Rattle.plan_ir.specs.declared.scan.ScanSources.TheVariants.{Paths}
+use Rattle.plan_scan.specs.declared.file_scan.FileScan.TheVariants.{Parquet}
+use Rattle.plan_scan.specs.declared.sources.ScanSources.TheVariants.{Paths}
 
 -- c and t are texts, and the others whole numbers
 abbrev pub type_of : Name → DataType
@@ -25,4 +25,4 @@ columns_abc = columns_of (codes "a" ∷ codes "b" ∷ codes "c" ∷ [])
 
 -- the scan of the columns a, b and c of a path
 abbrev pub scan_abc : Name → IR
-scan_abc path = Scan (Paths (path ∷ [])) (record { schema = columns_abc; reader_schema = Some columns_abc }) None None Parquet default_scan
+scan_abc path = Scan (Paths (path ∷ [])) (record { schema = columns_abc; reader_schema = Some columns_abc }) None None None Parquet default_scan

@@ -14,6 +14,8 @@ mod parts;
 #[cfg(test)]
 mod samples;
 #[cfg(test)]
+mod scans;
+#[cfg(test)]
 mod shared;
 #[cfg(test)]
 mod written;

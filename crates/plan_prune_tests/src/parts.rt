@@ -42,6 +42,7 @@ pub fn scan_of(alloc: Global, path: &str) -> Result<IR, AllocError>
             schema,
             reader_schema,
         },
+        hive_parts: None,
         predicate: None,
         output_schema: None,
         scan_type: FileScan::Parquet,

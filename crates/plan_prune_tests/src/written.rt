@@ -1,8 +1,8 @@
 //! Plans as texts.
 
-use plan_core::{Arena, Items, Node, PlSmallStr, Schema};
+use plan_core::{Arena, FileScanOptions, Items, Node, PlSmallStr, Schema};
 use plan_expr::{ExprIR, output_name};
-use plan_ir::{IR, ScanSources};
+use plan_ir::{HivePartitions, IR, ScanSources};
 use std::alloc::Global;
 use std::test::Fail;
 
@@ -42,22 +42,60 @@ fn write_made(
     write_columns(alloc, text, columns)
 }
 
-/// Writes a scan: its paths, what it reads, and what it puts out.
+/// Writes the sources of a scan: its paths, or how many buffers it has.
+fn write_sources(alloc: Global, text: &mut String, sources: &ScanSources) -> Result<(), Fail> {
+    match sources {
+        ScanSources::Paths(paths) => write_names(alloc, text, paths),
+        ScanSources::Buffers(numbers) => {
+            text.push_str(format!(in alloc; " of {} buffers", numbers.len())?.as_str())?;
+            Ok(())
+        }
+    }
+}
+
+/// Writes the hive columns of a scan, where parts are given: those of the first source.
+fn write_hive(
+    alloc: Global,
+    text: &mut String,
+    parts: &Option<Items<HivePartitions>>,
+) -> Result<(), Fail> {
+    if let Some(parts) = parts {
+        text.push_str(" hive")?;
+        if let Some(part) = parts.as_slice().first() {
+            write_columns(alloc, text, part.get_statistics().schema())?;
+        }
+    }
+    Ok(())
+}
+
+/// Writes the options of a scan: the columns that number its rows and have its paths, and what it reads.
+fn write_options(alloc: Global, text: &mut String, options: &FileScanOptions) -> Result<(), Fail> {
+    if let Some(row) = &options.row_index {
+        text.push_str(format!(in alloc; " numbers {}", row.name.as_str())?.as_str())?;
+    }
+    if let Some(name) = &options.include_file_paths {
+        text.push_str(format!(in alloc; " paths {}", name.as_str())?.as_str())?;
+    }
+    if let Some(names) = &options.with_columns {
+        text.push_str(" reads")?;
+        write_names(alloc, text, names)?;
+    }
+    Ok(())
+}
+
+/// Writes a scan: its sources, its hive columns, its options, and what it puts out.
 fn write_scan(
     alloc: Global,
     text: &mut String,
     sources: &ScanSources,
-    reads: &Option<Items<PlSmallStr>>,
+    hive_parts: &Option<Items<HivePartitions>>,
+    options: &FileScanOptions,
     output: &Option<Schema>,
 ) -> Result<(), Fail> {
     text.push_str("Scan")?;
-    match sources {
-        ScanSources::Paths(paths) => write_names(alloc, text, paths)?,
-    }
-    if let Some(names) = reads {
-        text.push_str(" reads")?;
-        write_names(alloc, text, names)?;
-    }
+    write_sources(alloc, text, sources)?;
+    write_hive(alloc, text, hive_parts)?;
+    write_options(alloc, text, options)?;
     if let Some(columns) = output {
         text.push_str(" puts out")?;
         write_columns(alloc, text, columns)?;
@@ -105,6 +143,7 @@ fn write_node(alloc: Global, text: &mut String, node: &IR) -> Result<(), Fail> {
         }
         IR::Scan {
             sources,
+            hive_parts,
             output_schema,
             file_options,
             ..
@@ -112,7 +151,8 @@ fn write_node(alloc: Global, text: &mut String, node: &IR) -> Result<(), Fail> {
             alloc,
             text,
             sources,
-            &file_options.with_columns,
+            hive_parts,
+            file_options,
             output_schema,
         )?,
         IR::Union { inputs, .. } => {

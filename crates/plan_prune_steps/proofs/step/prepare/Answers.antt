@@ -20,3 +20,6 @@ returns-in-DataFrameScan c = IfOk-weaker c.prepare-in-DataFrameScan.result _ _ (
 
 pub returns-in-Sort : goal.returns-in-Sort
 returns-in-Sort c = IfOk-weaker c.prepare-in-Sort.result _ _ (λ step same. same c.args.lp.now) c.prepare-in-Sort.ensures
+
+pub returns-in-Scan : goal.returns-in-Scan
+returns-in-Scan c = IfOk-weaker c.prepare-in-Scan.result _ _ (λ step same. same c.args.lp.now c.args.ex.now) c.prepare-in-Scan.ensures
