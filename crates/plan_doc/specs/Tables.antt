@@ -2,69 +2,16 @@
 use Rattle.std.specs.Prelude.{ℕ, ◌==◌, List, [], ◌∷◌, length, map, Option, Some, None, is_some, if◌then◌else◌, codes, bytes_eq}
 use Rattle.std.specs.Map.{keys_of}
 use Rattle.serde_json.specs.Data.{Data}
-use Rattle.serde_json.specs.Find.{get, as_null}
-use Rattle.plan_core.specs.declared.data_type.DataType.{DataType}
-use Rattle.plan_core.specs.declared.data_type.DataType.TheVariants as types
-use Rattle.plan_core.specs.declared.data_type.PlainType.{PlainType}
-use Rattle.plan_core.specs.declared.data_type.PlainType.TheVariants as plains
+use Rattle.serde_json.specs.Find.{get}
 use Rattle.plan_table.specs.declared.column.Column.{Column}
 use Rattle.plan_table.specs.declared.source_key.SourceKey.{SourceKey}
 use Rattle.plan_table.specs.declared.source_key.SourceKey.TheVariants as keys
 use Rattle.plan_table.specs.declared.table.Table.{Table}
 use Rattle.plan_table.specs.declared.value.AnyValue.{AnyValue}
-use Rattle.plan_table.specs.declared.value.AnyValue.TheVariants as values
-use Rattle.plan_table.specs.declared.value.PlainValue.{PlainValue}
-use Rattle.plan_table.specs.declared.value.PlainValue.TheVariants as singles
 use Rattle.plan_table.specs.Tables.{same_key}
-use Rattle.plan_doc_parts.specs.Parts.{◌>>=◌, each, entries_of, name_of, number_of, integer_of, truth_of, three_of, type_of, are_distinct}
+use Rattle.plan_doc_parts.specs.Parts.{◌>>=◌, each, entries_of, name_of, number_of, three_of, type_of, are_distinct}
 use Rattle.plan_doc_parts.specs.Members.{object_of, at}
-
--- a single value of the type
-abbrev pub typed_single_of : PlainType → Data → Option PlainValue
-typed_single_of plains.Int64 d = do
-  n ← integer_of d
-  Some (singles.Int64 n)
-typed_single_of plains.String d = do
-  s ← name_of d
-  Some (singles.String s)
-typed_single_of plains.Boolean d = do
-  b ← truth_of d
-  Some (singles.Boolean b)
-
--- null, or a single value of the type
-abbrev pub single_value_of : PlainType → Data → Option PlainValue
-single_value_of t d = if is_some (as_null d) then Some singles.Null else typed_single_of t d
-
--- an array of single values, each null or of the type
-unfoldable pub single_values_of : PlainType → Data → Option (List PlainValue)
-single_values_of t d = do
-  ds ← entries_of d
-  each (single_value_of t) ds
-
--- a value of the type
-abbrev pub typed_value_of : DataType → Data → Option AnyValue
-typed_value_of types.Int64 d = do
-  n ← integer_of d
-  Some (values.Int64 n)
-typed_value_of types.String d = do
-  s ← name_of d
-  Some (values.String s)
-typed_value_of types.Boolean d = do
-  b ← truth_of d
-  Some (values.Boolean b)
-typed_value_of (types.List t) d = do
-  vs ← single_values_of t d
-  Some (values.List vs)
-
--- null, or a value of the type
-abbrev pub any_value_of : DataType → Data → Option AnyValue
-any_value_of t d = if is_some (as_null d) then Some values.Null else typed_value_of t d
-
--- an array of values, each null or of the type
-unfoldable pub any_values_of : DataType → Data → Option (List AnyValue)
-any_values_of t d = do
-  ds ← entries_of d
-  each (any_value_of t) ds
+use Rattle.plan_doc_parts.specs.Values.{any_values_of}
 
 -- values, if there are so many
 abbrev pub so_many : ℕ → List AnyValue → Option (List AnyValue)

@@ -7,6 +7,7 @@ use Rattle.plan_ir.specs.declared.functions.FunctionIR.TheVariants as functions
 use Rattle.plan_ir.specs.declared.functions.UnpivotArgsIR.{UnpivotArgsIR}
 use Rattle.plan_doc_parts.specs.Parts.{◌>>=◌, nullable, name_of, names_of, number_of, truth_of}
 use Rattle.plan_doc_parts.specs.Members.{object_of, at, only_of}
+use Rattle.plan_doc_nodes.specs.Scans.{files_of}
 
 -- columns under other names
 unfoldable pub rename_of : Data → Option FunctionIR
@@ -48,10 +49,19 @@ explode_of d = do
   cs ← at (codes "columns") names_of o
   Some (functions.Explode cs)
 
+-- the number of the rows of files
+unfoldable pub count_of : Data → Option FunctionIR
+count_of d = do
+  o ← object_of (codes "alias" ∷ codes "kind" ∷ codes "sources" ∷ []) d
+  a ← at (codes "alias") (nullable name_of) o
+  f ← files_of o
+  Some (functions.FastCount f.0 f.1 a)
+
 -- the function of a whole frame that stands under its name in an object of one key
 abbrev pub frame_function_of : Data → Option FunctionIR
 frame_function_of d =
     if is_some (get (codes "Rename") d) then (only_of (codes "Rename") d >>= rename_of) else (
     if is_some (get (codes "RowIndex") d) then (only_of (codes "RowIndex") d >>= numbering_of) else (
     if is_some (get (codes "Unpivot") d) then (only_of (codes "Unpivot") d >>= unpivot_of) else (
-    if is_some (get (codes "Explode") d) then (only_of (codes "Explode") d >>= explode_of) else None)))
+    if is_some (get (codes "Explode") d) then (only_of (codes "Explode") d >>= explode_of) else (
+    if is_some (get (codes "FastCount") d) then (only_of (codes "FastCount") d >>= count_of) else None))))

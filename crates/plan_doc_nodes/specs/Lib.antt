@@ -1,7 +1,7 @@
 -- The definitions that contracts cite.
-pub mod Built
 pub mod Exprs
 pub mod Functions
+pub mod Hive
 pub mod Scans
 pub mod Joins
 pub mod Rows

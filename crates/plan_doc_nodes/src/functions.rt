@@ -1,8 +1,9 @@
 //! The readers of functions of whole frames.
 ghost use Rattle.serde_json.specs.View.{view};
 ghost use Rattle.plan_doc_parts.specs.Gives.{Gives};
-ghost use Rattle.plan_doc_nodes.specs.Functions.{rename_of, numbering_of, unpivot_args_of, unpivot_of, explode_of, frame_function_of};
+ghost use Rattle.plan_doc_nodes.specs.Functions.{count_of, rename_of, numbering_of, unpivot_args_of, unpivot_of, explode_of, frame_function_of};
 
+use crate::scans::files;
 use plan_doc_parts::{
     Fault, name_at, names_at, object, only, optional_name_at, optional_number_at, truth_at,
 };
@@ -74,6 +75,21 @@ fn explode(alloc: Global, value: &Value) -> Result<FunctionIR, Fault>
     Ok(FunctionIR::Explode { columns })
 }
 
+/// The count of the rows of files of an object.
+#[tactic(auto, unfolding(crate::specs::Functions::count_of))]
+fn count(alloc: Global, value: &Value) -> Result<FunctionIR, Fault>
+    ensures { Gives result (count_of (view value.now)) }
+{
+    let object = object(value, &["alias", "kind", "sources"])?;
+    let alias = optional_name_at(alloc, object, "alias")?;
+    let (sources, scan_type) = files(alloc, object)?;
+    Ok(FunctionIR::FastCount {
+        sources,
+        scan_type,
+        alias,
+    })
+}
+
 /// The function that stands under its name in an object of one key.
 pub fn frame_function(alloc: Global, value: &Value) -> Result<FunctionIR, Fault>
     ensures { Gives result (frame_function_of (view value.now)) }
@@ -89,6 +105,9 @@ pub fn frame_function(alloc: Global, value: &Value) -> Result<FunctionIR, Fault>
     }
     if value.get("Explode").is_some() {
         return explode(alloc, only(value, "Explode")?);
+    }
+    if value.get("FastCount").is_some() {
+        return count(alloc, only(value, "FastCount")?);
     }
     Err(Fault::Form)
 }

@@ -1,10 +1,10 @@
 //! The nodes and the expressions of documents: what the JSON values of their entries stand for.
 #![tactic(auto)]
 
-mod built;
 mod columns;
 mod exprs;
 mod functions;
+mod hive;
 mod joins;
 mod nodes;
 mod rows;

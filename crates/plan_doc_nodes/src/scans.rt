@@ -1,14 +1,16 @@
 //! The readers of scans.
 ghost use Rattle.serde_json.specs.View.{view};
 ghost use Rattle.plan_doc_parts.specs.Gives.{Gives, Shows};
-ghost use Rattle.plan_doc_parts.specs.Members.{object_of};
-ghost use Rattle.plan_doc_nodes.specs.Scans.{kind_of, sources_of, files_of, file_info_of, file_options_of, scan_keys, scan_of, frame_scan_of};
+ghost use Rattle.plan_doc_parts.specs.Members.{at, object_of};
+ghost use Rattle.plan_doc_parts.specs.Parts.{nullable};
+ghost use Rattle.plan_doc_nodes.specs.Scans.{kind_of, paths_of, buffers_of, sources_of, files_of, file_info_of, row_index_of, beside_of, file_options_of, scan_keys, scan_of, frame_scan_of};
 
-use crate::built::{null_fields, one_path};
-use plan_core::FileScanOptions;
+use crate::hive::optional_hive_parts_at;
+use plan_core::{FileScanOptions, PlSmallStr, RowIndex};
 use plan_doc_parts::{
-    Fault, columns_at, field, names_at, object, optional_columns_at, optional_names_at,
-    optional_number_at, optional_output_at, optional_slice_at, text, truth_at,
+    Fault, columns_at, field, name, names_at, number, numbers_at, object, optional_columns_at,
+    optional_name_at, optional_names_at, optional_number_at, optional_output_at, optional_slice_at,
+    text, truth_at, two,
 };
 use plan_ir::{FileInfo, FileScan, IR, ScanSources};
 use serde_json::Value;
@@ -20,24 +22,47 @@ fn kind(value: &Value) -> Result<FileScan, Fault>
     ensures { Gives result (kind_of (view value.now)) }
 {
     match text(value)? {
+        "Csv" => Ok(FileScan::Csv),
+        "NDJson" => Ok(FileScan::NDJson),
         "Parquet" => Ok(FileScan::Parquet),
+        "Ipc" => Ok(FileScan::Ipc),
         _ => Err(Fault::Form),
     }
 }
 
-/// The sources of a scan: the paths of an object.
-#[tactic(auto, unfolding(crate::specs::Scans::sources_of))]
-fn sources(alloc: Global, value: &Value) -> Result<ScanSources, Fault>
-    ensures { Gives result (sources_of (view value.now)) }
+/// The paths of an object.
+#[tactic(auto, unfolding(crate::specs::Scans::paths_of))]
+fn paths(alloc: Global, value: &Value) -> Result<ScanSources, Fault>
+    ensures { Gives result (paths_of (view value.now)) }
 {
     let object = object(value, &["paths"])?;
-    let paths = one_path(names_at(alloc, object, "paths")?)?;
+    let paths = names_at(alloc, object, "paths")?;
     Ok(ScanSources::Paths(paths))
 }
 
-/// Where the files are, and their format.
+/// The numbers of buffers of an object.
+#[tactic(auto, unfolding(crate::specs::Scans::buffers_of))]
+fn buffers(alloc: Global, value: &Value) -> Result<ScanSources, Fault>
+    ensures { Gives result (buffers_of (view value.now)) }
+{
+    let object = object(value, &["buffers"])?;
+    let numbers = numbers_at(alloc, object, "buffers")?;
+    Ok(ScanSources::Buffers(numbers))
+}
+
+/// The sources of a scan: the paths or the buffers of an object of one key.
+fn sources(alloc: Global, value: &Value) -> Result<ScanSources, Fault>
+    ensures { Gives result (sources_of (view value.now)) }
+{
+    if value.get("buffers").is_some() {
+        return buffers(alloc, value);
+    }
+    paths(alloc, value)
+}
+
+/// Where the rows are, and the format of the files.
 #[tactic(auto, unfolding(crate::specs::Scans::files_of))]
-fn files(alloc: Global, object: &Value) -> Result<(ScanSources, FileScan), Fault>
+pub fn files(alloc: Global, object: &Value) -> Result<(ScanSources, FileScan), Fault>
     ensures { Gives result (files_of (view object.now)) }
 {
     let kind = kind(field(object, "kind")?)?;
@@ -58,6 +83,44 @@ fn file_info(alloc: Global, object: &Value) -> Result<FileInfo, Fault>
     })
 }
 
+/// The name of the column that numbers the rows, and the number of the first row.
+#[tactic(auto, unfolding(crate::specs::Scans::row_index_of))]
+fn row_index(alloc: Global, value: &Value) -> Result<RowIndex, Fault>
+    ensures { Gives result (row_index_of (view value.now)) }
+{
+    let (name_value, offset_value) = two(value)?;
+    let name = name(alloc, name_value)?;
+    let offset = number(offset_value)?;
+    Ok(RowIndex { name, offset })
+}
+
+/// Under a key null, or the column that numbers the rows.
+#[tactic(auto, using(plan_doc_parts::proofs::NullLemmas::nullable_null, plan_doc_parts::proofs::NullLemmas::nullable_other), unfolding(plan_doc_parts::specs::Members::at))]
+fn optional_row_index_at(
+    alloc: Global,
+    object: &Value,
+    key: &str,
+) -> Result<Option<RowIndex>, Fault>
+    ensures { Gives result (at key.now (nullable row_index_of) (view object.now)) }
+{
+    let value = field(object, key)?;
+    if value.is_null() {
+        return Ok(None);
+    }
+    Ok(Some(row_index(alloc, value)?))
+}
+
+/// What a scan puts beside the columns of its files: the column that numbers the rows, and the name of one with the path of
+/// each row.
+#[tactic(auto, unfolding(crate::specs::Scans::beside_of, plan_doc_parts::specs::Members::at))]
+fn beside(alloc: Global, object: &Value) -> Result<(Option<RowIndex>, Option<PlSmallStr>), Fault>
+    ensures { Gives result (beside_of (view object.now)) }
+{
+    let row_index = optional_row_index_at(alloc, object, "row_index")?;
+    let path_column = optional_name_at(alloc, object, "path_column")?;
+    Ok((row_index, path_column))
+}
+
 /// The options of a scan, from the object of the scan; those that a document can't say are the default ones.
 #[tactic(auto, unfolding(crate::specs::Scans::file_options_of))]
 fn file_options(alloc: Global, object: &Value) -> Result<FileScanOptions, Fault>
@@ -66,10 +129,13 @@ fn file_options(alloc: Global, object: &Value) -> Result<FileScanOptions, Fault>
     let with_columns = optional_names_at(alloc, object, "columns")?;
     let rechunk = truth_at(object, "rechunk")?;
     let slice = optional_slice_at(object, "slice")?;
+    let (row_index, include_file_paths) = beside(alloc, object)?;
     Ok(FileScanOptions {
         slice,
         with_columns,
+        row_index,
         rechunk,
+        include_file_paths,
         ..FileScanOptions::default()
     })
 }
@@ -105,8 +171,8 @@ pub fn scan(alloc: Global, value: &Value) -> Result<IR, Fault>
     ensures { Gives result (scan_of (view value.now)) }
 {
     let object = scan_object(value)?;
-    null_fields(object)?;
     let (sources, scan_type) = files(alloc, object)?;
+    let hive_parts = optional_hive_parts_at(alloc, object, "hive")?;
     let output_schema = optional_columns_at(alloc, object, "output")?;
     let predicate = optional_output_at(alloc, object, "predicate")?;
     let file_info = file_info(alloc, object)?;
@@ -114,6 +180,7 @@ pub fn scan(alloc: Global, value: &Value) -> Result<IR, Fault>
     Ok(IR::Scan {
         sources,
         file_info,
+        hive_parts,
         predicate,
         output_schema,
         scan_type,

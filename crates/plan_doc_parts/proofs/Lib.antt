@@ -4,3 +4,4 @@ pub mod PairLemmas
 pub mod NullLemmas
 pub mod DistinctLemmas
 pub mod ColumnLemmas
+pub mod TypedLemmas

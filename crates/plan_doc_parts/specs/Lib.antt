@@ -3,3 +3,4 @@ pub mod Gives
 pub mod Each
 pub mod Parts
 pub mod Members
+pub mod Values

@@ -54,6 +54,12 @@ number_of d = do
   k ← as_u64 n
   if nat_lt k (2 ^ 32) then Some k else None
 
+-- an array of such numbers
+unfoldable pub numbers_of : Data → Option (List ℕ)
+numbers_of d = do
+  ds ← entries_of d
+  each number_of ds
+
 -- the entry of that number
 unfoldable pub link_of : Data → Option Node
 link_of d = do

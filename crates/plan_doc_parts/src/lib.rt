@@ -6,11 +6,12 @@ mod fault;
 mod members;
 mod optional;
 mod parts;
+mod values;
 
 pub use arrays::{arena_of_each, each};
 pub use fault::Fault;
 pub use members::{
-    columns_at, field, integer_at, link_at, links_at, name_at, names_at, nothing_at, number_at,
+    columns_at, field, integer_at, link_at, links_at, name_at, names_at, number_at, numbers_at,
     object, only, options_at, output_at, outputs_at, truth_at, truths_at,
 };
 pub use optional::{
@@ -20,3 +21,4 @@ pub use optional::{
 pub use parts::{
     data_type, entries, integer, name, number, output, plain_type, text, three, truth, two,
 };
+pub use values::{any_value, any_values};

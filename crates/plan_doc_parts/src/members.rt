@@ -1,14 +1,14 @@
 //! Objects, and what stands under their keys.
 ghost use Rattle.std.specs.Prelude.{◌≡◌, map};
-ghost use Rattle.serde_json.specs.Find.{get, as_null};
+ghost use Rattle.serde_json.specs.Find.{get};
 ghost use Rattle.serde_json.specs.View.{view};
 ghost use Rattle.plan_doc_parts.specs.Gives.{Gives, Shows};
 ghost use Rattle.plan_doc_parts.specs.Members.{object_of, at, only_of, count_of, has_keys as has_keys_of};
-ghost use Rattle.plan_doc_parts.specs.Parts.{number_of, link_of, links_of, truth_of, integer_of, truths_of, name_of, names_of, columns_of, output_of, outputs_of, options_of};
+ghost use Rattle.plan_doc_parts.specs.Parts.{number_of, numbers_of, link_of, links_of, truth_of, integer_of, truths_of, name_of, names_of, columns_of, output_of, outputs_of, options_of};
 
 use crate::fault::Fault;
 use crate::parts::{
-    columns, integer, link, links, name, names, nothing, number, options, output, outputs, truth,
+    columns, integer, link, links, name, names, number, numbers, options, output, outputs, truth,
     truths,
 };
 use plan_core::{Items, Node, PlSmallStr, ProjectionOptions, Schema};
@@ -90,6 +90,14 @@ pub fn number_at(object: &Value, key: &str) -> Result<u32, Fault>
     number(field(object, key)?)
 }
 
+/// The array of whole numbers from 0 to 4294967295 under a key.
+#[tactic(auto, unfolding(crate::specs::Members::at))]
+pub fn numbers_at(alloc: Global, object: &Value, key: &str) -> Result<Items<u32>, Fault>
+    ensures { Gives result (at key.now numbers_of (view object.now)) }
+{
+    numbers(alloc, field(object, key)?)
+}
+
 /// The truth value under a key.
 #[tactic(auto, unfolding(crate::specs::Members::at))]
 pub fn truth_at(object: &Value, key: &str) -> Result<bool, Fault>
@@ -160,12 +168,4 @@ pub fn options_at(object: &Value, key: &str) -> Result<ProjectionOptions, Fault>
     ensures { Gives result (at key.now options_of (view object.now)) }
 {
     options(field(object, key)?)
-}
-
-/// Null under a key.
-#[tactic(auto, unfolding(crate::specs::Members::at))]
-pub fn nothing_at(object: &Value, key: &str) -> Result<(), Fault>
-    ensures { Gives result (at key.now as_null (view object.now)) }
-{
-    nothing(field(object, key)?)
 }

@@ -1,9 +1,8 @@
 //! The parts that the readers of nodes and expressions are made of.
 ghost use Rattle.std.specs.Prelude.{map};
-ghost use Rattle.serde_json.specs.Find.{as_null};
 ghost use Rattle.serde_json.specs.View.{view};
 ghost use Rattle.plan_doc_parts.specs.Gives.{Gives, Shows};
-ghost use Rattle.plan_doc_parts.specs.Parts.{entries_of, name_of, number_of, link_of, links_of, truth_of, integer_of, truths_of, names_of, two_of, three_of, type_of, plain_of, column_of, columns_of, output_of, outputs_of, slice_of, options_of};
+ghost use Rattle.plan_doc_parts.specs.Parts.{entries_of, name_of, number_of, numbers_of, link_of, links_of, truth_of, integer_of, truths_of, names_of, two_of, three_of, type_of, plain_of, column_of, columns_of, output_of, outputs_of, slice_of, options_of};
 
 use crate::arrays::each;
 use crate::fault::Fault;
@@ -11,13 +10,6 @@ use plan_core::{DataType, Items, Node, PlSmallStr, PlainType, ProjectionOptions,
 use plan_expr::{ExprIR, OutputName};
 use serde_json::Value;
 use std::alloc::Global;
-
-/// Null.
-pub fn nothing(value: &Value) -> Result<(), Fault>
-    ensures { Gives result (as_null (view value.now)) }
-{
-    value.as_null().ok_or(Fault::Form)
-}
 
 /// A whole number from 0 to 4294967295.
 #[tactic(auto, unfolding(crate::specs::Parts::number_of))]
@@ -29,6 +21,15 @@ pub fn number(value: &Value) -> Result<u32, Fault>
         return Err(Fault::Form);
     }
     Ok(number as u32)
+}
+
+/// An array of whole numbers from 0 to 4294967295.
+#[tactic(auto, unfolding(crate::specs::Parts::numbers_of))]
+pub fn numbers(alloc: Global, value: &Value) -> Result<Items<u32>, Fault>
+    ensures { Gives result (numbers_of (view value.now)) }
+{
+    let entries = entries(value)?;
+    each(alloc, entries, |entry| number(entry))
 }
 
 /// The number of a node or an expression; whether such an entry is there isn't asked.

@@ -15,6 +15,8 @@ mod groups;
 mod joins;
 #[cfg(test)]
 mod nodes;
+#[cfg(test)]
+mod scans;
 pub mod several;
 #[cfg(test)]
 mod tables;

@@ -35,7 +35,7 @@ const CACHE: &str = r#"{"op":"Cache","input":2,"id":7,"hits":4294967295}"#;
 const NEVER_HIT: &str = r#"{"op":"Cache","input":4294967295,"id":4294967295,"hits":0}"#;
 
 // The nodes of a document with one entry.
-fn read_nodes(alloc: Global, entry: &str) -> Result<Arena<IR>, Fail> {
+pub fn read_nodes(alloc: Global, entry: &str) -> Result<Arena<IR>, Fail> {
     let text = ONE.replacen(alloc, "ENTRY", entry, 1)?;
     let document = read_document(alloc, text.as_bytes())?;
     Ok(document.lp)

@@ -18,9 +18,11 @@ use Rattle.plan_ir.specs.declared.functions.UnpivotArgsIR.{UnpivotArgsIR}
 use Rattle.plan_ir.specs.declared.ir.IR.{IR}
 use Rattle.plan_ir.specs.declared.ir.IR.TheVariants as nodes
 use Rattle.plan_ir.specs.declared.scan.FileInfo.{FileInfo}
-use Rattle.plan_ir.specs.declared.scan.FileScan.{FileScan}
-use Rattle.plan_ir.specs.declared.scan.ScanSources.{ScanSources}
-use Rattle.plan_ir.specs.declared.scan.ScanSources.TheVariants as sources
+use Rattle.plan_scan.specs.declared.file_scan.FileScan.{FileScan}
+use Rattle.plan_scan.specs.declared.sources.ScanSources.{ScanSources}
+use Rattle.plan_scan.specs.declared.sources.ScanSources.TheVariants as sources
+use Rattle.plan_scan.specs.Stats.{Stats}
+use Rattle.plan_scan.specs.declared.stats.ColumnStats.{ColumnStats}
 use Rattle.plan_join.specs.declared.options.JoinOptions.{JoinOptions}
 use Rattle.plan_join.specs.declared.options.JoinTypeOptionsIR.{JoinTypeOptionsIR}
 use Rattle.plan_join.specs.declared.options.JoinTypeOptionsIR.TheVariants as told
@@ -31,10 +33,16 @@ use Rattle.plan_options.specs.declared.join.InequalityOperator.{InequalityOperat
 use Rattle.plan_options.specs.declared.sort.SortMultipleOptions.{SortMultipleOptions}
 use Rattle.plan_options.specs.declared.union.HConcatOptions.{HConcatOptions}
 use Rattle.plan_options.specs.declared.union.UnionOptions.{UnionOptions}
+use Rattle.plan_table.specs.declared.value.AnyValue.{AnyValue}
+use Rattle.plan_table.specs.declared.value.AnyValue.TheVariants as values
+use Rattle.plan_table.specs.declared.value.PlainValue.{PlainValue}
+use Rattle.plan_table.specs.declared.value.PlainValue.TheVariants as singles
+use Rattle.plan_text_pieces.specs.Cells.{single_data, value_data}
+use Rattle.plan_text_pieces.specs.Hive.{hive_column_data, hive_part_data, hive_parts_data}
 use Rattle.plan_text_pieces.specs.Kinds.{place_of}
 use Rattle.plan_text_pieces.specs.Values.{link_data, integer_data, number_data, list_data, nullable_data, field_data, columns_data, names_data, truths_data, output_data, outputs_data, options_data, slice_data, row_index_data, sources_data}
 use Rattle.plan_text_pieces.specs.JoinOptions.{second_items, inequalities_data, kind_options_data}
-use Rattle.plan_text_pieces.specs.Functions.{rename_data, numbering_data, unpivot_data, explode_data, frame_function_data}
+use Rattle.plan_text_pieces.specs.Functions.{rename_data, numbering_data, unpivot_data, explode_data, count_data, frame_function_data}
 use Rattle.plan_text.specs.Exprs.{literal_data, expr_data}
 use Rattle.plan_text.specs.Nodes.{slice_node_data, scan_data, frame_scan_data, made_data, sort_data, group_by_data, join_data, distinct_data, map_function_data, union_data, hconcat_data, cache_data, node_data}
 use Rattle.plan_text.specs.Written.{plan_data, fault_data}
@@ -78,6 +86,29 @@ columns_plain cs = list_plain field_data cs (λ f. refl)
 
 sources_plain : (s : ScanSources) → IsPlain (sources_data s)
 sources_plain (sources.Paths ps) = rw (names_plain ps) refl
+sources_plain (sources.Buffers ns) = rw (list_plain number_data ns (λ n. refl)) refl
+
+single_plain : (v : PlainValue) → IsPlain (single_data v)
+single_plain singles.Null = refl
+single_plain (singles.Int64 z) = integer_plain z
+single_plain (singles.String s) = refl
+single_plain (singles.Boolean b) = refl
+
+value_plain : (v : AnyValue) → IsPlain (value_data v)
+value_plain values.Null = refl
+value_plain (values.Int64 z) = integer_plain z
+value_plain (values.String s) = refl
+value_plain (values.Boolean b) = refl
+value_plain (values.List vs) = list_plain single_data vs single_plain
+
+hive_column_plain : (s : ColumnStats) → IsPlain (hive_column_data s)
+hive_column_plain s = rw (value_plain s.value) refl
+
+hive_part_plain : (ss : Stats) → IsPlain (hive_part_data ss)
+hive_part_plain ss = list_plain hive_column_data ss hive_column_plain
+
+hive_parts_plain : (parts : List Stats) → IsPlain (hive_parts_data parts)
+hive_parts_plain parts = list_plain hive_part_data parts hive_part_plain
 
 slice_plain : (s : ℤ × ℕ) → IsPlain (slice_data s)
 slice_plain s = rw (integer_plain s.0) refl
@@ -107,11 +138,12 @@ slice_node_plain : (input : Node) (offset : ℤ) (len : ℕ) → IsPlain (slice_
 unfolding slice_node_data
 slice_node_plain input offset len = rw (integer_plain offset) refl
 
-scan_plain : (from : ScanSources) (info : FileInfo) (predicate : Option ExprIR) (output : Option Columns) (format : FileScan) (options : FileScanOptions) → IsPlain (scan_data from info predicate output format options)
+scan_plain : (from : ScanSources) (info : FileInfo) (hive : Option (List Stats)) (predicate : Option ExprIR) (output : Option Columns) (format : FileScan) (options : FileScanOptions) → IsPlain (scan_data from info hive predicate output format options)
 unfolding scan_data
-scan_plain from info predicate output format options =
+scan_plain from info hive predicate output format options =
     rw (
       nullable_plain names_data options.with_columns names_plain,
+      nullable_plain hive_parts_data hive hive_parts_plain,
       nullable_plain columns_data output columns_plain,
       nullable_plain string options.include_file_paths (λ n. refl),
       nullable_plain output_data predicate output_plain,
@@ -185,12 +217,17 @@ explode_plain : (columns : List (List ℕ)) → IsPlain (explode_data columns)
 unfolding explode_data
 explode_plain columns = rw (names_plain columns) refl
 
+count_plain : (from : ScanSources) (format : FileScan) (alias : Option (List ℕ)) → IsPlain (count_data from format alias)
+unfolding count_data
+count_plain from format alias = rw (nullable_plain string alias (λ n. refl), sources_plain from) refl
+
 frame_function_plain : (f : FunctionIR) → IsPlain (frame_function_data f)
 unfolding frame_function_data
 frame_function_plain (functions.Rename existing new swapping) = rw (rename_plain existing new swapping) refl
 frame_function_plain (functions.RowIndex name offset) = rw (numbering_plain name offset) refl
 frame_function_plain (functions.Unpivot args) = rw (unpivot_plain args) refl
 frame_function_plain (functions.Explode columns) = rw (explode_plain columns) refl
+frame_function_plain (functions.FastCount from format alias) = rw (count_plain from format alias) refl
 
 map_function_plain : (input : Node) (function : FunctionIR) → IsPlain (map_function_data input function)
 unfolding map_function_data
@@ -212,7 +249,7 @@ pub node_plain : (n : IR) → IsPlain (node_data n)
 unfolding node_data
 node_plain (nodes.Slice input offset len) = slice_node_plain input offset len
 node_plain (nodes.Filter input predicate) = rw (output_plain predicate) refl
-node_plain (nodes.Scan from info predicate output format options) = scan_plain from info predicate output format options
+node_plain (nodes.Scan from info hive predicate output format options) = scan_plain from info hive predicate output format options
 node_plain (nodes.DataFrameScan df schema output) = frame_scan_plain df schema output
 node_plain (nodes.SimpleProjection input columns) = rw (columns_plain columns) refl
 node_plain (nodes.Select input expr schema options) = made_plain _ input expr schema options

@@ -1,6 +1,5 @@
 -- The JSON values of nodes: members in the byte order of their keys.
 use Rattle.std.specs.Prelude.{ℕ, ℤ, Bool, List, Option, codes}
-use Rattle.serde_json.specs.Data as json
 use Rattle.serde_json.specs.Data.{Data, boolean, string, object, no_members, member}
 use Rattle.plan_core.specs.Columns.{Columns}
 use Rattle.plan_core.specs.declared.arena.Node.{Node}
@@ -11,25 +10,28 @@ use Rattle.plan_ir.specs.declared.functions.FunctionIR.{FunctionIR}
 use Rattle.plan_ir.specs.declared.ir.IR.{IR}
 use Rattle.plan_ir.specs.declared.ir.IR.TheVariants as nodes
 use Rattle.plan_ir.specs.declared.scan.FileInfo.{FileInfo}
-use Rattle.plan_ir.specs.declared.scan.FileScan.{FileScan}
-use Rattle.plan_ir.specs.declared.scan.ScanSources.{ScanSources}
+use Rattle.plan_scan.specs.declared.file_scan.FileScan.{FileScan}
+use Rattle.plan_scan.specs.declared.sources.ScanSources.{ScanSources}
+use Rattle.plan_scan.specs.Sources.{kind_name}
+use Rattle.plan_scan.specs.Stats.{Stats}
 use Rattle.plan_join.specs.declared.options.JoinOptions.{JoinOptions}
 use Rattle.plan_options.specs.declared.distinct.DistinctOptionsIR.{DistinctOptionsIR}
 use Rattle.plan_options.specs.declared.group.GroupbyOptions.{GroupbyOptions}
 use Rattle.plan_options.specs.declared.sort.SortMultipleOptions.{SortMultipleOptions}
 use Rattle.plan_options.specs.declared.union.HConcatOptions.{HConcatOptions}
 use Rattle.plan_options.specs.declared.union.UnionOptions.{UnionOptions}
-use Rattle.plan_text_pieces.specs.Kinds.{format_text, keep_text, how_text, coalesce_text, order_text}
+use Rattle.plan_text_pieces.specs.Kinds.{keep_text, how_text, coalesce_text, order_text}
 use Rattle.plan_text_pieces.specs.Values.{link_data, integer_data, number_data, list_data, nullable_data, two_data, columns_data, names_data, truths_data, output_data, outputs_data, options_data, slice_data, row_index_data, sources_data}
 use Rattle.plan_text_pieces.specs.JoinOptions.{kind_options_data}
 use Rattle.plan_text_pieces.specs.Functions.{frame_function_data}
+use Rattle.plan_text_pieces.specs.Hive.{hive_parts_data}
 
 -- a scan
-unfoldable pub scan_data : ScanSources → FileInfo → Option ExprIR → Option Columns → FileScan → FileScanOptions → Data
-scan_data from info predicate output format options = object (
+unfoldable pub scan_data : ScanSources → FileInfo → Option (List Stats) → Option ExprIR → Option Columns → FileScan → FileScanOptions → Data
+scan_data from info hive predicate output format options = object (
     member (codes "columns") (nullable_data names_data options.with_columns) (
-    member (codes "hive") json.null (
-    member (codes "kind") (string (format_text format)) (
+    member (codes "hive") (nullable_data hive_parts_data hive) (
+    member (codes "kind") (string (kind_name format)) (
     member (codes "op") (string (codes "Scan")) (
     member (codes "output") (nullable_data columns_data output) (
     member (codes "path_column") (nullable_data string options.include_file_paths) (
@@ -154,7 +156,7 @@ cache_data input id hits = object (
 unfoldable pub node_data : IR → Data
 node_data (nodes.Slice input offset len) = slice_node_data input offset len
 node_data (nodes.Filter input predicate) = object (member (codes "input") (link_data input) (member (codes "op") (string (codes "Filter")) (member (codes "predicate") (output_data predicate) no_members)))
-node_data (nodes.Scan from info predicate output format options) = scan_data from info predicate output format options
+node_data (nodes.Scan from info hive predicate output format options) = scan_data from info hive predicate output format options
 node_data (nodes.DataFrameScan df schema output) = frame_scan_data df schema output
 node_data (nodes.SimpleProjection input columns) = object (member (codes "columns") (columns_data columns) (member (codes "input") (link_data input) (member (codes "op") (string (codes "SimpleProjection")) no_members)))
 node_data (nodes.Select input expr schema options) = made_data (codes "Select") input expr schema options

@@ -7,13 +7,14 @@ ghost use Rattle.plan_text.specs.Nodes.{cache_data, distinct_data, frame_scan_da
 use crate::joins::join;
 use plan_core::{FileScanOptions, Items, Node, ProjectionOptions, Schema};
 use plan_expr::ExprIR;
-use plan_ir::{FileInfo, FileScan, FunctionIR, IR, ScanSources};
+use plan_ir::{FileInfo, FunctionIR, IR};
 use plan_options::{
     DistinctOptionsIR, GroupbyOptions, HConcatOptions, SortMultipleOptions, UnionOptions,
 };
+use plan_scan::{FileScan, HivePartitions, ScanSources};
 use plan_text_pieces::{
-    Entries, Piece, format_name, keep_name, optional_columns, optional_name, optional_names,
-    optional_number, optional_output, optional_row_index, optional_slice, sources,
+    Entries, Piece, keep_name, optional_columns, optional_hive_parts, optional_name,
+    optional_names, optional_number, optional_output, optional_row_index, optional_slice, sources,
 };
 use std::alloc::{AllocError, Global};
 
@@ -23,18 +24,19 @@ fn scan<'a>(
     alloc: Global,
     from: &'a ScanSources,
     info: &'a FileInfo,
+    hive: &'a Option<Items<HivePartitions>>,
     predicate: &'a Option<ExprIR>,
     output_schema: &'a Option<Schema>,
-    format: FileScan,
+    format: &'a FileScan,
     options: &'a FileScanOptions,
 ) -> Result<Entries<'a>, AllocError>
     ensures { IfOk result (λ es. Tells es.items
-        (scan_data from.now info.now predicate.now output_schema.now format options.now)) }
+        (scan_data from.now info.now hive.now predicate.now output_schema.now format.now options.now)) }
 {
     Ok(vec![in alloc;
         ("columns", optional_names(&options.with_columns)),
-        ("hive", Piece::Null),
-        ("kind", Piece::Text(format_name(format))),
+        ("hive", optional_hive_parts(hive)),
+        ("kind", Piece::Text(format.name())),
         ("op", Piece::Text("Scan")),
         ("output", optional_columns(output_schema)),
         ("path_column", optional_name(&options.include_file_paths)),
@@ -271,8 +273,8 @@ pub fn node_entries(alloc: Global, node: &IR) -> Result<Entries<'_>, AllocError>
     match node {
         IR::Slice { input, offset, len } => slice(alloc, *input, *offset, *len),
         IR::Filter { input, predicate } => filter(alloc, *input, predicate),
-        IR::Scan { sources, file_info, predicate, output_schema, scan_type, file_options } =>
-            scan(alloc, sources, file_info, predicate, output_schema, *scan_type, file_options),
+        IR::Scan { sources, file_info, hive_parts, predicate, output_schema, scan_type, file_options } =>
+            scan(alloc, sources, file_info, hive_parts, predicate, output_schema, scan_type, file_options),
         IR::DataFrameScan { df, schema, output_schema } =>
             frame_scan(alloc, *df, schema, output_schema),
         IR::SimpleProjection { input, columns } => simple_projection(alloc, *input, columns),

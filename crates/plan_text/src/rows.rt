@@ -2,56 +2,14 @@
 ghost use Rattle.std.specs.Prelude.{◌≡◌, ◌++◌, OnOk, option_copied};
 ghost use Rattle.json.specs.Tree.{json_tokens};
 ghost use Rattle.serde_json.specs.Written.{outline};
+ghost use Rattle.plan_text_pieces.specs.Cells.{value_data};
 ghost use Rattle.plan_text_pieces.specs.Values.{list_data};
-ghost use Rattle.plan_text.specs.Rows.{column_data, rows_data, single_data, table_data, value_data};
+ghost use Rattle.plan_text.specs.Rows.{column_data, rows_data, table_data};
 
 use json::Writer;
-use plan_table::{AnyValue, Column, Columns, PlainValue, Table};
-use plan_text_pieces::type_name;
+use plan_table::{AnyValue, Column, Columns, Table};
+use plan_text_pieces::{type_name, write_cell};
 use std::alloc::AllocError;
-
-/// Writes a single value: null, a whole number, a text or a truth value.
-fn write_single(writer: &mut Writer, value: &PlainValue) -> Result<(), AllocError>
-    ensures tokens { OnOk result (writer.new.tokens
-        ≡ writer.old.tokens ++ json_tokens (outline (single_data value.now))) }
-    ensures before { OnOk result (writer.new.before ≡ writer.old.before) }
-{
-    match value {
-        PlainValue::Null => writer.null(),
-        PlainValue::Int64(number) => writer.i64(*number),
-        PlainValue::String(text) => writer.string(text.as_str()),
-        PlainValue::Boolean(truth) => writer.boolean(*truth),
-    }
-}
-
-/// Writes the array of single values.
-#[tactic(auto, unfolding(plan_text_pieces::specs::Values::list_data))]
-fn write_singles(writer: &mut Writer, values: &[PlainValue]) -> Result<(), AllocError>
-    ensures tokens { OnOk result (writer.new.tokens
-        ≡ writer.old.tokens ++ json_tokens (outline (list_data single_data values.now))) }
-    ensures before { OnOk result (writer.new.before ≡ writer.old.before) }
-{
-    writer.begin_array()?;
-    for value in values {
-        write_single(writer, value)?;
-    }
-    writer.end_array()
-}
-
-/// Writes a value: null, a whole number, a text, a truth value, or an array of such.
-fn write_value(writer: &mut Writer, value: &AnyValue) -> Result<(), AllocError>
-    ensures tokens { OnOk result (writer.new.tokens
-        ≡ writer.old.tokens ++ json_tokens (outline (value_data value.now))) }
-    ensures before { OnOk result (writer.new.before ≡ writer.old.before) }
-{
-    match value {
-        AnyValue::Null => writer.null(),
-        AnyValue::Int64(number) => writer.i64(*number),
-        AnyValue::String(text) => writer.string(text.as_str()),
-        AnyValue::Boolean(truth) => writer.boolean(*truth),
-        AnyValue::List(values) => write_singles(writer, values.as_slice()),
-    }
-}
 
 /// Writes the array of values.
 #[tactic(auto, unfolding(plan_text_pieces::specs::Values::list_data))]
@@ -62,7 +20,7 @@ fn write_values(writer: &mut Writer, values: &[AnyValue]) -> Result<(), AllocErr
 {
     writer.begin_array()?;
     for value in values {
-        write_value(writer, value)?;
+        write_cell(writer, value)?;
     }
     writer.end_array()
 }

@@ -1,4 +1,4 @@
--- The texts of types, operators, aggregates, functions, formats of files, rows that are kept, kinds and parts of joins, and errors.
+-- The texts of types, operators, aggregates, functions, rows that are kept, kinds and parts of joins, and errors.
 use Rattle.std.specs.Prelude.{ℕ, List, None, true, false, codes}
 use Rattle.plan_core.specs.declared.data_type.DataType.{DataType}
 use Rattle.plan_core.specs.declared.data_type.DataType.TheVariants as types
@@ -15,8 +15,6 @@ use Rattle.plan_expr.specs.declared.literal.LiteralValue.{LiteralValue}
 use Rattle.plan_expr.specs.declared.literal.LiteralValue.TheVariants as literals
 use Rattle.plan_expr.specs.declared.operator.Operator.{Operator}
 use Rattle.plan_expr.specs.declared.operator.Operator.TheVariants as operators
-use Rattle.plan_ir.specs.declared.scan.FileScan.{FileScan}
-use Rattle.plan_ir.specs.declared.scan.FileScan.TheVariants as files
 use Rattle.plan_options.specs.declared.distinct.UniqueKeepStrategy.{UniqueKeepStrategy}
 use Rattle.plan_options.specs.declared.distinct.UniqueKeepStrategy.TheVariants as keeps
 use Rattle.plan_options.specs.declared.join.InequalityOperator.{InequalityOperator}
@@ -91,10 +89,6 @@ function_text functions.IsNotNull = codes "IsNotNull"
 function_text functions.FillNull = codes "FillNull"
 function_text functions.Reverse = codes "Reverse"
 function_text functions.CumSum = codes "CumSum"
-
--- the name of a format of files
-abbrev pub format_text : FileScan → List ℕ
-format_text files.Parquet = codes "Parquet"
 
 -- the name of which row is kept
 abbrev pub keep_text : UniqueKeepStrategy → List ℕ

@@ -5,9 +5,10 @@ use Rattle.serde_json.specs.Data.{Data, null, boolean, string, object}
 use Rattle.plan_text_pieces.specs.declared.pieces.Piece.{Piece}
 use Rattle.plan_text_pieces.specs.declared.pieces.Piece.TheVariants as pieces
 use Rattle.plan_text_pieces.specs.Lists.{are_ascending, members_from}
-use Rattle.plan_text_pieces.specs.Values.{columns_data, integer_data, link_data, list_data, names_data, number_data, options_data, output_data, outputs_data, paths_data, row_index_data, slice_data, truths_data, two_data}
+use Rattle.plan_text_pieces.specs.Values.{buffers_data, columns_data, integer_data, link_data, list_data, names_data, number_data, options_data, output_data, outputs_data, paths_data, row_index_data, slice_data, truths_data, two_data}
 use Rattle.plan_text_pieces.specs.JoinOptions.{kind_options_data}
 use Rattle.plan_text_pieces.specs.Functions.{frame_function_data}
+use Rattle.plan_text_pieces.specs.Hive.{hive_parts_data}
 
 -- the value that a piece tells
 abbrev pub piece_data : Piece → Data
@@ -20,6 +21,8 @@ piece_data (pieces.Integer z) = integer_data z
 piece_data (pieces.Text s) = string s.now
 piece_data (pieces.Names ns) = names_data ns.now
 piece_data (pieces.Paths ps) = paths_data ps.now
+piece_data (pieces.Buffers ns) = buffers_data ns.now
+piece_data (pieces.HiveParts ps) = hive_parts_data ps.now
 piece_data (pieces.Columns cs) = columns_data cs.now
 piece_data (pieces.Links ns) = list_data link_data ns.now
 piece_data (pieces.Output e) = output_data e.now

@@ -10,8 +10,8 @@ use Rattle.plan_core.specs.declared.data_type.DataType.{DataType}
 use Rattle.plan_core.specs.declared.options.ProjectionOptions.{ProjectionOptions}
 use Rattle.plan_core.specs.declared.options.RowIndex.{RowIndex}
 use Rattle.plan_expr.specs.declared.expr_ir.ExprIR.{ExprIR}
-use Rattle.plan_ir.specs.declared.scan.ScanSources.{ScanSources}
-use Rattle.plan_ir.specs.declared.scan.ScanSources.TheVariants as sources
+use Rattle.plan_scan.specs.declared.sources.ScanSources.{ScanSources}
+use Rattle.plan_scan.specs.declared.sources.ScanSources.TheVariants as sources
 use Rattle.plan_text_pieces.specs.Kinds.{type_text}
 use Rattle.plan_text_pieces.specs.Origins.{origin_text, name_text}
 
@@ -84,6 +84,11 @@ row_index_data r = two_data (string r.name) (number_data r.offset)
 abbrev pub paths_data : List (List ℕ) → Data
 paths_data ps = object (member (codes "paths") (names_data ps) no_members)
 
+-- the object of the numbers of buffers
+abbrev pub buffers_data : List ℕ → Data
+buffers_data ns = object (member (codes "buffers") (list_data number_data ns) no_members)
+
 -- where a scan reads from
 abbrev pub sources_data : ScanSources → Data
 sources_data (sources.Paths ps) = paths_data ps
+sources_data (sources.Buffers ns) = buffers_data ns

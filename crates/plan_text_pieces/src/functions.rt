@@ -5,13 +5,15 @@ ghost use Rattle.serde_json.specs.Data.{string};
 ghost use Rattle.serde_json.specs.View.{view};
 ghost use Rattle.serde_json.specs.Written.{outline};
 ghost use Rattle.plan_text_pieces.specs.Values.{nullable_data, number_data};
-ghost use Rattle.plan_text_pieces.specs.Functions.{explode_data, frame_function_data, numbering_data, rename_data, unpivot_data};
+ghost use Rattle.plan_text_pieces.specs.Functions.{count_data, explode_data, frame_function_data, frame_function_name, numbering_data, rename_data, told_data, unpivot_data};
 
+use crate::scan_sources::{sources, write_sources};
 use crate::values::names;
 use crate::writing::write_names;
 use json::Writer;
 use plan_core::PlSmallStr;
 use plan_ir::{FunctionIR, UnpivotArgsIR};
+use plan_scan::{FileScan, ScanSources};
 use serde_json::{Value, json};
 use std::alloc::{AllocError, Global};
 
@@ -80,6 +82,21 @@ fn explode(alloc: Global, columns: &[PlSmallStr]) -> Result<Value, AllocError>
     json!(in alloc; {"columns": columns})
 }
 
+/// The object of a count of the rows of files.
+#[tactic(auto, unfolding(crate::specs::Functions::count_data))]
+fn count(
+    alloc: Global,
+    from: &ScanSources,
+    format: &FileScan,
+    alias: &Option<PlSmallStr>,
+) -> Result<Value, AllocError>
+    ensures { IfOk result (λ v. view v ≡ count_data from.now format.now alias.now) }
+{
+    let alias = optional_name(alloc, alias)?;
+    let sources = sources(alloc, from)?;
+    json!(in alloc; {"alias": alias, "kind": format.name(), "sources": sources})
+}
+
 /// The object of a function, under its name.
 #[tactic(auto, unfolding(crate::specs::Functions::frame_function_data))]
 pub fn frame_function(alloc: Global, function: &FunctionIR) -> Result<Value, AllocError>
@@ -105,6 +122,14 @@ pub fn frame_function(alloc: Global, function: &FunctionIR) -> Result<Value, All
         FunctionIR::Explode { columns } => {
             let object = explode(alloc, columns.as_slice())?;
             json!(in alloc; {"Explode": object})
+        }
+        FunctionIR::FastCount {
+            sources,
+            scan_type,
+            alias,
+        } => {
+            let object = count(alloc, sources, scan_type, alias)?;
+            json!(in alloc; {"FastCount": object})
         }
     }
 }
@@ -208,41 +233,78 @@ fn write_explode(writer: &mut Writer, columns: &[PlSmallStr]) -> Result<(), Allo
     writer.end_object()
 }
 
+/// Writes the object of a count of the rows of files.
+#[tactic(auto, unfolding(crate::specs::Functions::count_data))]
+fn write_count(
+    writer: &mut Writer,
+    from: &ScanSources,
+    format: &FileScan,
+    alias: &Option<PlSmallStr>,
+) -> Result<(), AllocError>
+    ensures tokens { OnOk result (writer.new.tokens
+        ≡ writer.old.tokens ++ json_tokens (outline (count_data from.now format.now alias.now))) }
+    ensures before { OnOk result (writer.new.before ≡ writer.old.before) }
+{
+    writer.begin_object()?;
+    writer.key("alias")?;
+    write_optional_name(writer, alias)?;
+    writer.key("kind")?;
+    writer.string(format.name())?;
+    writer.key("sources")?;
+    write_sources(writer, from)?;
+    writer.end_object()
+}
+
+/// The name of a function.
+fn name_of(function: &FunctionIR) -> &'static str
+    ensures { result.now ≡ frame_function_name function.now }
+{
+    match function {
+        FunctionIR::Rename { .. } => "Rename",
+        FunctionIR::RowIndex { .. } => "RowIndex",
+        FunctionIR::Unpivot { .. } => "Unpivot",
+        FunctionIR::Explode { .. } => "Explode",
+        FunctionIR::FastCount { .. } => "FastCount",
+    }
+}
+
+/// Writes the object of what a function is told.
+fn write_told(writer: &mut Writer, function: &FunctionIR) -> Result<(), AllocError>
+    ensures tokens { OnOk result (writer.new.tokens
+        ≡ writer.old.tokens ++ json_tokens (outline (told_data function.now))) }
+    ensures before { OnOk result (writer.new.before ≡ writer.old.before) }
+{
+    match function {
+        FunctionIR::Rename {
+            existing,
+            new,
+            swapping,
+        } => write_rename(writer, existing.as_slice(), new.as_slice(), *swapping),
+        FunctionIR::RowIndex { name, offset } => write_numbering(writer, name.as_str(), *offset),
+        FunctionIR::Unpivot { args } => write_unpivot(
+            writer,
+            args.on.as_slice(),
+            args.index.as_slice(),
+            &args.variable_name,
+            &args.value_name,
+        ),
+        FunctionIR::Explode { columns } => write_explode(writer, columns.as_slice()),
+        FunctionIR::FastCount {
+            sources,
+            scan_type,
+            alias,
+        } => write_count(writer, sources, scan_type, alias),
+    }
+}
+
 /// Writes the object of a function, under its name.
-#[tactic(auto, unfolding(crate::specs::Functions::frame_function_data))]
 pub fn write_frame_function(writer: &mut Writer, function: &FunctionIR) -> Result<(), AllocError>
     ensures tokens { OnOk result (writer.new.tokens
         ≡ writer.old.tokens ++ json_tokens (outline (frame_function_data function.now))) }
     ensures before { OnOk result (writer.new.before ≡ writer.old.before) }
 {
     writer.begin_object()?;
-    match function {
-        FunctionIR::Rename {
-            existing,
-            new,
-            swapping,
-        } => {
-            writer.key("Rename")?;
-            write_rename(writer, existing.as_slice(), new.as_slice(), *swapping)?;
-        }
-        FunctionIR::RowIndex { name, offset } => {
-            writer.key("RowIndex")?;
-            write_numbering(writer, name.as_str(), *offset)?;
-        }
-        FunctionIR::Unpivot { args } => {
-            writer.key("Unpivot")?;
-            write_unpivot(
-                writer,
-                args.on.as_slice(),
-                args.index.as_slice(),
-                &args.variable_name,
-                &args.value_name,
-            )?;
-        }
-        FunctionIR::Explode { columns } => {
-            writer.key("Explode")?;
-            write_explode(writer, columns.as_slice())?;
-        }
-    }
+    writer.key(name_of(function))?;
+    write_told(writer, function)?;
     writer.end_object()
 }

@@ -1,11 +1,9 @@
-//! The names of types, operators, aggregates, functions, formats of files, rows that are kept, kinds and parts of joins, and
-//! errors.
+//! The names of types, operators, aggregates, functions, rows that are kept, kinds and parts of joins, and errors.
 ghost use Rattle.std.specs.Prelude.{◌≡◌};
-ghost use Rattle.plan_text_pieces.specs.Kinds.{list_text, type_text, plain_text, literal_text, operator_text, agg_text, function_text, format_text, keep_text, how_text, coalesce_text, order_text, inequality_text, fault_text, place_of};
+ghost use Rattle.plan_text_pieces.specs.Kinds.{list_text, type_text, plain_text, literal_text, operator_text, agg_text, function_text, keep_text, how_text, coalesce_text, order_text, inequality_text, fault_text, place_of};
 
 use plan_core::{At, DataType, PlainType, PolarsError};
 use plan_expr::{FunctionExpr, IRAggExpr, LiteralValue, Operator};
-use plan_ir::FileScan;
 use plan_options::{
     InequalityOperator, JoinCoalesce, JoinType, MaintainOrderJoin, UniqueKeepStrategy,
 };
@@ -106,15 +104,6 @@ pub fn function_name(function: FunctionExpr) -> &'static str
         FunctionExpr::FillNull => "FillNull",
         FunctionExpr::Reverse => "Reverse",
         FunctionExpr::CumSum => "CumSum",
-    }
-}
-
-/// The name of a file format in a document: the `kind` of a scan.
-pub fn format_name(format: FileScan) -> &'static str
-    ensures { result.now ≡ format_text format }
-{
-    match format {
-        FileScan::Parquet => "Parquet",
     }
 }
 

@@ -2,23 +2,27 @@
 //! values and as text.
 #![tactic(auto)]
 
+mod cells;
 mod functions;
+mod hive;
 mod join_options;
 mod kinds;
 mod lists;
 mod origins;
 mod pieces;
+mod scan_sources;
 mod values;
 mod writing;
 
+pub use cells::write_cell;
 pub use kinds::{
-    agg_name, coalesce_name, fault_name, format_name, function_name, how_name, keep_name,
-    literal_type, operator_name, order_name, place, type_name,
+    agg_name, coalesce_name, fault_name, function_name, how_name, keep_name, literal_type,
+    operator_name, order_name, place, type_name,
 };
 pub use lists::each_entry;
 pub use pieces::{
-    Entries, Piece, optional_columns, optional_kind_options, optional_name, optional_names,
-    optional_number, optional_output, optional_row_index, optional_slice, sources,
+    Entries, Piece, optional_columns, optional_hive_parts, optional_kind_options, optional_name,
+    optional_names, optional_number, optional_output, optional_row_index, optional_slice, sources,
 };
 pub use values::object;
 pub use writing::{write_columns, write_names, write_object};

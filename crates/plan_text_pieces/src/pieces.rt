@@ -3,12 +3,14 @@ ghost use Rattle.std.specs.Prelude.{◌≡◌};
 ghost use Rattle.serde_json.specs.Data.{string};
 ghost use Rattle.plan_text_pieces.specs.Values.{columns_data, names_data, nullable_data, number_data, output_data, row_index_data, slice_data, sources_data};
 ghost use Rattle.plan_text_pieces.specs.JoinOptions.{kind_options_data};
+ghost use Rattle.plan_text_pieces.specs.Hive.{hive_parts_data};
 ghost use Rattle.plan_text_pieces.specs.Pieces.{piece_data};
 
 use plan_core::{Items, Node, PlSmallStr, ProjectionOptions, RowIndex, Schema};
 use plan_expr::ExprIR;
-use plan_ir::{FunctionIR, ScanSources};
+use plan_ir::FunctionIR;
 use plan_join::JoinTypeOptionsIR;
+use plan_scan::{HivePartitions, ScanSources};
 
 /// A value that is to be written.
 #[derive(Drop)]
@@ -31,6 +33,10 @@ pub enum Piece<'a> {
     Names(&'a [PlSmallStr]),
     /// The object of paths.
     Paths(&'a [PlSmallStr]),
+    /// The object of the numbers of buffers.
+    Buffers(&'a [u32]),
+    /// The array of the hive columns of each source, each column with its name, its type and its value.
+    HiveParts(&'a [HivePartitions]),
     /// The array of columns, each with its name and its type.
     Columns(&'a Schema),
     /// The array of the numbers of nodes or of expressions.
@@ -104,6 +110,16 @@ pub fn optional_output(given: &Option<ExprIR>) -> Piece<'_>
     }
 }
 
+/// The hive columns of each source, or null.
+pub fn optional_hive_parts(given: &Option<Items<HivePartitions>>) -> Piece<'_>
+    ensures { piece_data result ≡ nullable_data hive_parts_data given.now }
+{
+    match given {
+        None => Piece::Null,
+        Some(parts) => Piece::HiveParts(parts.as_slice()),
+    }
+}
+
 /// The column that numbers the rows, or null.
 pub fn optional_row_index(given: &Option<RowIndex>) -> Piece<'_>
     ensures { piece_data result ≡ nullable_data row_index_data given.now }
@@ -140,5 +156,6 @@ pub fn sources(given: &ScanSources) -> Piece<'_>
 {
     match given {
         ScanSources::Paths(paths) => Piece::Paths(paths.as_slice()),
+        ScanSources::Buffers(numbers) => Piece::Buffers(numbers.as_slice()),
     }
 }

@@ -3,9 +3,10 @@ ghost use Rattle.std.specs.Prelude.{◌≡◌, true, map, IfOk};
 ghost use Rattle.serde_json.specs.View.{view};
 ghost use Rattle.plan_text_pieces.specs.Lists.{are_ascending};
 ghost use Rattle.plan_text_pieces.specs.Pieces.{object_of, piece_data, piece_key};
-ghost use Rattle.plan_text_pieces.specs.Values.{columns_data, field_data, link_data, list_data, names_data, options_data, output_data, outputs_data, truths_data};
+ghost use Rattle.plan_text_pieces.specs.Values.{columns_data, field_data, link_data, list_data, names_data, number_data, options_data, output_data, outputs_data, truths_data};
 
 use crate::functions::frame_function;
+use crate::hive::hive_parts;
 use crate::join_options::kind_options;
 use crate::kinds::type_name;
 use crate::lists::each;
@@ -41,6 +42,14 @@ pub fn names(alloc: Global, names: &[PlSmallStr]) -> Result<Value, AllocError>
     let written = each(alloc, names, |name| {
         Value::try_from_str(alloc, name.as_str())
     })?;
+    Ok(Value::Array(written))
+}
+
+/// The array of numbers, in order.
+pub fn numbers(alloc: Global, given: &[u32]) -> Result<Value, AllocError>
+    ensures { IfOk result (λ v. view v ≡ list_data number_data given.now) }
+{
+    let written = each(alloc, given, |number| Ok(Value::from(*number)))?;
     Ok(Value::Array(written))
 }
 
@@ -104,6 +113,11 @@ fn value(alloc: Global, piece: &Piece<'_>) -> Result<Value, AllocError>
             let paths = names(alloc, given)?;
             json!(in alloc; {"paths": paths})
         }
+        Piece::Buffers(given) => {
+            let buffers = numbers(alloc, given)?;
+            json!(in alloc; {"buffers": buffers})
+        }
+        Piece::HiveParts(given) => hive_parts(alloc, given),
         Piece::Columns(schema) => columns(alloc, schema),
         Piece::Links(nodes) => links(alloc, nodes),
         Piece::Output(expr) => output(alloc, expr),

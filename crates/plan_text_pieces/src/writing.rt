@@ -4,9 +4,10 @@ ghost use Rattle.json.specs.Tree.{json_tokens};
 ghost use Rattle.serde_json.specs.Data.{boolean};
 ghost use Rattle.serde_json.specs.Written.{outline};
 ghost use Rattle.plan_text_pieces.specs.Pieces.{object_of, piece_data};
-ghost use Rattle.plan_text_pieces.specs.Values.{columns_data, field_data, link_data, list_data, names_data, options_data, output_data, outputs_data, paths_data, row_index_data, slice_data, truths_data, two_data};
+ghost use Rattle.plan_text_pieces.specs.Values.{buffers_data, columns_data, field_data, link_data, list_data, names_data, number_data, options_data, output_data, outputs_data, paths_data, row_index_data, slice_data, truths_data, two_data};
 
 use crate::functions::write_frame_function;
+use crate::hive::write_hive_parts;
 use crate::join_options::write_kind_options;
 use crate::kinds::type_name;
 use crate::origins::{name_of, origin};
@@ -57,7 +58,7 @@ pub fn write_names(writer: &mut Writer, names: &[PlSmallStr]) -> Result<(), Allo
 }
 
 /// Writes the object of paths.
-fn write_paths(writer: &mut Writer, paths: &[PlSmallStr]) -> Result<(), AllocError>
+pub fn write_paths(writer: &mut Writer, paths: &[PlSmallStr]) -> Result<(), AllocError>
     ensures tokens { OnOk result (writer.new.tokens
         ≡ writer.old.tokens ++ json_tokens (outline (paths_data paths.now))) }
     ensures before { OnOk result (writer.new.before ≡ writer.old.before) }
@@ -65,6 +66,32 @@ fn write_paths(writer: &mut Writer, paths: &[PlSmallStr]) -> Result<(), AllocErr
     writer.begin_object()?;
     writer.key("paths")?;
     write_names(writer, paths)?;
+    writer.end_object()
+}
+
+/// Writes the array of numbers.
+#[tactic(auto, unfolding(crate::specs::Values::list_data))]
+fn write_numbers(writer: &mut Writer, numbers: &[u32]) -> Result<(), AllocError>
+    ensures tokens { OnOk result (writer.new.tokens
+        ≡ writer.old.tokens ++ json_tokens (outline (list_data number_data numbers.now))) }
+    ensures before { OnOk result (writer.new.before ≡ writer.old.before) }
+{
+    writer.begin_array()?;
+    for number in numbers {
+        writer.u64(*number as u64)?;
+    }
+    writer.end_array()
+}
+
+/// Writes the object of the numbers of buffers.
+pub fn write_buffers(writer: &mut Writer, numbers: &[u32]) -> Result<(), AllocError>
+    ensures tokens { OnOk result (writer.new.tokens
+        ≡ writer.old.tokens ++ json_tokens (outline (buffers_data numbers.now))) }
+    ensures before { OnOk result (writer.new.before ≡ writer.old.before) }
+{
+    writer.begin_object()?;
+    writer.key("buffers")?;
+    write_numbers(writer, numbers)?;
     writer.end_object()
 }
 
@@ -191,6 +218,8 @@ fn write_piece(writer: &mut Writer, piece: &Piece<'_>) -> Result<(), AllocError>
         Piece::Text(text) => writer.string(text),
         Piece::Names(names) => write_names(writer, names),
         Piece::Paths(paths) => write_paths(writer, paths),
+        Piece::Buffers(numbers) => write_buffers(writer, numbers),
+        Piece::HiveParts(parts) => write_hive_parts(writer, parts),
         Piece::Columns(schema) => write_columns(writer, schema),
         Piece::Links(nodes) => write_links(writer, nodes),
         Piece::Output(expr) => write_output(writer, expr),

@@ -11,4 +11,6 @@ mod plans;
 #[cfg(test)]
 mod rows;
 #[cfg(test)]
+mod scans;
+#[cfg(test)]
 mod texts;

@@ -42,6 +42,7 @@ fn scan_of_two(alloc: Global) -> Result<IR, AllocError> {
     Ok(IR::Scan {
         sources: ScanSources::Paths(names(alloc, &["t"])?),
         file_info: file(alloc)?,
+        hive_parts: None,
         predicate: None,
         output_schema: Some(numbers(alloc, &["a", "b"])?),
         scan_type: FileScan::Parquet,
@@ -141,6 +142,7 @@ fn scan_of_some_rows(alloc: Global) -> Result<IR, AllocError> {
     Ok(IR::Scan {
         sources: ScanSources::Paths(Items::new(alloc)),
         file_info,
+        hive_parts: None,
         predicate: Some(ExprIR::new(Node(0), OutputName::Alias(name(alloc, "\\")?))),
         output_schema: None,
         scan_type: FileScan::Parquet,

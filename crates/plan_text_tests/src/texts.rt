@@ -6,12 +6,14 @@ use crate::plans::{
     all_kinds, all_operators, full_plan, mapped_plan, more_plan, ordered_plan, simple_plan,
     union_plan,
 };
+use crate::scans::scanned_plan;
 use plan_core::{At, DataType, Node, PolarsError};
 use plan_ir::PlanCopy;
 use plan_made::{names, schema};
 use plan_text::{write_fault, write_listing, write_plan, write_schema};
 use std::alloc::{AllocError, Global};
 use std::process::Abort;
+use std::test::Fail;
 
 const SIMPLE_PLAN: &str =
     r#"{"exprs":[{"left":1,"op":"BinaryExpr","operator":"Gt","right":2},{"name":"b","op":"Column"},{"op":"Literal","type":"Int64","value":1}],"nodes":[{"columns":[["a","Int64"]],"input":1,"op":"SimpleProjection"},{"input":2,"op":"Filter","predicate":[0,"col","b"]},{"columns":[["a","Int64"],["b","Int64"]],"input":3,"op":"SimpleProjection"},{"columns":["a","b"],"hive":null,"kind":"Parquet","op":"Scan","output":[["a","Int64"],["b","Int64"]],"path_column":null,"predicate":null,"reader":[["a","Int64"],["b","Int64"],["c","String"]],"rechunk":false,"row_index":null,"schema":[["a","Int64"],["b","Int64"],["c","String"]],"slice":null,"sources":{"paths":["t"]}}],"root":0}"#;
@@ -42,6 +44,9 @@ const JOINED: &str =
 
 const MAPPED: &str =
     r#"{"exprs":[],"nodes":[{"function":{"Rename":{"existing":["a","b"],"new":["b","c"],"swapping":true}},"input":2,"op":"MapFunction"},{"function":{"Rename":{"existing":[],"new":[],"swapping":false}},"input":2,"op":"MapFunction"},{"function":{"RowIndex":{"name":"i","offset":4294967295}},"input":3,"op":"MapFunction"},{"function":{"RowIndex":{"name":"i","offset":0}},"input":3,"op":"MapFunction"},{"function":{"RowIndex":{"name":"\"é\n","offset":null}},"input":3,"op":"MapFunction"},{"function":{"Unpivot":{"index":["c","a"],"on":["d","b"],"value_name":null,"variable_name":"v"}},"input":6,"op":"MapFunction"},{"function":{"Unpivot":{"index":["c","a"],"on":[],"value_name":"w","variable_name":"v"}},"input":6,"op":"MapFunction"},{"function":{"Explode":{"columns":["b","a"]}},"input":7,"op":"MapFunction"},{"function":{"Explode":{"columns":[]}},"input":7,"op":"MapFunction"}],"root":0}"#;
+
+const SCANNED: &str =
+    r#"{"exprs":[],"nodes":[{"columns":null,"hive":[[["n","Int64",-7],["s","String","x"],["b","Boolean",true]],[["n","Int64",null],["s","String",null],["b","Boolean",false]]],"kind":"Csv","op":"Scan","output":null,"path_column":"p","predicate":null,"reader":null,"rechunk":false,"row_index":["i",4294967295],"schema":[["a","Int64"]],"slice":null,"sources":{"paths":["n=-7/s=x/b=true/f","n=__HIVE_DEFAULT_PARTITION__/s=/b=false/f"]}},{"columns":null,"hive":[[["\"é\n","List(Int64)",[1,null]]],[]],"kind":"NDJson","op":"Scan","output":null,"path_column":null,"predicate":null,"reader":null,"rechunk":false,"row_index":null,"schema":[["a","Int64"]],"slice":null,"sources":{"buffers":[7,4294967295]}},{"columns":null,"hive":[],"kind":"Ipc","op":"Scan","output":null,"path_column":null,"predicate":null,"reader":null,"rechunk":false,"row_index":null,"schema":[["a","Int64"]],"slice":null,"sources":{"buffers":[]}}],"root":0}"#;
 
 fn is_written(
     rt: &impl Abort,
@@ -120,6 +125,17 @@ fn writes_functions_of_whole_frames(rt: HostRuntime) -> Result<(), AllocError> {
     is_written(&rt, alloc, &plan, MAPPED)?;
     let text = write_listing(alloc, &plan, &[], None)?;
     let wanted = format!(in alloc; "{{\"plan\":{MAPPED},\"reads\":[],\"rows\":null}}\n")?;
+    assert_eq!(rt; text.as_str(), wanted.as_str());
+    Ok(())
+}
+
+#[test]
+fn writes_scans(rt: HostRuntime) -> Result<(), Fail> {
+    let alloc = rt.alloc();
+    let plan = scanned_plan(alloc)?;
+    is_written(&rt, alloc, &plan, SCANNED)?;
+    let text = write_listing(alloc, &plan, &[], None)?;
+    let wanted = format!(in alloc; "{{\"plan\":{SCANNED},\"reads\":[],\"rows\":null}}\n")?;
     assert_eq!(rt; text.as_str(), wanted.as_str());
     Ok(())
 }

@@ -3,8 +3,8 @@ use Rattle.std.proofs.Common.{◌≡◌, ◌++◌, map, drop}
 use Rattle.json.specs.Tree.{json_tokens, items_tokens}
 use Rattle.serde_json.specs.View.{items_of}
 use Rattle.serde_json.specs.Written.{outline, items_outline}
+use Rattle.plan_text_pieces.specs.Cells.{value_data}
 use Rattle.plan_text_pieces.specs.Values.{list_data}
-use Rattle.plan_text.specs.Rows.{value_data}
 use Rattle.plan_text.proofs.rows.write_values.Given as goal
 
 abbrev pub invariant-loop-value : goal.invariant-loop-value

@@ -3,9 +3,9 @@ use Rattle.std.proofs.Common.{◌≡◌, ◌++◌, map, drop}
 use Rattle.json.specs.Tree.{json_tokens, items_tokens}
 use Rattle.serde_json.specs.View.{items_of}
 use Rattle.serde_json.specs.Written.{outline, items_outline}
+use Rattle.plan_text_pieces.specs.Cells.{single_data}
 use Rattle.plan_text_pieces.specs.Values.{list_data}
-use Rattle.plan_text.specs.Rows.{single_data}
-use Rattle.plan_text.proofs.rows.write_singles.Given as goal
+use Rattle.plan_text_pieces.proofs.cells.write_singles.Given as goal
 
 abbrev pub invariant-loop-value : goal.invariant-loop-value
 invariant-loop-value l = record {

@@ -1,7 +1,7 @@
 use Rattle.std.proofs.Common.{rules}
-use Rattle.plan_doc.specs.Tables.{any_value_of, any_values_of}
+use Rattle.plan_doc_parts.specs.Values.{any_value_of, any_values_of}
 use Rattle.plan_doc_parts.proofs.PairLemmas.{each_is_read}
-use Rattle.plan_doc.proofs.tables.any_values.Goals as goal
+use Rattle.plan_doc_parts.proofs.values.any_values.Goals as goal
 
 pub returns : goal.returns
 unfolding any_values_of

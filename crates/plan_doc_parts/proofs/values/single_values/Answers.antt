@@ -1,7 +1,7 @@
 use Rattle.std.proofs.Common.{rules}
-use Rattle.plan_doc.specs.Tables.{single_value_of, single_values_of}
+use Rattle.plan_doc_parts.specs.Values.{single_value_of, single_values_of}
 use Rattle.plan_doc_parts.proofs.PairLemmas.{each_is_read}
-use Rattle.plan_doc.proofs.tables.single_values.Goals as goal
+use Rattle.plan_doc_parts.proofs.values.single_values.Goals as goal
 
 pub returns : goal.returns
 unfolding single_values_of

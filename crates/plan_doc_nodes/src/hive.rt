@@ -1,0 +1,71 @@
+//! The readers of hive parts.
+ghost use Rattle.serde_json.specs.View.{view};
+ghost use Rattle.plan_doc_parts.specs.Gives.{Gives};
+ghost use Rattle.plan_doc_parts.specs.Members.{at};
+ghost use Rattle.plan_doc_parts.specs.Parts.{nullable};
+ghost use Rattle.plan_doc_nodes.specs.Hive.{hive_column_of, hive_part_of, hive_parts_of};
+
+use plan_core::{Items, Schema};
+use plan_doc_parts::{Fault, any_value, data_type, each, entries, field, name, three};
+use plan_scan::{ColumnStats, Field, HivePartitions};
+use serde_json::Value;
+use std::alloc::Global;
+
+/// The name, the type and the value of an array of three; the value is null or of the type.
+#[tactic(auto, unfolding(crate::specs::Hive::hive_column_of))]
+fn hive_column(alloc: Global, value: &Value) -> Result<ColumnStats, Fault>
+    ensures { Gives result (hive_column_of (view value.now)) }
+{
+    let (name_value, type_value, value) = three(value)?;
+    let name = name(alloc, name_value)?;
+    let dtype = data_type(type_value)?;
+    let value = any_value(alloc, dtype, value)?;
+    Ok(ColumnStats {
+        field: Field { name, dtype },
+        value,
+    })
+}
+
+/// The hive columns of one source, no name twice.
+#[tactic(auto, unfolding(crate::specs::Hive::hive_part_of))]
+fn hive_part(alloc: Global, value: &Value) -> Result<HivePartitions, Fault>
+    ensures { Gives result (hive_part_of (view value.now)) }
+{
+    let entries = entries(value)?;
+    let mut schema = Schema::new(alloc);
+    let mut values = Items::new(alloc);
+    for entry in entries {
+        let ColumnStats { field, value } = hive_column(alloc, entry)?;
+        match schema.with_column(field.name, field.dtype)? {
+            None => {}
+            Some(_) => return Err(Fault::Form),
+        }
+        values.push(value)?;
+    }
+    Ok(HivePartitions::new(alloc, schema, values)?)
+}
+
+/// The hive columns of each source.
+#[tactic(auto, unfolding(crate::specs::Hive::hive_parts_of))]
+fn hive_parts(alloc: Global, value: &Value) -> Result<Items<HivePartitions>, Fault>
+    ensures { Gives result (hive_parts_of (view value.now)) }
+{
+    let entries = entries(value)?;
+    each(alloc, entries, |entry| hive_part(alloc, entry))
+}
+
+/// Under a key null, or the hive columns of each source.
+#[tactic(auto, using(plan_doc_parts::proofs::NullLemmas::nullable_null, plan_doc_parts::proofs::NullLemmas::nullable_other), unfolding(plan_doc_parts::specs::Members::at))]
+pub fn optional_hive_parts_at(
+    alloc: Global,
+    object: &Value,
+    key: &str,
+) -> Result<Option<Items<HivePartitions>>, Fault>
+    ensures { Gives result (at key.now (nullable hive_parts_of) (view object.now)) }
+{
+    let value = field(object, key)?;
+    if value.is_null() {
+        return Ok(None);
+    }
+    Ok(Some(hive_parts(alloc, value)?))
+}

@@ -1,0 +1,89 @@
+//! What stands in columns, as JSON values and as text.
+ghost use Rattle.std.specs.Prelude.{◌≡◌, ◌++◌, IfOk, OnOk};
+ghost use Rattle.json.specs.Tree.{json_tokens};
+ghost use Rattle.serde_json.specs.View.{view};
+ghost use Rattle.serde_json.specs.Written.{outline};
+ghost use Rattle.plan_text_pieces.specs.Cells.{single_data, value_data};
+ghost use Rattle.plan_text_pieces.specs.Values.{list_data};
+
+use crate::lists::each;
+use json::Writer;
+use plan_table::{AnyValue, PlainValue};
+use serde_json::Value;
+use std::alloc::{AllocError, Global};
+
+/// A single value: null, a whole number, a text or a truth value.
+fn single(alloc: Global, value: &PlainValue) -> Result<Value, AllocError>
+    ensures { IfOk result (λ v. view v ≡ single_data value.now) }
+{
+    match value {
+        PlainValue::Null => Ok(Value::Null),
+        PlainValue::Int64(number) => Ok(Value::from(*number)),
+        PlainValue::String(text) => Value::try_from_str(alloc, text.as_str()),
+        PlainValue::Boolean(truth) => Ok(Value::Bool(*truth)),
+    }
+}
+
+/// The array of single values, in order.
+fn singles(alloc: Global, values: &[PlainValue]) -> Result<Value, AllocError>
+    ensures { IfOk result (λ v. view v ≡ list_data single_data values.now) }
+{
+    let written = each(alloc, values, |value| single(alloc, value))?;
+    Ok(Value::Array(written))
+}
+
+/// A value: null, a whole number, a text, a truth value, or an array of such.
+pub fn cell(alloc: Global, value: &AnyValue) -> Result<Value, AllocError>
+    ensures { IfOk result (λ v. view v ≡ value_data value.now) }
+{
+    match value {
+        AnyValue::Null => Ok(Value::Null),
+        AnyValue::Int64(number) => Ok(Value::from(*number)),
+        AnyValue::String(text) => Value::try_from_str(alloc, text.as_str()),
+        AnyValue::Boolean(truth) => Ok(Value::Bool(*truth)),
+        AnyValue::List(values) => singles(alloc, values.as_slice()),
+    }
+}
+
+/// Writes a single value: null, a whole number, a text or a truth value.
+fn write_single(writer: &mut Writer, value: &PlainValue) -> Result<(), AllocError>
+    ensures tokens { OnOk result (writer.new.tokens
+        ≡ writer.old.tokens ++ json_tokens (outline (single_data value.now))) }
+    ensures before { OnOk result (writer.new.before ≡ writer.old.before) }
+{
+    match value {
+        PlainValue::Null => writer.null(),
+        PlainValue::Int64(number) => writer.i64(*number),
+        PlainValue::String(text) => writer.string(text.as_str()),
+        PlainValue::Boolean(truth) => writer.boolean(*truth),
+    }
+}
+
+/// Writes the array of single values.
+#[tactic(auto, unfolding(crate::specs::Values::list_data))]
+fn write_singles(writer: &mut Writer, values: &[PlainValue]) -> Result<(), AllocError>
+    ensures tokens { OnOk result (writer.new.tokens
+        ≡ writer.old.tokens ++ json_tokens (outline (list_data single_data values.now))) }
+    ensures before { OnOk result (writer.new.before ≡ writer.old.before) }
+{
+    writer.begin_array()?;
+    for value in values {
+        write_single(writer, value)?;
+    }
+    writer.end_array()
+}
+
+/// Writes a value: null, a whole number, a text, a truth value, or an array of such.
+pub fn write_cell(writer: &mut Writer, value: &AnyValue) -> Result<(), AllocError>
+    ensures tokens { OnOk result (writer.new.tokens
+        ≡ writer.old.tokens ++ json_tokens (outline (value_data value.now))) }
+    ensures before { OnOk result (writer.new.before ≡ writer.old.before) }
+{
+    match value {
+        AnyValue::Null => writer.null(),
+        AnyValue::Int64(number) => writer.i64(*number),
+        AnyValue::String(text) => writer.string(text.as_str()),
+        AnyValue::Boolean(truth) => writer.boolean(*truth),
+        AnyValue::List(values) => write_singles(writer, values.as_slice()),
+    }
+}
