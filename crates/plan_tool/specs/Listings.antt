@@ -30,7 +30,7 @@ pushdown_bit = 1
 abbrev pub answered : OptFlags → Roses (Unit {0}) Op → Roses (Unit {0}) Op
 answered flags plan = if has_bits (bits_of flags) pushdown_bit then pruned_all true [] plan else plan
 
--- what is promised of the plan that is answered for a plan: it can give a frame over all contents that fit, and gives only frames that the given plan may give; where pushdown is asked, its scans are the given ones, one for one, each reading only columns that are asked of it, its nodes make at most the columns that are asked of the given ones, and it has few nodes more; else it is the given plan
+-- what is promised of the plan that is answered for a plan: it can give a frame over all contents that fit, and gives only frames that the given plan may give; where pushdown is asked, its scans are the given ones, one for one, each reading only what it may for what is asked of it, its nodes make at most the columns that are asked of the given ones, and it has few nodes more; else it is the given plan
 pub record IsAnswer (flags : OptFlags) (answer given : Plan) : Type 0 where
   pub refines : Refines answer given
   pub reads : has_bits (bits_of flags) pushdown_bit ≡ true → ReadWithin (scans answer) (sites_of given)
