@@ -8,9 +8,10 @@ use Rattle.plan_core.specs.Names.{has, with_name, with_names}
 use Rattle.plan_expr.specs.Leaves.{Name}
 use Rattle.plan_meaning.specs.Checks.{is_column}
 use Rattle.plan_files.specs.FileColumns.{plain_columns}
+use Rattle.plan_files.specs.FileReads.{is_read, is_told}
 use Rattle.plan_files.proofs.FileLemmas.{known_none, known_there}
 use Rattle.plan_frame.proofs.NameSets.{named}
-use Rattle.plan_meaning.specs.Typing.{has_columns, all_read, is_read, put_out_checks}
+use Rattle.plan_meaning.specs.Typing.{all_read, put_out_checks}
 use Rattle.plan_check_exprs.proofs.EachLemmas.{each-same}
 
 or_assoc : (a b c : Bool) → ((a || b) || c) ≡ (a || (b || c))
@@ -48,7 +49,7 @@ has-with_names xs (y ∷ ys) a = has-with_names (with_name xs y) ys a ∙ ap (λ
 abbrev pub as_set : Option (List Name) → Option (List Name)
 as_set reads = option_map (with_names []) reads
 
-reads-same : (reads : Option (List Name)) (a : Name) → has_columns (as_set reads) a ≡ has_columns reads a
+reads-same : (reads : Option (List Name)) (a : Name) → is_told (as_set reads) a ≡ is_told reads a
 reads-same None a = refl
 reads-same (Some names) a = has-with_names [] names a
 
@@ -85,10 +86,10 @@ has-plain (c ∷ reader) hive a = at (has (names_of hive) c.0) refl (bytes_eq a 
 
 -- whether a name is read, by whether a reader finds it
 
-pub found_read : (told : Option (List Name)) (reader hive : Columns) (a : Name) (t : DataType) → type_of reader a ≡ Some t → (has (names_of hive) a || has_columns told a) ≡ is_read told (plain_columns reader hive) a
+pub found_read : (told : Option (List Name)) (reader hive : Columns) (a : Name) (t : DataType) → type_of reader a ≡ Some t → (has (names_of hive) a || is_told told a) ≡ is_read told (plain_columns reader hive) a
 found_read told reader hive a t e =
     let found : has (names_of reader) a ≡ true = known_there reader a t e in
-    sym (ap (λ (b : Bool). not b || has_columns told a) (has-plain reader hive a ∙ ap (λ (b : Bool). b && not (has (names_of hive) a)) found) ∙ ap (λ (b : Bool). b || has_columns told a) (twice (has (names_of hive) a)))
+    sym (ap (λ (b : Bool). not b || is_told told a) (has-plain reader hive a ∙ ap (λ (b : Bool). b && not (has (names_of hive) a)) found) ∙ ap (λ (b : Bool). b || is_told told a) (twice (has (names_of hive) a)))
   where
     twice : (b : Bool) → not (not b) ≡ b
     twice true = refl
@@ -96,4 +97,4 @@ found_read told reader hive a t e =
 
 pub lacking_read : (told : Option (List Name)) (reader hive : Columns) (a : Name) → type_of reader a ≡ None → true ≡ is_read told (plain_columns reader hive) a
 lacking_read told reader hive a e =
-    sym (ap (λ (b : Bool). not b || has_columns told a) (has-plain reader hive a ∙ ap (λ (b : Bool). b && not (has (names_of hive) a)) (known_none reader a e)))
+    sym (ap (λ (b : Bool). not b || is_told told a) (has-plain reader hive a ∙ ap (λ (b : Bool). b && not (has (names_of hive) a)) (known_none reader a e)))

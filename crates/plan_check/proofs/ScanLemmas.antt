@@ -10,6 +10,7 @@ use Rattle.plan_core.specs.Names.{has, AreDistinct}
 use Rattle.plan_expr.specs.Exprs.{Named}
 use Rattle.plan_expr.specs.Leaves.{Name}
 use Rattle.plan_files.specs.FileColumns.{hive_columns, plain_columns}
+use Rattle.plan_files.specs.FileReads.{is_read}
 use Rattle.plan_files.specs.HiveParts.{are_alike}
 use Rattle.plan_frame.specs.Beside.{side_by_side}
 use Rattle.plan_frame.specs.Exprs.{is_type}
@@ -18,7 +19,7 @@ use Rattle.plan_frame.proofs.BesideLemmas.{beside-distinct, type_of-beside}
 use Rattle.plan_ir.specs.declared.scan.FileInfo.{FileInfo}
 use Rattle.plan_meaning.specs.Checks.{Check, check, each, each_new, is_known}
 use Rattle.plan_meaning.specs.Functions.{all_differ}
-use Rattle.plan_meaning.specs.Typing.{at, columns_or, differ_checks, first_fault, is_read, or_fault, put_out_checks, scan_checks, scan_column_checks, scan_columns, scan_name_checks, scan_type_checks, schema_checks}
+use Rattle.plan_meaning.specs.Typing.{at, columns_or, differ_checks, first_fault, or_fault, put_out_checks, scan_checks, scan_column_checks, scan_columns, scan_name_checks, scan_type_checks, schema_checks}
 use Rattle.plan_meaning.proofs.CheckParts.{same_is, scan_good}
 use Rattle.plan_meaning.proofs.JoinLemmas.{differ_distinct, distinct_differ}
 use Rattle.plan_meaning.proofs.Validity.{all_hold_unless}

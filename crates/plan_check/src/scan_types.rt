@@ -5,8 +5,9 @@ ghost use Rattle.plan_core.specs.declared.error.PolarsError.TheVariants.{SchemaM
 ghost use Rattle.plan_core.specs.Columns.{names_of};
 ghost use Rattle.plan_core.specs.Names.{has, with_names};
 ghost use Rattle.plan_files.specs.FileColumns.{hive_columns, plain_columns};
+ghost use Rattle.plan_files.specs.FileReads.{is_read as is_one_read, is_told as is_told_by};
 ghost use Rattle.plan_meaning.specs.Checks.{each, is_column as is_one};
-ghost use Rattle.plan_meaning.specs.Typing.{all_read as are_all_read, first_fault, has_columns, is_read as is_one_read, put_out_checks, Says};
+ghost use Rattle.plan_meaning.specs.Typing.{all_read as are_all_read, first_fault, put_out_checks, Says};
 
 use plan_core::{DataType, Items, Names, Node, PlSmallStr, PolarsError, PolarsResult, Schema};
 use plan_files::is_hive;
@@ -26,7 +27,7 @@ fn told_set(alloc: Global, told: &Option<Items<PlSmallStr>>) -> Result<Option<Na
 
 /// Whether the name is among those that are told; where none are told, each is.
 fn is_told(told: &Option<Names>, name: &str) -> bool
-    ensures { result ≡ has_columns told.now name.now }
+    ensures { result ≡ is_told_by told.now name.now }
 {
     match told {
         None => true,

@@ -1,27 +1,24 @@
 -- Columns under other names, and behind one of a new name.
-use Rattle.std.proofs.Common.{◌≡◌, ◌∙◌, ◌++◌, ◌+◌, ℕ, suc, Bool, true, false, not, ◌&&◌, List, [], ◌∷◌, map, length, Option, unwrap_or, pos, refl, sym, ap, subst, add-one}
+use Rattle.std.proofs.Common.{◌≡◌, ◌∙◌, ◌++◌, ℕ, suc, Bool, true, false, not, ◌&&◌, List, [], ◌∷◌, map, length, Option, unwrap_or, pos, refl, sym, ap, subst}
 use Rattle.std.proofs.Math.Path.{fun_ext}
 use Rattle.std.specs.Int.{w64, int_wrap, cast_signed}
-use Rattle.std.specs.List.{AllByRecursion, IsDistinct, list_any, range_with_len}
+use Rattle.std.specs.List.{AllByRecursion, IsDistinct, list_any}
 use Rattle.std.specs.Str.{bytes_eq}
 use Rattle.std.proofs.lemmas.Bool.{and_parts, not-true}
-use Rattle.std.proofs.lemmas.List.{map-append}
 use Rattle.plan_core.specs.Columns.{Columns, HasDistinctNames, names_of}
 use Rattle.plan_core.specs.Names.{has, AreDistinct}
 use Rattle.plan_core.specs.declared.error.PolarsError.TheVariants.{Duplicate}
 use Rattle.plan_expr.specs.Leaves.{Name}
 use Rattle.plan_frame.specs.Frames.{Column}
 use Rattle.plan_meaning.specs.Functions.{become_one, name_in, names_now, new_name, renamed, stay_apart}
-use Rattle.plan_frame.specs.Reshaped.{renamed_columns, row_numbers}
+use Rattle.plan_frame.specs.Reshaped.{renamed_columns}
 use Rattle.plan_meaning.specs.Checks.{Check, check, each_new}
 use Rattle.plan_meaning.specs.Typing.{AllHold, rename_checks, row_index_checks}
-use Rattle.plan_frame.specs.Values.{Value, whole}
 use Rattle.plan_meaning.proofs.CheckParts.{hold_back}
 use Rattle.plan_function.proofs.RenameLemmas.{names-renamed, or_false}
 use Rattle.plan_table.specs.declared.column.Column.{Column as Typed}
 use Rattle.plan_table.specs.Tables.{types_of}
 use Rattle.plan_value.specs.Shown.{column_shown, columns_shown}
-use Rattle.plan_value.proofs.PlaceLemmas.{range-more}
 use Rattle.plan_eval.specs.Function.{under}
 use Prim.Native.Nat.{◌^◌, ◌%◌}
 use mir.Val.{bits}
@@ -84,12 +81,6 @@ behind-apart c cs d e = (none-is c.name (names_of (types_of cs)) e, d)
 pub cut-wrapped : (n : ℕ) → cast_signed w64 (n % 2 ^ bits w64) ≡ int_wrap w64 (pos n)
 unfolding int_wrap
 cut-wrapped n = refl
-
--- the numbers of one row more
-pub numbers-next : (first row : ℕ) → row_numbers first row ++ whole (int_wrap w64 (pos (first + row))) ∷ [] ≡ row_numbers first (row + 1)
-numbers-next first row =
-    let number : ℕ → Value = λ (i : ℕ). whole (int_wrap w64 (pos i)) in
-    sym (ap (row_numbers first) (add-one row) ∙ ap (map number) (range-more first row) ∙ map-append number (range_with_len first row) ((first + row) ∷ []))
 
 -- checks
 

@@ -1,6 +1,6 @@
 //! Distinct rows are those of the input, but that of rows that are the same in some columns the first is kept, or the last,
 //! or only one that is alone.
-ghost use Rattle.std.specs.Prelude.{◌≡◌, true, List, [], ◌∷◌, IfOk, map};
+ghost use Rattle.std.specs.Prelude.{◌≡◌, true, List, [], ◌∷◌, IfOk};
 ghost use Rattle.std.specs.List.Sorted.{IsPermutation, IsSorted};
 ghost use Rattle.std.specs.Ordering.{nat_cmp};
 ghost use Rattle.plan_ir.specs.Plans.{distinct as distinct_op};

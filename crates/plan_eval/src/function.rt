@@ -1,26 +1,26 @@
 //! A function of the whole input gives its columns under other names, or behind one that numbers the rows; an unpivot,
 //! an explode and a count of the rows of files have files of their own.
-ghost use Rattle.std.specs.Prelude.{◌≡◌, ◌+◌, [], ◌∷◌, IfOk, false, map, pos, true};
-ghost use Rattle.std.specs.Int.{int_wrap, w64};
+ghost use Rattle.std.specs.Prelude.{◌≡◌, [], ◌∷◌, IfOk, false, map, true};
 ghost use Rattle.plan_core.specs.Columns.{names_of};
 ghost use Rattle.plan_core.specs.Names.{has};
 ghost use Rattle.plan_core.specs.declared.data_type.DataType.TheVariants.{Int64};
 ghost use Rattle.plan_ir.specs.Plans.{map_function};
 ghost use Rattle.plan_meaning.specs.Functions.{names_now, renamed as renamed_of, stay_apart};
-ghost use Rattle.plan_frame.specs.Reshaped.{renamed_columns, row_numbers as row_numbers_of, with_numbers, with_renamed};
+ghost use Rattle.plan_frame.specs.Reshaped.{renamed_columns, with_numbers, with_renamed};
 ghost use Rattle.plan_meaning.specs.Typing.{AllHold, function_checks};
 ghost use Rattle.plan_table.specs.Tables.{types_of};
 ghost use Rattle.plan_eval.specs.Function.{under};
 ghost use Rattle.plan_eval.specs.Given.{Gives};
-ghost use Rattle.plan_value.specs.Shown.{frame_of, schema_of, values_of};
+ghost use Rattle.plan_value.specs.Shown.{frame_of, schema_of};
 
 use crate::count::counted;
 use crate::explode::exploded;
 use crate::unpivot::unpivoted;
-use plan_core::{DataType, Items, PlSmallStr, TryClone};
+use plan_core::{DataType, PlSmallStr, TryClone};
+use plan_file_tables::row_numbers;
 use plan_function::Renaming;
 use plan_ir::FunctionIR;
-use plan_table::{AnyValue, Column, Columns, Table, Tables};
+use plan_table::{Column, Columns, Table, Tables};
 use std::alloc::{AllocError, Global};
 
 /// A column under the name that its own gets.
@@ -62,24 +62,6 @@ fn renamed(
         height: table.height,
         columns: all_renamed(alloc, &table.columns, &names)?,
     })
-}
-
-/// The number of a row where the first has this one; whole numbers wrap at 64 bits.
-fn row_number(first: u32, row: usize) -> i64
-    ensures { result ≡ int_wrap w64 (pos (first + row)) }
-{
-    (first as u64).wrapping_add(row as u64).cast_signed()
-}
-
-/// The numbers of so many rows from a first one on.
-fn row_numbers(alloc: Global, first: u32, height: usize) -> Result<Items<AnyValue>, AllocError>
-    ensures { IfOk result (λ numbers. values_of numbers ≡ row_numbers_of first height) }
-{
-    let mut numbers = Items::new(alloc);
-    for row in 0..height {
-        numbers.push(AnyValue::Int64(row_number(first, row)))?;
-    }
-    Ok(numbers)
 }
 
 /// The columns behind one of a new name.

@@ -1,6 +1,6 @@
 //! An addition gives the columns of its input, and one for each of its expressions: in the place of the one of its name, or
 //! last.
-ghost use Rattle.std.specs.Prelude.{◌≡◌, List, [], ◌∷◌, All, IfOk};
+ghost use Rattle.std.specs.Prelude.{List, [], ◌∷◌, All, IfOk};
 ghost use Rattle.plan_core.specs.declared.options.ProjectionOptions.{ProjectionOptions};
 ghost use Rattle.plan_expr.specs.Operands.{IsExpr};
 ghost use Rattle.plan_expr.specs.Exprs.{all_named_at};

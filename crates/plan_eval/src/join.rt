@@ -1,5 +1,5 @@
 //! A join gives a row for each pair of rows that it picks of two tables, with the columns of both.
-ghost use Rattle.std.specs.Prelude.{◌≡◌, ◌++◌, List, All, IfOk, map};
+ghost use Rattle.std.specs.Prelude.{◌++◌, List, All, IfOk, map};
 ghost use Rattle.plan_core.specs.Columns.{Columns as ColumnTypes};
 ghost use Rattle.plan_expr.specs.Exprs.{all_named_at};
 ghost use Rattle.plan_expr.specs.Operands.{IsExpr};

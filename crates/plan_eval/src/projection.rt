@@ -1,5 +1,5 @@
 //! A simple projection gives some columns of its input, in its order.
-ghost use Rattle.std.specs.Prelude.{◌≡◌, List, [], ◌∷◌, IfOk};
+ghost use Rattle.std.specs.Prelude.{List, [], ◌∷◌, IfOk};
 ghost use Rattle.plan_ir.specs.Plans.{simple_projection};
 ghost use Rattle.plan_table.specs.declared.source_key.SourceKey.{SourceKey};
 ghost use Rattle.plan_table.specs.declared.table.Table.{Table as TableType};

@@ -7,14 +7,14 @@ ghost use Rattle.std.specs.declared.option.Option.{Option as OptionType};
 ghost use Rattle.plan_expr.specs.Operands.{IsExpr};
 ghost use Rattle.plan_expr.specs.Exprs.{all_named_at};
 ghost use Rattle.plan_ir.specs.Plans.{sort as sort_op};
-ghost use Rattle.plan_frame.specs.Orders.{AreSorted, key_cells, rows_cmp};
+ghost use Rattle.plan_frame.specs.Orders.{AreSorted, rows_cmp};
 ghost use Rattle.plan_meaning.specs.Typing.{AllHold, key_checks};
 ghost use Rattle.plan_table.specs.declared.source_key.SourceKey.{SourceKey};
 ghost use Rattle.plan_table.specs.declared.table.Table.{Table as TableType};
 ghost use Rattle.plan_table.specs.Tables.{HasRows};
 ghost use Rattle.plan_eval.specs.Given.{Gives};
 ghost use Rattle.plan_value.specs.Cells.{cells_of};
-ghost use Rattle.plan_value.specs.Shown.{frame_of, schema_of};
+ghost use Rattle.plan_value.specs.Shown.{schema_of};
 
 use plan_core::Arena;
 use plan_expr::{AExpr, ExprIR};

@@ -1,5 +1,5 @@
 //! A sink gives the rows of its input, and so does a cache.
-ghost use Rattle.std.specs.Prelude.{◌≡◌, List, [], ◌∷◌, IfOk, ℕ};
+ghost use Rattle.std.specs.Prelude.{List, [], ◌∷◌, IfOk, ℕ};
 ghost use Rattle.plan_ir.specs.Plans.{cache as cache_op, sink as sink_op};
 ghost use Rattle.plan_options.specs.declared.sink.SinkType.{SinkType};
 ghost use Rattle.plan_table.specs.declared.source_key.SourceKey.{SourceKey};

@@ -1,13 +1,12 @@
 //! A union gives the rows of its inputs in turn, whether or not it is to keep them in order.
 ghost use Rattle.std.specs.Prelude.{◌≡◌, List, IfOk, map};
 ghost use Rattle.std.specs.List.{AllByRecursion};
-ghost use Rattle.plan_core.specs.Columns.{HasDistinctNames};
 ghost use Rattle.plan_ir.specs.Plans.{union as union_op};
 ghost use Rattle.plan_meaning.specs.Typing.{AllHold, checks};
 ghost use Rattle.plan_options.specs.declared.union.UnionOptions.{UnionOptions};
 ghost use Rattle.plan_table.specs.declared.source_key.SourceKey.{SourceKey};
 ghost use Rattle.plan_table.specs.declared.table.Table.{Table as TableType};
-ghost use Rattle.plan_table.specs.Tables.{HasRows, types_of};
+ghost use Rattle.plan_table.specs.Tables.{HasRows};
 ghost use Rattle.plan_value.specs.Shown.{frame_of, schema_of};
 ghost use Rattle.plan_eval.specs.Given.{Gives};
 ghost use Rattle.plan_eval.specs.Stacks.{shown_tables};

@@ -14,6 +14,10 @@ use Rattle.plan_scan.specs.Sources.{path_name}
 use Rattle.plan_scan.specs.Stats.{Stats, columns_of}
 use Rattle.plan_value.specs.Shown.{value_of}
 
+-- the frame without rows and columns
+abbrev pub no_frame : Frame
+no_frame = record { height = 0; columns = [] }
+
 -- a source of a scan: where its rows are, the values of its hive columns, and its table
 pub record Part : Type 0 where
   pub source : Source

@@ -15,9 +15,9 @@ use Rattle.plan_scan.specs.Stats.{Stats, named_among}
 use Rattle.plan_scan.specs.declared.file_scan.FileScan.{FileScan}
 use Rattle.plan_scan.specs.declared.file_scan.FileScan.TheVariants as kinds
 use Rattle.plan_files.specs.FileColumns.{file_columns, hive_columns, lacking, path_columns, plain_columns, read_names, row_columns}
-use Rattle.plan_files.specs.FileReads.{first_alone, is_counted, is_given, left_names, own_names, stand_in}
+use Rattle.plan_files.specs.FileReads.{first_alone, is_counted, is_given, is_read, is_told, left_names, own_names, stand_in}
 use Rattle.plan_files.proofs.FileLemmas.{names-files, type_of-files}
-use Rattle.plan_file_narrowing.specs.Left.{AreAmong, AreRead, Found, ReadsAreLeft, has_columns, is_read, left_parts}
+use Rattle.plan_file_narrowing.specs.Left.{AreAmong, AreRead, Found, ReadsAreLeft, left_parts}
 use Rattle.plan_file_narrowing.proofs.NameLemmas.{distinct_where, has_where, name_passes, names-where, where_has}
 use Rattle.plan_file_narrowing.proofs.ScanColumns.{hive-left}
 
@@ -97,7 +97,7 @@ found_at None None None (Some t) e f g h = cc
 found_at None (Some t) reader path e f g h = cc
 found_at (Some t) hive reader path e f g h = cc
 
-read_of : (told : Option (List Name)) (reader hive : Columns) (a : Name) → has (names_of (plain_columns reader hive)) a ≡ true → has_columns told a ≡ true → has (read_names told reader hive) a ≡ true
+read_of : (told : Option (List Name)) (reader hive : Columns) (a : Name) → has (names_of (plain_columns reader hive)) a ≡ true → is_told told a ≡ true → has (read_names told reader hive) a ≡ true
 read_of None reader hive a i h = i
 read_of (Some given) reader hive a i h = h
 
@@ -149,7 +149,7 @@ module _ (wanted : List Name) (kind : FileScan) (told : Option (List Name)) (rea
         let found = own_found asked a i in
         let wants = (where_has (λ (b : Name). not (is_given hive options b)) wanted a i).0 in
         let plain : has (names_of (plain_columns reader hive)) a ≡ true = subst (λ (l : List Name). has l a ≡ true) (sym (names-where (λ (b : Name). not (has (names_of hive) b)) reader)) (has_where (λ (b : Name). not (has (names_of hive) b)) (names_of reader) a found.1 (sym (some-type_of reader a) ∙ found.0)) in
-        read_of told reader hive a plain (read_plain (has (names_of (plain_columns reader hive)) a) (has_columns told a) plain (were a wants))
+        read_of told reader hive a plain (read_plain (has (names_of (plain_columns reader hive)) a) (is_told told a) plain (were a wants))
 
     pub left_before : (a : Name) → has (left_names kind wanted (read_names told reader hive) hive options) a ≡ true → has (read_names told reader hive) a ≡ true
     left_before a i = at (list_all (is_counted options) wanted) i

@@ -12,7 +12,7 @@ use Rattle.plan_scan.specs.Stats.{Stats, named_among}
 use Rattle.plan_scan.specs.declared.file_scan.FileScan.{FileScan}
 use Rattle.plan_scan.specs.declared.stats.ColumnStats.{ColumnStats}
 use Rattle.plan_files.specs.FileColumns.{file_columns, hive_columns, path_columns, plain_columns, read_names}
-use Rattle.plan_files.specs.FileReads.{is_counted}
+use Rattle.plan_files.specs.FileReads.{is_counted, is_read}
 use Rattle.plan_files.specs.HiveParts.{are_alike, are_one_each}
 
 -- the asked columns of a part
@@ -67,15 +67,6 @@ AreAmong few names = (a : Name) → has few a ≡ true → has names a ≡ true
 -- a reader finds the column, and it is no hive column
 abbrev pub Found : (reader hive : Columns) → Name → Type 0
 Found reader hive a = (is_some (type_of reader a) ≡ true) × (not (has (names_of hive) a) ≡ true)
-
--- a name is among those told; where none are told, each is
-abbrev pub has_columns : Option (List Name) → Name → Bool
-has_columns None a = true
-has_columns (Some given) a = has given a
-
--- a name is read where it is one of the columns that are read from the files
-abbrev pub is_read : Option (List Name) → Columns → Name → Bool
-is_read told plain a = not (has (names_of plain) a) || has_columns told a
 
 -- each of the names is read where it is one of the columns that are read from the files
 abbrev pub AreRead : Option (List Name) → Columns → List Name → Type 0

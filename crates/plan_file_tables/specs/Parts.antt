@@ -1,17 +1,13 @@
 -- The sources of a scan, each with its hive columns and its frame.
 use Rattle.std.specs.Prelude.{ℕ, List, [], map, Option, None, Some, option_copied, option_map, slice_get, unwrap_or}
 use Rattle.std.specs.Borrow.{Bor}
-use Rattle.plan_file_frames.specs.FileFrames.{Part}
+use Rattle.plan_file_frames.specs.FileFrames.{Part, no_frame}
 use Rattle.plan_frame.specs.Frames.{Frame}
 use Rattle.plan_scan.specs.Sources.{source_of}
 use Rattle.plan_scan.specs.Stats.{Stats}
 use Rattle.plan_table.specs.declared.table.Table.{Table}
 use Rattle.plan_value.specs.Shown.{frame_of}
 use Rattle.plan_file_tables.specs.declared.parts.Part.{Part as Lent}
-
--- the frame without rows and columns
-abbrev pub no_frame : Frame
-no_frame = record { height = 0; columns = [] }
 
 -- the frame of a table that is lent, if there is one; else the one without rows and columns
 abbrev pub frame_found : Option (Bor Table) → Frame

@@ -1,5 +1,5 @@
 -- Which columns a scan may read for what it is asked.
-use Rattle.std.specs.Prelude.{Bool, not, ◌||◌, List, [], ◌∷◌, filter, if◌then◌else◌}
+use Rattle.std.specs.Prelude.{Bool, true, not, ◌||◌, List, [], ◌∷◌, filter, Option, None, Some, if◌then◌else◌}
 use Rattle.std.specs.List.{list_all}
 use Rattle.plan_core.specs.Columns.{Columns, names_of}
 use Rattle.plan_core.specs.Names.{has}
@@ -8,6 +8,15 @@ use Rattle.plan_expr.specs.Leaves.{Name}
 use Rattle.plan_scan.specs.declared.file_scan.FileScan.{FileScan}
 use Rattle.plan_scan.specs.declared.file_scan.FileScan.TheVariants as kinds
 use Rattle.plan_files.specs.FileColumns.{path_columns, row_columns}
+
+-- a name is among those told; where none are told, each is
+abbrev pub is_told : Option (List Name) → Name → Bool
+is_told None a = true
+is_told (Some told) a = has told a
+
+-- a name is read where it is one of the columns that are read from the files
+abbrev pub is_read : Option (List Name) → Columns → Name → Bool
+is_read told plain a = not (has (names_of plain) a) || is_told told a
 
 -- the column numbers the rows, or has their paths
 abbrev pub is_counted : FileScanOptions → Name → Bool

@@ -19,9 +19,9 @@ use Rattle.plan_scan.specs.Sources.{sources_of}
 use Rattle.plan_scan.specs.declared.file_scan.FileScan.{FileScan}
 use Rattle.plan_scan.specs.declared.file_scan.FileScan.TheVariants as kinds
 use Rattle.plan_files.specs.FileColumns.{file_columns, hive_columns, path_columns, plain_columns, read_names, row_columns}
-use Rattle.plan_files.specs.FileReads.{first_alone, is_counted, is_given, left_names, own_names, stand_in}
+use Rattle.plan_files.specs.FileReads.{first_alone, is_counted, is_given, is_read, is_told, left_names, own_names, stand_in}
 use Rattle.plan_files.proofs.FileLemmas.{type_of-files}
-use Rattle.plan_meaning.specs.Typing.{has_columns, columns_or, is_read, reader_columns, scan_columns, all_read, put_out_checks, subset_checks, first_schema, schema_by, schemas, checks, AllHold, AllValid}
+use Rattle.plan_meaning.specs.Typing.{columns_or, reader_columns, scan_columns, all_read, put_out_checks, subset_checks, first_schema, schema_by, schemas, checks, AllHold, AllValid}
 use Rattle.plan_frame.specs.Beside.{side_by_side}
 use Rattle.plan_frame.specs.Frames.{names_or}
 use Rattle.plan_frame.specs.Made.{made_schema}
@@ -205,21 +205,21 @@ fair_asks op a ss os good k f = absurd (cc)
 
 -- scans
 
-all_read_each : (told : Option (List Name)) (cs : Columns) → all_read told cs ≡ true → AllByRecursion (λ (c : Name × DataType). has_columns told c.0 ≡ true) cs
+all_read_each : (told : Option (List Name)) (cs : Columns) → all_read told cs ≡ true → AllByRecursion (λ (c : Name × DataType). is_told told c.0 ≡ true) cs
 all_read_each told [] h = tt
-all_read_each told (c ∷ cs) h = let p = and_parts (has_columns told c.0) (all_read told cs) h in (p.0, all_read_each told cs p.1)
+all_read_each told (c ∷ cs) h = let p = and_parts (is_told told c.0) (all_read told cs) h in (p.0, all_read_each told cs p.1)
 
 second_parts : (file : Columns) (told : Option (List Name)) (plain cs : Columns) → AllByRecursion (λ (c : Name × DataType). (is_column file c && is_read told plain c.0) ≡ true) cs → AllByRecursion (λ (c : Name × DataType). is_read told plain c.0 ≡ true) cs
 second_parts file told plain [] h = tt
 second_parts file told plain (c ∷ cs) h = ((and_parts (is_column file c) (is_read told plain c.0) h.0).1, second_parts file told plain cs h.1)
 
 -- what a scan puts out of its files' own columns is read
-pub out_read : (output : Option Columns) (told : Option (List Name)) (plain file : Columns) → AllHold (put_out_checks output told plain file) → (a : Name) → has (names_of (columns_or output file)) a ≡ true → has (names_of plain) a ≡ true → has_columns told a ≡ true
+pub out_read : (output : Option Columns) (told : Option (List Name)) (plain file : Columns) → AllHold (put_out_checks output told plain file) → (a : Name) → has (names_of (columns_or output file)) a ≡ true → has (names_of plain) a ≡ true → is_told told a ≡ true
 unfolding put_out_checks
-out_read None told plain file h a i j = column_passes (λ (x : Name). has_columns told x ≡ true) plain (all_read_each told plain h.0) a j
+out_read None told plain file h a i j = column_passes (λ (x : Name). is_told told x ≡ true) plain (all_read_each told plain h.0) a j
 out_read (Some out) told plain file h a i j = at (has (names_of plain) a) j (column_passes (λ (x : Name). is_read told plain x ≡ true) out (second_parts file told plain out (each_pass SchemaMismatch 1 (λ (c : Name × DataType). is_column file c && is_read told plain c.0) out h)) a i)
   where
-    at : (b : Bool) → b ≡ true → (not b || has_columns told a) ≡ true → has_columns told a ≡ true
+    at : (b : Bool) → b ≡ true → (not b || is_told told a) ≡ true → is_told told a ≡ true
     at true e q = q
     at false e q = cc
 
@@ -261,7 +261,7 @@ names-where p (c ∷ cs) = at (p c.0) (names-where p cs)
     at true r = ap (λ (l : List Name). c.0 ∷ l) r
     at false r = r
 
-read_of : (told : Option (List Name)) (reader hive : Columns) (a : Name) → has (names_of (plain_columns reader hive)) a ≡ true → has_columns told a ≡ true → has (read_names told reader hive) a ≡ true
+read_of : (told : Option (List Name)) (reader hive : Columns) (a : Name) → has (names_of (plain_columns reader hive)) a ≡ true → is_told told a ≡ true → has (read_names told reader hive) a ≡ true
 read_of None reader hive a i h = i
 read_of (Some given) reader hive a i h = h
 

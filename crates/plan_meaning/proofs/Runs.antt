@@ -18,7 +18,7 @@ use Rattle.plan_meaning.specs.Checks.{is_column, is_plain_type}
 use Rattle.plan_meaning.specs.Typing.{columns_or, reader_columns, scan_columns, first_schema, schema_by, schema, schemas, checks, AllHold, AllValid}
 use Rattle.plan_files.specs.FileColumns.{hive_columns, plain_columns}
 use Rattle.plan_files.proofs.FileLemmas.{path_apart}
-use Rattle.plan_file_frames.specs.FileFrames.{parts_of, scan_frame}
+use Rattle.plan_file_frames.specs.FileFrames.{no_frame, parts_of, scan_frame}
 use Rattle.plan_file_frames.proofs.ScanFrames.{scan_has}
 use Rattle.plan_scan.specs.Sources.{sources_of as scan_sources}
 use Rattle.plan_frame.specs.Made.{made_schema, made, selected, grouped}
@@ -26,7 +26,7 @@ use Rattle.plan_frame.specs.Beside.{side_by_side}
 use Rattle.plan_frame.specs.Frames.{Frame, HasSchema, Holds, HoldsAll, cut, in_turn, beside, rows_at}
 use Rattle.plan_frame.specs.Meaning.{are_alike, val}
 use Rattle.plan_frame.specs.Orders.{key_cells, rows_cmp, told_columns}
-use Rattle.plan_meaning.specs.Contents.{Contents, no_frame, handed_in, HasHandedIn, frames_of, FitsAt, FitsAll, Fits}
+use Rattle.plan_meaning.specs.Contents.{Contents, handed_in, HasHandedIn, frames_of, FitsAt, FitsAll, Fits}
 use Rattle.plan_meaning.specs.Steps.{Step, MayAll, May, IsValid}
 use Rattle.plan_frame.specs.Rows.{filtered, true_rows, slice_rows}
 use Rattle.plan_frame.proofs.FrameLemmas.{rows_schema, schema_holds, all_hold, cut_schema, is_type_some}

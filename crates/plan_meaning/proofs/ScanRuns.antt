@@ -15,12 +15,13 @@ use Rattle.plan_frame.proofs.NameSets.{named, same_named}
 use Rattle.plan_scan.specs.Source.{Source as ScanSource}
 use Rattle.plan_scan.specs.Stats.{Stats, columns_of}
 use Rattle.plan_files.specs.FileColumns.{hive_columns}
+use Rattle.plan_files.specs.FileReads.{is_read}
 use Rattle.plan_files.specs.HiveParts.{are_alike, are_one_each, are_typed}
-use Rattle.plan_file_frames.specs.FileFrames.{PartFits, parts_of}
+use Rattle.plan_file_frames.specs.FileFrames.{PartFits, no_frame, parts_of}
 use Rattle.plan_ir.specs.declared.scan.FileInfo.{FileInfo}
 use Rattle.plan_meaning.specs.Checks.{is_column, is_none}
-use Rattle.plan_meaning.specs.Contents.{Contents, HasFrame, Source, frame_or, no_frame, place_of}
-use Rattle.plan_meaning.specs.Typing.{columns_or, is_built_scan, is_read, put_out_checks, AllHold}
+use Rattle.plan_meaning.specs.Contents.{Contents, HasFrame, Source, frame_or, place_of}
+use Rattle.plan_meaning.specs.Typing.{columns_or, is_built_scan, put_out_checks, AllHold}
 use Rattle.plan_meaning.proofs.CheckParts.{each_pass, same_is}
 
 -- each of columns whose names differ has its own type

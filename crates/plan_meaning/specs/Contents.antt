@@ -12,6 +12,7 @@ use Rattle.plan_ir.specs.declared.functions.FunctionIR.{FunctionIR}
 use Rattle.plan_ir.specs.declared.functions.FunctionIR.TheVariants.{Rename, RowIndex, Unpivot, Explode, FastCount}
 use Rattle.plan_ir.specs.Plans.{Op, slice, filter, scan, frame_scan, simple_projection, select, hstack, sort, group_by, join, distinct, map_function, sink, union, hconcat, cache, invalid, Plan}
 use Rattle.plan_expr.specs.Leaves.{Name}
+use Rattle.plan_file_frames.specs.FileFrames.{no_frame}
 use Rattle.plan_frame.specs.Frames.{Frame, IsFrame, HoldsAll}
 use Rattle.plan_meaning.specs.Typing.{reader_columns}
 
@@ -35,10 +36,6 @@ Contents = List (Source × Frame)
 -- the frame of a source, if it has one
 abbrev pub frame_at : Contents → Source → Option Frame
 frame_at c s = lookup (same_source s) c
-
--- the frame without rows and columns
-abbrev pub no_frame : Frame
-no_frame = record { height = 0; columns = [] }
 
 -- the frame of a source, the empty one where it has none
 abbrev pub frame_or : Contents → Source → Frame

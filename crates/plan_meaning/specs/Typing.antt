@@ -18,6 +18,7 @@ use Rattle.plan_ir.specs.declared.functions.FunctionIR.{FunctionIR}
 use Rattle.plan_ir.specs.declared.functions.FunctionIR.TheVariants.{Rename, RowIndex, Unpivot, Explode, FastCount}
 use Rattle.plan_ir.specs.declared.functions.UnpivotArgsIR.{UnpivotArgsIR}
 use Rattle.plan_files.specs.FileColumns.{file_columns, hive_columns, plain_columns}
+use Rattle.plan_files.specs.FileReads.{is_read, is_told}
 use Rattle.plan_files.specs.HiveParts.{are_alike, are_one_each}
 use Rattle.plan_ir.specs.declared.scan.FileInfo.{FileInfo}
 use Rattle.plan_scan.specs.Sources.{sources_of}
@@ -96,11 +97,6 @@ schema (rose n op ts) = schema_by op (schemas ts)
 
 -- Checks
 
--- a name is among those told; where none are told, each is
-abbrev pub has_columns : Option (List Name) → Name → Bool
-has_columns None a = true
-has_columns (Some given) a = has given a
-
 -- a filter's predicate has a form, reads columns of the input, is Boolean, and is named as it may be
 abbrev pub filter_checks : Named → Columns → List Check
 filter_checks e s =
@@ -125,11 +121,7 @@ projection_checks cs s =
 -- each column is read
 abbrev pub all_read : Option (List Name) → Columns → Bool
 all_read told [] = true
-all_read told (c ∷ cs) = has_columns told c.0 && all_read told cs
-
--- a name is read where it is one of the columns that are read from the files
-abbrev pub is_read : Option (List Name) → Columns → Name → Bool
-is_read told plain a = not (has (names_of plain) a) || has_columns told a
+all_read told (c ∷ cs) = is_told told c.0 && all_read told cs
 
 -- what a scan puts out has the files' types and is read where it is read from the files; a scan that puts out everything reads all that is
 unfoldable pub put_out_checks : Option Columns → Option (List Name) → (plain file : Columns) → List Check

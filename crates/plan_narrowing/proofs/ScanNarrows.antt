@@ -19,6 +19,7 @@ use Rattle.plan_scan.specs.Stats.{Stats}
 use Rattle.plan_scan.specs.declared.file_scan.FileScan.{FileScan}
 use Rattle.plan_scan.specs.declared.sources.ScanSources.{ScanSources}
 use Rattle.plan_files.specs.FileColumns.{hive_columns, plain_columns}
+use Rattle.plan_files.specs.FileReads.{is_read}
 use Rattle.plan_file_frames.specs.FileFrames.{parts_of, scan_frame}
 use Rattle.plan_ir.specs.declared.scan.FileInfo.{FileInfo}
 use Rattle.plan_ir.specs.Plans.{Op, scan, simple_projection}
@@ -27,7 +28,7 @@ use Rattle.plan_meaning.specs.Checks.{is_empty, is_known, is_column}
 use Rattle.plan_meaning.specs.Contents.{Contents, frames_of}
 use Rattle.plan_meaning.specs.Relating.{names, Holding}
 use Rattle.plan_meaning.specs.Steps.{Step}
-use Rattle.plan_meaning.specs.Typing.{columns_or, is_built_scan, is_read, put_out_checks, reader_columns, scan_columns, checks, AllHold}
+use Rattle.plan_meaning.specs.Typing.{columns_or, is_built_scan, put_out_checks, reader_columns, scan_columns, checks, AllHold}
 use Rattle.plan_meaning.proofs.AskedSets.{columns_good, has_some, known_some, some_name}
 use Rattle.plan_meaning.proofs.CheckParts.{each_pass, pass_each, is_same, pass_names, ScanGood, scan_good, good_scan}
 use Rattle.plan_meaning.proofs.JoinLemmas.{differ_distinct, distinct_differ}

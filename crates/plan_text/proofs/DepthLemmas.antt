@@ -1,4 +1,4 @@
--- Plans and listings nest few levels, so the text of a plan reads back.
+-- Plans nest few levels, so the text of a plan reads back.
 use Rattle.std.proofs.Common.{◌≡◌, ℕ, ℤ, suc, max, ◌≤◌, Bool, List, [], ◌∷◌, map, Option, Some, None, refl, arith}
 use Rattle.serde_json.specs.Data.{Data, boolean, string, depth, items_depth}
 use Rattle.serde_json.specs.Read.{max_depth}
@@ -33,8 +33,6 @@ use Rattle.plan_options.specs.declared.join.InequalityOperator.{InequalityOperat
 use Rattle.plan_options.specs.declared.sort.SortMultipleOptions.{SortMultipleOptions}
 use Rattle.plan_options.specs.declared.union.HConcatOptions.{HConcatOptions}
 use Rattle.plan_options.specs.declared.union.UnionOptions.{UnionOptions}
-use Rattle.plan_table.specs.declared.column.Column.{Column}
-use Rattle.plan_table.specs.declared.table.Table.{Table}
 use Rattle.plan_table.specs.declared.value.AnyValue.{AnyValue}
 use Rattle.plan_table.specs.declared.value.AnyValue.TheVariants as values
 use Rattle.plan_table.specs.declared.value.PlainValue.{PlainValue}
@@ -46,8 +44,7 @@ use Rattle.plan_text_pieces.specs.JoinOptions.{second_items, inequalities_data, 
 use Rattle.plan_text_pieces.specs.Functions.{rename_data, numbering_data, unpivot_data, explode_data, count_data, frame_function_data}
 use Rattle.plan_text.specs.Exprs.{literal_data, expr_data}
 use Rattle.plan_text.specs.Nodes.{slice_node_data, scan_data, frame_scan_data, made_data, sort_data, group_by_data, join_data, distinct_data, map_function_data, union_data, hconcat_data, cache_data, node_data}
-use Rattle.plan_text.specs.Rows.{column_data, table_data}
-use Rattle.plan_text.specs.Written.{plan_data, listing_data}
+use Rattle.plan_text.specs.Written.{plan_data}
 
 both : (a b k : ℕ) → a ≤ k → b ≤ k → max a b ≤ k
 both a b k p q = omega arith
@@ -311,18 +308,3 @@ plan_nests lp ex root =
 
 pub plan_deep : (lp : List IR) (ex : List AExpr) (root : Node) → depth (plan_data lp ex root) ≤ max_depth
 plan_deep lp ex root = let few = plan_nests lp ex root in omega arith
-
-column_deep : (c : Column) → depth (column_data c) ≤ 3
-column_deep c = let below = list_deep value_data 1 c.values value_deep in omega arith
-
-table_deep : (t : Table) → depth (table_data t) ≤ 5
-table_deep t = let below = list_deep column_data 3 t.columns column_deep in omega arith
-
--- a listing nests at most 8 levels
-pub listing_deep : (lp : List IR) (ex : List AExpr) (root : Node) (reads : List (List (List ℕ))) (rows : Option Table) → depth (listing_data lp ex root reads rows) ≤ 8
-unfolding listing_data
-listing_deep lp ex root reads rows =
-    let of_plan = plan_nests lp ex root in
-    let of_reads = list_deep names_data 1 reads names_deep in
-    let of_rows = nullable_deep table_data 5 rows table_deep in
-    omega arith

@@ -1,5 +1,5 @@
 //! The tables of a document: whether they fit its plan, and the rows that a plan gives over them.
-ghost use Rattle.std.specs.Prelude.{◌≡◌, List, [], ◌∷◌, IfOk, IfSome};
+ghost use Rattle.std.specs.Prelude.{List, [], ◌∷◌, IfOk, IfSome};
 ghost use Rattle.plan_expr.specs.declared.aexpr.AExpr.{AExpr as AExprType};
 ghost use Rattle.plan_ir.specs.Parts.{IsPlan};
 ghost use Rattle.plan_ir.specs.Plans.{plans_at};

@@ -3,7 +3,7 @@ use Rattle.plan_core.specs.declared.data_type.DataType.{DataType}
 use Rattle.plan_core.specs.declared.error.PolarsError.TheVariants.{SchemaMismatch}
 use Rattle.plan_meaning.specs.Checks.{is_column}
 use Rattle.plan_files.specs.FileColumns.{hive_columns, plain_columns}
-use Rattle.plan_meaning.specs.Typing.{is_read}
+use Rattle.plan_files.specs.FileReads.{is_read}
 use Rattle.plan_function.proofs.CheckLemmas.{left-next, left-bad, past}
 use Rattle.plan_check.proofs.scan_types.check_outputs.Goals.{in-Some+else-not-is_put_out, in_default}
 use Rattle.plan_check.proofs.scan_types.check_outputs.Goals as goal

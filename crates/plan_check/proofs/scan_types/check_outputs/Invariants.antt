@@ -1,8 +1,8 @@
 use Rattle.std.proofs.Common.{◌&&◌}
 use Rattle.plan_core.specs.declared.error.PolarsError.TheVariants.{SchemaMismatch}
 use Rattle.plan_files.specs.FileColumns.{hive_columns, plain_columns}
+use Rattle.plan_files.specs.FileReads.{is_read}
 use Rattle.plan_meaning.specs.Checks.{is_column}
-use Rattle.plan_meaning.specs.Typing.{is_read}
 use Rattle.plan_function.proofs.CheckLemmas.{Left}
 use Rattle.plan_check.proofs.scan_types.check_outputs.Given as goal
 

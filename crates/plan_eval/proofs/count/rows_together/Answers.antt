@@ -1,4 +1,4 @@
-use Rattle.std.proofs.Common.{◌≡◌, ◌∙◌, ◌%◌, ◌^◌, ℕ, List, Option, Some, None, refl, rules, ap, arith, to_z}
+use Rattle.std.proofs.Common.{◌∙◌, ◌%◌, ◌^◌, ℕ, List, Option, rules, ap, arith, to_z}
 use Rattle.std.specs.Borrow.{Bor}
 use Rattle.std.specs.Int.{w64}
 use Rattle.std.proofs.lemmas.Int.{to_z-of_z}
