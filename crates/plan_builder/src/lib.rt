@@ -8,7 +8,5 @@ mod join;
 pub mod laws;
 mod made;
 mod simple;
-#[cfg(test)]
-mod tests;
 
 pub use builder::IRBuilder;

@@ -1,28 +1,21 @@
 //! The checks on one small plan, and on the same plan with a number met twice.
 
-use crate::made::{at, columns, frame, named};
 use plan_check::{check_plan, check_tree};
-use plan_core::{
-    Arena, DataType, FileScanOptions, Items, Node, PlSmallStr, PlainType, PolarsError,
-    PolarsResult, Schema, TryClone,
-};
+use plan_core::{Arena, At, DataType, FileScanOptions, Items, Node, PlSmallStr, PolarsError};
 use plan_expr::{AExpr, ExprIR, FunctionExpr, LiteralValue, Operator, OutputName};
 use plan_ir::{FileInfo, FileScan, IR, ScanSources, expr_depth, plan_depth};
-use plan_options::{GroupbyOptions, HConcatOptions};
+use plan_made::{names, schema};
 use std::alloc::{AllocError, Global};
 use std::test::Fail;
 
 /// The scan of t, with the columns a and b.
 fn scan(alloc: Global) -> Result<IR, AllocError> {
-    let mut paths = Items::new(alloc);
-    paths.push(PlSmallStr::new(alloc, "t")?)?;
-    let schema = columns(alloc, &["a", "b"])?;
-    let reader_schema = Some(schema.try_clone(alloc)?);
+    let columns = [("a", DataType::Int64), ("b", DataType::Int64)];
     Ok(IR::Scan {
-        sources: ScanSources::Paths(paths),
+        sources: ScanSources::Paths(names(alloc, &["t"])?),
         file_info: FileInfo {
-            schema,
-            reader_schema,
+            schema: schema(alloc, &columns)?,
+            reader_schema: Some(schema(alloc, &columns)?),
         },
         hive_parts: None,
         predicate: None,
@@ -32,17 +25,21 @@ fn scan(alloc: Global) -> Result<IR, AllocError> {
     })
 }
 
+/// The filter of a node by the expression 0, which is named after the column b.
+fn filter(alloc: Global, input: Node) -> Result<IR, AllocError> {
+    let name = OutputName::ColumnLhs(PlSmallStr::new(alloc, "b")?);
+    let predicate = ExprIR::new(Node(0), name);
+    Ok(IR::Filter { input, predicate })
+}
+
 /// Column a of the rows of t where b is more than 1: a projection, a filter over `input`, and the scan 2.
 fn nodes(alloc: Global, input: usize) -> Result<Arena<IR>, AllocError> {
     let mut lp = Arena::new(alloc);
     lp.add(IR::SimpleProjection {
         input: Node(1),
-        columns: columns(alloc, &["a"])?,
+        columns: schema(alloc, &[("a", DataType::Int64)])?,
     })?;
-    lp.add(IR::Filter {
-        input: Node(input),
-        predicate: named(alloc, 0, "b")?,
-    })?;
+    lp.add(filter(alloc, Node(input))?)?;
     lp.add(scan(alloc)?)?;
     Ok(lp)
 }
@@ -60,6 +57,14 @@ fn exprs(alloc: Global, right: usize) -> Result<Arena<AExpr>, AllocError> {
     Ok(ex)
 }
 
+/// A place of the node of a number.
+fn at(node: usize, place: u32) -> At {
+    At {
+        node: Some(Node(node)),
+        place,
+    }
+}
+
 /// The fault of a bad number at a place.
 fn bad_number(node: usize, place: u32) -> PolarsError {
     PolarsError::ComputeError(at(node, place))
@@ -70,8 +75,8 @@ fn a_plan_has_a_schema_and_a_depth(rt: HostRuntime) -> Result<(), Fail> {
     let alloc = rt.alloc();
     let lp = nodes(alloc, 2)?;
     let ex = exprs(alloc, 2)?;
-    let schema = check_plan(alloc, Node(0), &lp, &ex)?;
-    assert!(rt; schema == columns(alloc, &["a"])?);
+    let found = check_plan(alloc, Node(0), &lp, &ex)?;
+    assert!(rt; found == schema(alloc, &[("a", DataType::Int64)])?);
     assert_eq!(rt; plan_depth(alloc, Node(0), &lp)?, Some(3));
     assert_eq!(rt; expr_depth(alloc, Node(0), &ex)?, Some(2));
     Ok(())
@@ -136,72 +141,5 @@ fn a_function_carries_its_own_options(rt: HostRuntime) -> Result<(), Fail> {
         options: FunctionExpr::Not.options(),
     };
     assert_eq!(rt; told_of(rt.alloc(), function)?, Some(no_form()));
-    Ok(())
-}
-
-/// Column a as the key, and column b under a name: the list of its values in each group.
-fn grouping(alloc: Global, name: &str) -> Result<IR, AllocError> {
-    let mut keys = Items::new(alloc);
-    keys.push(named(alloc, 0, "a")?)?;
-    let mut aggs = Items::new(alloc);
-    let alias = OutputName::Alias(PlSmallStr::new(alloc, name)?);
-    aggs.push(ExprIR::new(Node(1), alias))?;
-    Ok(IR::GroupBy {
-        input: Node(1),
-        keys,
-        aggs,
-        schema: columns(alloc, &["a", name])?,
-        maintain_order: true,
-        options: GroupbyOptions::default(),
-    })
-}
-
-#[test]
-fn a_grouping_gathers_values(rt: HostRuntime) -> Result<(), Fail> {
-    let alloc = rt.alloc();
-    let mut ex = Arena::new(alloc);
-    ex.add(AExpr::Column(PlSmallStr::new(alloc, "a")?))?;
-    ex.add(AExpr::Column(PlSmallStr::new(alloc, "b")?))?;
-    for (name, fault) in [("l", None), ("a", Some(PolarsError::Duplicate(at(0, 2))))] {
-        let mut lp = Arena::new(alloc);
-        lp.add(grouping(alloc, name)?)?;
-        lp.add(scan(alloc)?)?;
-        let answer = check_plan(alloc, Node(0), &lp, &ex);
-        if let Ok(schema) = &answer {
-            assert_eq!(rt; schema.len(), 2);
-            assert!(rt; schema.get(name).copied() == Some(DataType::List(PlainType::Int64)));
-        }
-        assert_eq!(rt; answer.err(), fault, "of {name}");
-    }
-    Ok(())
-}
-
-/// What is told of two frames side by side, the second with this column, under the columns a and c.
-fn told_beside(alloc: Global, name: &str) -> PolarsResult<Schema> {
-    let mut inputs = Items::new(alloc);
-    inputs.push(Node(1))?;
-    inputs.push(Node(2))?;
-    let mut lp = Arena::new(alloc);
-    lp.add(IR::HConcat {
-        inputs,
-        schema: columns(alloc, &["a", "c"])?,
-        options: HConcatOptions::default(),
-    })?;
-    for name in ["a", name] {
-        lp.add(frame(columns(alloc, &[name])?))?;
-    }
-    check_plan(alloc, Node(0), &lp, &Arena::new(alloc))
-}
-
-#[test]
-fn frames_side_by_side_share_no_name(rt: HostRuntime) -> Result<(), Fail> {
-    let alloc = rt.alloc();
-    assert!(rt; told_beside(alloc, "c")? == columns(alloc, &["a", "c"])?);
-    for (name, fault) in [
-        ("a", PolarsError::Duplicate(at(0, 0))),
-        ("b", PolarsError::SchemaMismatch(at(0, 0))),
-    ] {
-        assert_eq!(rt; told_beside(alloc, name).err(), Some(fault), "of {name}");
-    }
     Ok(())
 }

@@ -10,8 +10,6 @@ mod names;
 mod options;
 mod schema;
 mod schema_iter;
-#[cfg(test)]
-mod tests;
 mod text;
 mod try_clone;
 mod unit_vec;

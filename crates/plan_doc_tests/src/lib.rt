@@ -17,6 +17,5 @@ mod joins;
 mod nodes;
 #[cfg(test)]
 mod scans;
-pub mod several;
 #[cfg(test)]
 mod tables;

@@ -1,12 +1,13 @@
 //! What sorts, distinct rows, sinks, unions and caches read as, and entries that are no nodes.
 
-use crate::several::{cache, union};
 use plan_core::{Arena, Items, Node, PlSmallStr};
 use plan_doc::{ReadError, read_document};
 use plan_expr::{ExprIR, OutputName};
 use plan_ir::IR;
 use plan_made::{links, marks, names};
-use plan_options::{DistinctOptionsIR, SinkType, SortMultipleOptions, UniqueKeepStrategy};
+use plan_options::{
+    DistinctOptionsIR, SinkType, SortMultipleOptions, UnionOptions, UniqueKeepStrategy,
+};
 use std::alloc::{AllocError, Global};
 use std::process::Abort;
 use std::test::Fail;
@@ -131,6 +132,31 @@ fn each_kept_row_has_its_name(rt: HostRuntime) -> Result<(), Fail> {
         entry.as_str(),
         distinct(None, UniqueKeepStrategy::Any),
     )
+}
+
+// The union of the nodes of these numbers, which keeps their order where its inputs aren't worked out beside one another.
+fn union(inputs: Items<Node>, slice: Option<(i64, usize)>, parallel: bool) -> IR {
+    IR::Union {
+        inputs,
+        options: UnionOptions {
+            slice,
+            rows: (None, 0),
+            parallel,
+            from_partitioned_ds: false,
+            flattened_by_opt: true,
+            rechunk: false,
+            maintain_order: !parallel,
+        },
+    }
+}
+
+// The cache over the node of a number.
+fn cache(input: usize, id: u32, cache_hits: u32) -> IR {
+    IR::Cache {
+        input: Node(input),
+        id,
+        cache_hits,
+    }
 }
 
 // An input that comes twice, and no input.

@@ -1,39 +1,65 @@
-//! Small plans, and what they give over small tables.
+//! What a small plan gives over tables that fit it, and tables that don't.
 
 use crate::tables::{add, table};
 use plan_check::check_plan;
-use plan_core::{
-    Arena, DataType, FileScanOptions, Items, Node, PlSmallStr, ProjectionOptions, Schema, TryClone,
-};
+use plan_core::{Arena, DataType, FileScanOptions, Items, Node, PlSmallStr, Schema};
 use plan_eval::evaluate;
 use plan_expr::{AExpr, ExprIR, LiteralValue, Operator, OutputName};
 use plan_fit::fits;
 use plan_ir::{FileInfo, FileScan, IR, ScanSources};
+use plan_made::{names, schema};
 use plan_table::{AnyValue, SourceKey, Table, Tables};
 use std::alloc::{AllocError, Global};
+use std::test::Fail;
 
-/// The tables where `key` has this one alone.
-pub fn only(alloc: Global, key: SourceKey, table: Table) -> Result<Tables, AllocError> {
+/// The tables of the file `t`: a table of three rows, with these values of b.
+fn files(alloc: Global, b: &[&str]) -> Result<Tables, AllocError> {
+    let key = SourceKey::Path(PlSmallStr::new(alloc, "t")?);
+    let rows = table(alloc, &["1", "2", "3"], b, &["x", "y", "z"])?;
     let mut tables = Tables::new(alloc);
-    add(key, table, &mut tables)?;
+    add(key, rows, &mut tables)?;
     Ok(tables)
 }
 
-/// The tables of the file `t`: its table alone.
-pub fn file(alloc: Global, table: Table) -> Result<Tables, AllocError> {
-    let key = SourceKey::Path(PlSmallStr::new(alloc, "t")?);
-    only(alloc, key, table)
+/// The columns a, b and c of `t`.
+fn columns(alloc: Global) -> Result<Schema, AllocError> {
+    let (whole, text) = (DataType::Int64, DataType::String);
+    schema(alloc, &[("a", whole), ("b", whole), ("c", text)])
 }
 
-/// The table of a, b and c with three rows.
-pub fn three_rows(alloc: Global, b: &[&str]) -> Result<Table, AllocError> {
-    table(alloc, &["1", "2", "3"], b, &["x", "y", "z"])
+/// The scan of `t`.
+fn scan(alloc: Global) -> Result<IR, AllocError> {
+    Ok(IR::Scan {
+        sources: ScanSources::Paths(names(alloc, &["t"])?),
+        file_info: FileInfo {
+            schema: columns(alloc)?,
+            reader_schema: Some(columns(alloc)?),
+        },
+        hive_parts: None,
+        predicate: None,
+        output_schema: None,
+        scan_type: FileScan::Parquet,
+        file_options: FileScanOptions::default(),
+    })
 }
 
-/// The tables of the file `t`, with three rows.
-pub fn files(alloc: Global) -> Result<Tables, AllocError> {
-    let table = three_rows(alloc, &["2", "1", "5"])?;
-    file(alloc, table)
+/// Adds `b > 1`.
+fn comparison(alloc: Global, ex: &mut Arena<AExpr>) -> Result<Node, AllocError> {
+    let left = ex.add(AExpr::Column(PlSmallStr::new(alloc, "b")?))?;
+    let right = ex.add(AExpr::Literal(LiteralValue::Int64(1)))?;
+    ex.add(AExpr::BinaryExpr {
+        left,
+        op: Operator::Gt,
+        right,
+    })
+}
+
+/// Adds a filter by `b > 1` of the scan.
+fn filter(alloc: Global, lp: &mut Arena<IR>, ex: &mut Arena<AExpr>) -> Result<Node, AllocError> {
+    let input = lp.add(scan(alloc)?)?;
+    let root = comparison(alloc, ex)?;
+    let predicate = ExprIR::new(root, OutputName::ColumnLhs(PlSmallStr::new(alloc, "b")?));
+    lp.add(IR::Filter { input, predicate })
 }
 
 /// The text of a value.
@@ -62,7 +88,7 @@ fn shown(alloc: Global, table: &Table) -> Result<String, AllocError> {
 }
 
 /// The text of the table that a valid plan gives over tables that fit it; else why there is none.
-pub fn given(
+fn given(
     alloc: Global,
     root: Node,
     lp: &Arena<IR>,
@@ -70,101 +96,38 @@ pub fn given(
     tables: &Tables,
 ) -> Result<String, AllocError> {
     if check_plan(alloc, root, lp, ex).is_err() {
-        return Ok(String::from_str(alloc, "invalid")?);
+        return String::from_str(alloc, "invalid");
     }
     if !fits(root, lp, tables) {
-        return Ok(String::from_str(alloc, "unfit")?);
+        return String::from_str(alloc, "unfit");
     }
-    let table = evaluate(alloc, root, lp, ex, tables)?;
-    Ok(shown(alloc, &table)?)
-}
-
-/// Columns; c and p are texts, and the others whole numbers.
-pub fn columns(alloc: Global, names: &[&str]) -> Result<Schema, AllocError> {
-    let mut schema = Schema::new(alloc);
-    for name in names {
-        let dtype = if *name == "c" || *name == "p" {
-            DataType::String
-        } else {
-            DataType::Int64
-        };
-        let _ = schema.with_column(PlSmallStr::new(alloc, *name)?, dtype)?;
+    match evaluate(alloc, root, lp, ex, tables) {
+        Ok(table) => shown(alloc, &table),
+        Err(_) => String::from_str(alloc, "refused"),
     }
-    Ok(schema)
 }
 
-/// Adds the scan of the columns a, b and c of `t`.
-pub fn scan(alloc: Global, lp: &mut Arena<IR>) -> Result<Node, AllocError> {
-    let mut paths = Items::new(alloc);
-    paths.push(PlSmallStr::new(alloc, "t")?)?;
-    let schema = columns(alloc, &["a", "b", "c"])?;
-    let reader_schema = Some(schema.try_clone(alloc)?);
-    Ok(lp.add(IR::Scan {
-        sources: ScanSources::Paths(paths),
-        file_info: FileInfo {
-            schema,
-            reader_schema,
-        },
-        hive_parts: None,
-        predicate: None,
-        output_schema: None,
-        scan_type: FileScan::Parquet,
-        file_options: FileScanOptions::default(),
-    })?)
-}
-
-/// Adds `left op right`, a column and a number.
-pub fn compared(
-    alloc: Global,
-    name: &str,
-    op: Operator,
-    number: i64,
-    ex: &mut Arena<AExpr>,
-) -> Result<Node, AllocError> {
-    let left = ex.add(AExpr::Column(PlSmallStr::new(alloc, name)?))?;
-    let right = ex.add(AExpr::Literal(LiteralValue::Int64(number)))?;
-    Ok(ex.add(AExpr::BinaryExpr { left, op, right })?)
-}
-
-/// Adds an expression to a list, put out under a name as an alias.
-pub fn put_out(
-    alloc: Global,
-    node: Node,
-    name: &str,
-    exprs: &mut Items<ExprIR>,
-) -> Result<(), AllocError> {
-    let output_name = OutputName::Alias(PlSmallStr::new(alloc, name)?);
-    exprs.push(ExprIR::new(node, output_name))
-}
-
-/// What a node gives over tables, whose expressions stand in `ex` and whose inputs in `lp`.
-pub fn given_by(
-    alloc: Global,
-    node: IR,
-    lp: &mut Arena<IR>,
-    ex: &Arena<AExpr>,
-    tables: &Tables,
-) -> Result<String, AllocError> {
-    let root = lp.add(node)?;
-    given(alloc, root, lp, ex, tables)
-}
-
-/// What a selection of the scan gives.
-pub fn selected(
-    alloc: Global,
-    expr: Items<ExprIR>,
-    names: &[&str],
-    ex: &Arena<AExpr>,
-) -> Result<String, AllocError> {
+/// What the filter of the scan gives over tables.
+fn filtered(alloc: Global, tables: &Tables) -> Result<String, AllocError> {
     let mut lp = Arena::new(alloc);
-    let input = scan(alloc, &mut lp)?;
-    let schema = columns(alloc, names)?;
-    let options = ProjectionOptions::default();
-    let node = IR::Select {
-        input,
-        expr,
-        schema,
-        options,
-    };
-    given_by(alloc, node, &mut lp, ex, &files(alloc)?)
+    let mut ex = Arena::new(alloc);
+    let root = filter(alloc, &mut lp, &mut ex)?;
+    given(alloc, root, &lp, &ex, tables)
+}
+
+#[test]
+fn a_filter_keeps_the_rows_that_are_true(rt: HostRuntime) -> Result<(), Fail> {
+    let alloc = rt.alloc();
+    let text = filtered(alloc, &files(alloc, &["2", "null", "5"])?)?;
+    assert_eq!(rt; text.as_str(), "2; a 1 3; b 2 5; c x z");
+    Ok(())
+}
+
+#[test]
+fn tables_fit_by_names_and_types(rt: HostRuntime) -> Result<(), Fail> {
+    let alloc = rt.alloc();
+    let text = filtered(alloc, &files(alloc, &["x", "y", "z"])?)?;
+    assert_eq!(rt; text.as_str(), "unfit");
+    assert_eq!(rt; filtered(alloc, &Tables::new(alloc))?.as_str(), "unfit");
+    Ok(())
 }

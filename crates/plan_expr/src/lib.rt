@@ -14,8 +14,6 @@ mod names;
 mod nodes;
 mod operator;
 mod scalar;
-#[cfg(test)]
-mod tests;
 mod types;
 
 pub use aexpr::AExpr;

@@ -6,7 +6,5 @@ mod left;
 mod names;
 mod output;
 mod reads;
-#[cfg(test)]
-mod tests;
 
 pub use left::{LeftScan, left_scan};

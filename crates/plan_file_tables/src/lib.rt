@@ -5,8 +5,7 @@ mod appended;
 mod numbers;
 mod parts;
 mod scan;
-#[cfg(test)]
-mod tests;
 
 pub use appended::{append, append_column, append_times};
+pub use numbers::row_numbers;
 pub use scan::scan_table;

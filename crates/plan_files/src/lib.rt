@@ -3,8 +3,6 @@
 
 mod columns;
 mod hive;
-#[cfg(test)]
-mod tests;
 
 pub use columns::{FileColumns, file_columns};
 pub use hive::{hive_schema, is_hive, parts_alike, plain_names};

@@ -4,13 +4,13 @@ use crate::made::{filter, greater, projection, scan, texts, union};
 use plan_check::check_tree;
 use plan_core::{Arena, Items, Node, PlSmallStr, PolarsError, TryClone};
 use plan_expr::{AExpr, LiteralValue};
-use plan_ir::{ArenaLpIter, IR, PlanCopy, reads, renumbered, scan_reads};
+use plan_ir::{ArenaLpIter, IR, PlanCopy, into_renumbered, reads, renumbered, scan_reads};
 use plan_tree::{Step, walk};
 use std::alloc::{AllocError, Global};
 use std::test::Fail;
 
 /// The copy of the plan at a root.
-pub fn copied(
+fn copied(
     alloc: Global,
     root: Node,
     lp: &Arena<IR>,
@@ -67,7 +67,7 @@ pub fn is_same<T: PartialEq>(a: &T, b: &T) -> bool {
 }
 
 /// Whether two arenas have equal entries at equal numbers, and as many.
-pub fn have_same<T: PartialEq>(a: &Arena<T>, b: &Arena<T>) -> bool {
+fn have_same<T: PartialEq>(a: &Arena<T>, b: &Arena<T>) -> bool {
     if a.len() != b.len() {
         return false;
     }
@@ -122,53 +122,110 @@ fn walks_over_the_last_input_first(rt: HostRuntime) -> Result<(), Fail> {
     Ok(())
 }
 
+/// The plan at a root, taken out of its arenas.
+fn taken(
+    alloc: Global,
+    root: Node,
+    lp: Arena<IR>,
+    ex: Arena<AExpr>,
+) -> Result<PlanCopy, PolarsError> {
+    check_tree(alloc, root, &lp, &ex)?;
+    Ok(into_renumbered(alloc, root, lp, ex)?)
+}
+
+/// Whether a plan is the small one alone, in walk order.
+fn is_in_order(alloc: Global, plan: &PlanCopy) -> Result<bool, AllocError> {
+    Ok(
+        plan.root == Node(0)
+            && have_same(&plan.lp, &nodes_in_order(alloc)?)
+            && have_same(&plan.ex, &exprs_in_order(alloc)?),
+    )
+}
+
 #[test]
 fn renumbers_in_walk_order(rt: HostRuntime) -> Result<(), Fail> {
     let alloc = rt.alloc();
-    let lp = nodes_at_five(alloc)?;
-    let ex = exprs_at_four(alloc)?;
-    let copy = copied(alloc, Node(5), &lp, &ex)?;
-    assert_eq!(rt; copy.root, Node(0));
-    assert_eq!(rt; copy.lp.len(), 3);
-    assert!(rt; have_same(&copy.lp, &nodes_in_order(alloc)?));
-    assert_eq!(rt; copy.ex.len(), 3);
-    assert!(rt; have_same(&copy.ex, &exprs_in_order(alloc)?));
+    let copy = copied(
+        alloc,
+        Node(5),
+        &nodes_at_five(alloc)?,
+        &exprs_at_four(alloc)?,
+    )?;
+    assert!(rt; is_in_order(alloc, &copy)?);
     Ok(())
 }
 
 #[test]
-fn takes_nodes_apart_and_puts_them_back(rt: HostRuntime) -> Result<(), Fail> {
+fn takes_a_plan_out_in_walk_order(rt: HostRuntime) -> Result<(), Fail> {
+    let alloc = rt.alloc();
+    let plan = taken(alloc, Node(5), nodes_at_five(alloc)?, exprs_at_four(alloc)?)?;
+    assert!(rt; is_in_order(alloc, &plan)?);
+    Ok(())
+}
+
+/// Whether a node has these inputs.
+pub fn has_inputs(alloc: Global, node: &IR, inputs: &[Node]) -> Result<bool, AllocError> {
+    let all = node.get_inputs_vec(alloc)?;
+    let few = node.get_inputs(alloc)?;
+    Ok(all.as_slice() == inputs && few.as_slice() == inputs)
+}
+
+/// Whether a union lists its inputs in order.
+fn union_lists_inputs(alloc: Global) -> Result<bool, AllocError> {
+    let several = union(alloc, &[Node(7), Node(5)])?;
+    has_inputs(alloc, &several, &[Node(7), Node(5)])
+}
+
+#[test]
+fn lists_inputs_of_nodes(rt: HostRuntime) -> Result<(), Fail> {
+    assert!(rt; union_lists_inputs(rt.alloc())?);
+    Ok(())
+}
+
+#[test]
+fn puts_a_node_back(rt: HostRuntime) -> Result<(), Fail> {
     let alloc = rt.alloc();
     let node = filter(alloc, Node(2), Node(4))?;
     let exprs = node.get_exprs(alloc)?;
-    let mut inputs = Items::new(alloc);
-    inputs.push(Node(2))?;
-    assert_eq!(rt; node.get_inputs_vec(alloc)?.as_slice(), inputs.as_slice());
-    assert_eq!(rt; node.get_inputs(alloc)?.as_slice(), inputs.as_slice());
-    let several = union(alloc, &[Node(7), Node(5)])?;
-    assert_eq!(rt;
-        several.get_inputs_vec(alloc)?.as_slice(),
-        [Node(7), Node(5)].as_slice()
-    );
-    assert_eq!(rt;
-        several.get_inputs(alloc)?.as_slice(),
-        [Node(7), Node(5)].as_slice()
-    );
-    assert_eq!(rt; several.get_exprs(alloc)?.len(), 0);
-    let mut copies = Items::new(alloc);
-    node.copy_exprs(alloc, &mut copies)?;
-    assert_eq!(rt; copies.len(), 1);
-    let copy = node.with_exprs_and_input(alloc, exprs, inputs)?;
+    let copy = node.with_exprs_and_input(alloc, exprs, node.get_inputs_vec(alloc)?)?;
     assert!(rt; is_same(&copy, &node));
     Ok(())
 }
 
+/// The numbers of the expressions that a node lists.
+pub fn listed(alloc: Global, node: &IR) -> Result<Items<Node>, AllocError> {
+    let exprs = node.get_exprs(alloc)?;
+    let mut nodes = Items::new(alloc);
+    for expr in exprs.as_slice() {
+        nodes.push(expr.node)?;
+    }
+    Ok(nodes)
+}
+
+/// The number that a filter lists.
+fn listed_of_a_filter(alloc: Global) -> Result<Items<Node>, AllocError> {
+    let node = filter(alloc, Node(2), Node(4))?;
+    listed(alloc, &node)
+}
+
 #[test]
 fn lists_expressions_of_nodes(rt: HostRuntime) -> Result<(), Fail> {
-    let alloc = rt.alloc();
-    let exprs = filter(alloc, Node(2), Node(4))?.get_exprs(alloc)?;
-    assert_eq!(rt; exprs.len(), 1);
-    assert_eq!(rt; exprs.as_slice()[0].node, Node(4));
+    let nodes = listed_of_a_filter(rt.alloc())?;
+    assert_eq!(rt; nodes.as_slice(), [Node(4)].as_slice());
+    Ok(())
+}
+
+/// How many expressions a filter adds to a list.
+fn copied_of_a_filter(alloc: Global) -> Result<usize, AllocError> {
+    let node = filter(alloc, Node(2), Node(4))?;
+    let mut copies = Items::new(alloc);
+    node.copy_exprs(alloc, &mut copies)?;
+    Ok(copies.len())
+}
+
+#[test]
+fn copies_expressions_of_nodes(rt: HostRuntime) -> Result<(), Fail> {
+    assert_eq!(rt; copied_of_a_filter(rt.alloc())?, 1);
     Ok(())
 }
 

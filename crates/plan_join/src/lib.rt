@@ -5,8 +5,6 @@ pub mod laws;
 mod options;
 mod origin;
 mod schema;
-#[cfg(test)]
-mod tests;
 
 pub use options::{JoinOptions, JoinTypeOptionsIR};
 pub use origin::{Side, join_origin};

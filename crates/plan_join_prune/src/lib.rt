@@ -7,8 +7,6 @@ mod names;
 mod origins;
 mod pruned;
 mod sides;
-#[cfg(test)]
-mod tests;
 mod top;
 
 pub use arguments::narrowed_args;

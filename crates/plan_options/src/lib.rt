@@ -10,8 +10,6 @@ pub mod laws;
 mod schemas;
 mod sink;
 mod sort;
-#[cfg(test)]
-mod tests;
 mod texts;
 mod union;
 

@@ -5,8 +5,6 @@ mod kinds;
 pub mod laws;
 mod matches;
 mod pairs;
-#[cfg(test)]
-mod tests;
 
 pub use kinds::goes_right;
 pub use matches::Matches;

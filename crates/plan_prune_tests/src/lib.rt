@@ -1,23 +1,10 @@
-//! The tests of plan_prune, and the scans that their plans stand on. They stand apart from it, so that it is proved once,
-//! and not with its tests again.
+//! The tests of plan_prune and plan_join_prune. They stand apart from these, so that each is proved once, and not with its tests again.
+//! What pruning leaves of each node is told by the documents of plan_cases.
 #![tactic(auto)]
 
 #[cfg(test)]
-mod asked;
+mod joined;
 #[cfg(test)]
-mod counts;
-#[cfg(test)]
-mod grouped;
-#[cfg(test)]
-mod made;
-mod parts;
+mod pruned;
 #[cfg(test)]
 mod samples;
-#[cfg(test)]
-mod scans;
-#[cfg(test)]
-mod shared;
-#[cfg(test)]
-mod written;
-
-pub use parts::{columns_named, scan_of};

@@ -2,7 +2,5 @@
 #![tactic(auto)]
 
 mod renamed;
-#[cfg(test)]
-mod tests;
 
 pub use renamed::copy_renamed;

@@ -13,8 +13,6 @@ mod path_values;
 mod source_iter;
 mod sources;
 mod stats;
-#[cfg(test)]
-mod tests;
 
 pub use field::Field;
 pub use file_scan::FileScan;

@@ -6,8 +6,6 @@ mod columns;
 mod source_key;
 mod table;
 mod tables;
-#[cfg(test)]
-mod tests;
 mod value;
 
 pub use column::Column;

@@ -10,6 +10,3 @@ pub use deeper::is_deeper;
 pub use entry::Entry;
 pub use levels::depth_of;
 pub use walking::{Step, Walked, walk};
-
-#[cfg(test)]
-mod tests;

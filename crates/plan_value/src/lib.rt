@@ -12,8 +12,6 @@ mod operators;
 mod orders;
 mod rows;
 mod spread;
-#[cfg(test)]
-mod tests;
 
 pub use exprs::{Values, column, evaluate_expr, filled, is_true_at, value_at};
 pub use gathered::evaluate_groups;
