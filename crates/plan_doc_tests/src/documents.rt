@@ -2,7 +2,7 @@
 
 use plan_core::{Arena, Node, PlSmallStr};
 use plan_doc::{ReadError, read_document};
-use plan_expr::{AExpr, ExprIR, Operator, OutputName};
+use plan_expr::{ExprIR, OutputName};
 use plan_ir::{FileScan, IR};
 use std::alloc::{AllocError, Global};
 use std::process::Abort;
@@ -38,43 +38,6 @@ fn other_bytes_are_no_documents(rt: HostRuntime) -> Result<(), Fail> {
         (deeper.as_bytes(), ReadError::NotJson),
     ] {
         assert_eq!(rt; read_document(alloc, bytes).err(), Some(want));
-    }
-    Ok(())
-}
-
-fn starts_with(rt: &impl Abort, ex: &Arena<AExpr>, op: Operator) {
-    let wanted = AExpr::BinaryExpr {
-        left: Node(1),
-        op,
-        right: Node(2),
-    };
-    assert_eq!(rt; ex.len(), 3);
-    assert!(rt; *ex.get(Node(0)) == wanted, "another operator than {op:?}");
-}
-
-#[test]
-fn each_operator_has_its_name(rt: HostRuntime) -> Result<(), Fail> {
-    let alloc = rt.alloc();
-    for (name, op) in [
-        ("Eq", Operator::Eq),
-        ("NotEq", Operator::NotEq),
-        ("Lt", Operator::Lt),
-        ("LtEq", Operator::LtEq),
-        ("Gt", Operator::Gt),
-        ("GtEq", Operator::GtEq),
-        ("EqValidity", Operator::EqValidity),
-        ("NotEqValidity", Operator::NotEqValidity),
-        ("And", Operator::And),
-        ("Or", Operator::Or),
-        ("Xor", Operator::Xor),
-        ("Plus", Operator::Plus),
-        ("Minus", Operator::Minus),
-        ("Multiply", Operator::Multiply),
-    ] {
-        let named = format!(in alloc; "\"operator\":\"{name}\"")?;
-        let text = GOOD.replacen(alloc, r#""operator":"Gt""#, named.as_str(), 1)?;
-        let document = read_document(alloc, text.as_bytes())?;
-        starts_with(&rt, &document.ex, op);
     }
     Ok(())
 }

@@ -4,18 +4,6 @@
 #[cfg(test)]
 mod documents;
 #[cfg(test)]
-mod exprs;
-#[cfg(test)]
-mod functions;
-#[cfg(test)]
 mod further;
 #[cfg(test)]
-mod groups;
-#[cfg(test)]
-mod joins;
-#[cfg(test)]
 mod nodes;
-#[cfg(test)]
-mod scans;
-#[cfg(test)]
-mod tables;

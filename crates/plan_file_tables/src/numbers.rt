@@ -15,7 +15,7 @@ fn row_number(first: u32, row: usize) -> i64
     (first as u64).wrapping_add(row as u64).cast_signed()
 }
 
-/// The numbers of so many rows from a first one on.
+/// The numbers of so many rows from a first one on, each one more, wrapping at 64 bits. Refuses for want of memory alone.
 pub fn row_numbers(alloc: Global, first: u32, height: usize) -> Result<Items<AnyValue>, AllocError>
     ensures { IfOk result (λ numbers. values_of numbers ≡ row_numbers_of first height) }
 {
