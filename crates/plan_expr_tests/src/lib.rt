@@ -1,4 +1,4 @@
-//! The tests of plan_expr, plan_join, plan_pairs, plan_value and plan_renamed. They stand apart from these, so that each is proved once,
+//! The tests of plan_expr, plan_join, plan_value and plan_renamed. They stand apart from these, so that each is proved once,
 //! and not with its tests again.
 #![tactic(auto)]
 
@@ -8,8 +8,6 @@ mod exprs;
 mod joins;
 #[cfg(test)]
 mod operators;
-#[cfg(test)]
-mod pairs;
 #[cfg(test)]
 mod renamed;
 #[cfg(test)]
