@@ -2,13 +2,8 @@
 //! subject. The program prints each case that is answered otherwise, and of each file how many cases it has.
 #![tactic(auto)]
 
-mod answers;
-mod cases;
-mod words;
-
-use cases::{Line, all_tried, cases_among};
+use plan_answers::{Line, Words, all_tried, cases_among, lines_of};
 use std::{env, fs, io};
-use words::{Words, lines_of};
 
 /// Tries the cases of a file, prints those that are answered otherwise, and gives how many there are.
 fn cases_of(rt: &HostRuntime, known: &str, name: &str) -> io::Result<usize> {
