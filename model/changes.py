@@ -27,8 +27,8 @@ class Changing(Chance):
         document = copy.deepcopy(document)
         for _ in range(self.one_of(1, 1, 1, 2, 3)):
             nodes, exprs = document["nodes"], document["exprs"]
-            change = self.one_of(self.node, self.node, self.node, self.columns, self.columns, self.expression, self.put_out)
-            change(self.one_of(*nodes), nodes, exprs)
+            changes = (self.node, self.node, self.columns, self.columns, self.expression, self.put_out, self.twice)
+            self.one_of(*changes)(self.one_of(*nodes), nodes, exprs)
         if self.chance(0.03):
             document["root"] = self.random.randint(0, len(document["nodes"]))
         if document["tables"] and self.chance(0.1):
@@ -96,7 +96,23 @@ class Changing(Chance):
                 case 1:
                     named[1] = self.one_of("col", "lit", "alias")
                 case 2:
-                    named[1:] = "alias", self.one_of(self.one_of(*NAMES), self.one_of(*found)[2])
+                    named[2] = self.one_of(*NAMES)
+
+    def twice(self, entry, *_):
+        """Makes it likely that a name comes twice among the columns of a node."""
+        match entry:
+            case {"op": "Join"}:
+                entry["suffix"] = ""
+            case {"function": {"RowIndex": told}}:
+                told["name"] = self.one_of(*NAMES)
+            case {"function": {"Unpivot": told}}:
+                told["value_name"] = self.one_of("variable", *told["index"])
+            case {"function": {"Rename": told}} if told["new"]:
+                told[self.one_of("existing", "new")][-1] = self.one_of(told["new"][0], *NAMES)
+            case _:
+                found = expressions_of(entry)
+                if len(found) > 1:
+                    found[-1][1:] = "alias", found[0][2]
 
     def columns(self, entry, *_):
         """Changes a list of columns or of names."""
