@@ -114,7 +114,7 @@ class Drawing(Chance):
         """A window, or, where there is nothing to tell rows apart by, one row of many."""
         if not is_scalar(function):
             function = {"op": "Agg", "kind": self.one_of("First", "Last"), "input": function}
-        keys = [self.expression(there, self.any_type(there), self.one_of(0, 0, levels - 1)) for _ in self.some("kk", 1)]
+        keys = [self.expression(there, self.any_type(there), self.one_of(0, 0, levels - 1)) for _ in range(self.one_of(1, 2))]
         return {"op": "Window", "function": function, "partition_by": keys} if there else function
 
     def of_type(self, there, data_type, below, by_rows):
@@ -248,7 +248,7 @@ class Drawing(Chance):
 
     def sort(self, below):
         there = columns(below)
-        keys = [self.expression(there, self.plain_type(there), self.one_of(0, 0, 1)) for _ in self.some("kk", 1)]
+        keys = [self.expression(there, self.plain_type(there), self.one_of(0, 0, 1)) for _ in range(self.one_of(1, 2))]
         return {
             "op": "Sort", "inputs": [below], "by": [self.put_out(it) for it in keys],
             "descending": self.marks(self.one_of(1, len(keys))), "nulls_last": self.marks(self.one_of(1, len(keys))),
@@ -360,7 +360,7 @@ class Drawing(Chance):
         if not common:
             return False
         is_plain = {"left_on": node["how"] in ("Right", "Full"), "right_on": node["how"] != "Right"}
-        for _ in self.some("kk", 1):
+        for _ in range(self.one_of(1, 2)):
             of = self.one_of(*sorted(common))
             for key, there in zip(is_plain, sides):
                 found = [name for name, it in there if it == of]
