@@ -4,6 +4,7 @@ import random
 from columns import coalesces, columns, file_columns, function_columns, hive_columns, join_columns, made, names, types
 from documents import plan
 from expressions import COMPARISONS, LOGIC, PLAIN, element, is_elementwise, is_list, is_scalar, own_name, type_of
+from form import COALESCE
 
 TABLE = {
     "a": "Int64", "b": "Int64", "c": "String", "d": "Boolean", "e": "List(Int64)", "f": "String", "g": "Int64",
@@ -18,7 +19,6 @@ NUMBERS = (0, 1, 2, 3, -1, 5, 2**63 - 1, -(2**63))
 TEXTS = ("", "x", "y", "é", "xy", "_right")
 ORDERS = ("None", "None", "Left", "Right", "LeftRight", "RightLeft")
 KINDS = ("Inner", "Inner", "Left", "Left", "Right", "Full", "Cross", "Semi", "Anti", "IEJoin")
-COALESCE = ("JoinSpecific", "CoalesceColumns", "KeepColumns")
 
 
 class Chance:
