@@ -124,34 +124,34 @@ fn side_names(
     Ok(names)
 }
 
-/// What a join that is asked names asks of its left side, and what of its right side; and from which of their columns it takes those
-/// that it puts out. Refuses for want of memory alone.
+/// What a join that is asked names asks of its left side, and what of its right side. It is told from which of their columns it takes
+/// those that it puts out. Refuses for want of memory alone.
 pub fn asks(
     alloc: Global,
     asked: &Names,
     left_on: &[ExprIR],
     right_on: &[ExprIR],
     options: &JoinOptions,
+    origins: &Origins,
     left: &Schema,
     right: &Schema,
     ex: &Arena<AExpr>,
-) -> Result<(Items<Names>, Origins), AllocError>
+) -> Result<Items<Names>, AllocError>
     requires left_keys { All (λ e. IsExpr ex.now e.node) left_on.now }
     requires right_keys { All (λ e. IsExpr ex.now e.node) right_on.now }
     requires condition { All (λ e. IsExpr ex.now e.node) (list_of (condition_of options.now)) }
-    ensures lists { IfOk result (λ r. r.0 ≡
+    requires origins { (a : Name) → origin_in origins.now a ≡ origin_of (all_named_at ex.now left_on.now) (all_named_at ex.now right_on.now) (told_at ex.now options.now) left.now right.now a }
+    ensures { IfOk result (λ lists. lists ≡
         left_asked (all_named_at ex.now left_on.now) (all_named_at ex.now right_on.now) (told_at ex.now options.now) asked.now left.now right.now
         ∷ right_asked (all_named_at ex.now left_on.now) (all_named_at ex.now right_on.now) (told_at ex.now options.now) asked.now left.now right.now
         ∷ []) }
-    ensures origins { IfOk result (λ r. (a : Name) → origin_in r.1 a ≡ origin_of (all_named_at ex.now left_on.now) (all_named_at ex.now right_on.now) (told_at ex.now options.now) left.now right.now a) }
 {
-    let origins = Origins::new(alloc, &options.args, left_on, right_on, left, right, ex)?;
     let needed = needed_names(alloc, options, asked, ex)?;
     let needed = needed.as_slice();
     let mut lists = Items::new(alloc);
-    lists.push(side_names(alloc, Side::Left, left_on, &origins, left, needed, ex)?)?;
-    lists.push(side_names(alloc, Side::Right, right_on, &origins, right, needed, ex)?)?;
-    Ok((lists, origins))
+    lists.push(side_names(alloc, Side::Left, left_on, origins, left, needed, ex)?)?;
+    lists.push(side_names(alloc, Side::Right, right_on, origins, right, needed, ex)?)?;
+    Ok(lists)
 }
 
 /// What a join that is asked nothing asks of its left side, and what of its right side: nothing, but of the right side what the keys

@@ -1,7 +1,7 @@
 //! The pass that prunes a plan to the columns that it needs.
 //! Each node is told the names that are asked of it, and asks its inputs the names that it needs;
 //! no names stand for every column. The rule of a node kind is in a file of its own of plan_prune_steps, and its `step` finds it.
-ghost use Rattle.std.specs.Prelude.{◌≡◌, ◌<◌, ◌≤◌, ◌+◌, [], ◌∷◌, Err, IfOk, OnOk, ◌||◌, false, length, not, true};
+ghost use Rattle.std.specs.Prelude.{◌≡◌, ◌<◌, ◌≤◌, ◌+◌, [], ◌∷◌, Err, IfOk, OnOk, ◌||◌, false, length, not, slice_set, true};
 ghost use Rattle.plan_ir.specs.Parts.{IsPlan};
 ghost use Rattle.plan_ir.specs.Plans.{bare, plans_at};
 ghost use Rattle.plan_meaning.specs.PlanAt.{plan_at};
@@ -57,6 +57,7 @@ fn given_back(
 ) -> Result<(), AllocError>
     requires { node.0 < length lp.old }
     ensures refused { result ≡ Err refused }
+    ensures back { lp.new ≡ slice_set lp.old node.0 entry }
     ensures grows { length lp.old ≤ length lp.new }
 {
     lp.put(node, entry);
@@ -134,7 +135,7 @@ impl ProjectionPushDown {
             self.is_count_star = true;
         }
         let kept = join::keep(alloc, &entry, &asked, lp, ex)?;
-        let step = step::prepare(alloc, entry, asked, lp, ex)?;
+        let step = step::prepare(alloc, entry, asked, &kept, lp, ex)?;
         Ok(step.keeping(kept))
     }
 

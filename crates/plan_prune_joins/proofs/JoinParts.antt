@@ -1,5 +1,5 @@
 -- The parts of a join: what stands at its sides, its keys and its condition, and what is kept of it.
-use Rattle.std.proofs.Common.{◌≡◌, All, length, List, [], ◌∷◌, ◌++◌, Option, None, Some, refl, ap, ap₂, subst, arith}
+use Rattle.std.proofs.Common.{◌≡◌, ◌∙◌, All, length, List, [], ◌∷◌, ◌++◌, Option, None, Some, true, refl, ap, ap₂, subst, arith}
 use Rattle.plan_core.specs.declared.arena.Node.{Node}
 use Rattle.plan_core.specs.Columns.{Columns}
 use Rattle.plan_tree.specs.Stands.{Trees, StandsOnce}
@@ -10,7 +10,7 @@ use Rattle.plan_expr.specs.Leaves.{Name}
 use Rattle.plan_expr.specs.Operands.{IsExpr}
 use Rattle.plan_ir.specs.declared.ir.IR.{IR}
 use Rattle.plan_ir.specs.declared.ir.IR.TheVariants.{Slice, Filter, Scan, DataFrameScan, SimpleProjection, Select, HStack, Sort, GroupBy, Join, Distinct, MapFunction, Sink, Union, HConcat, Cache, Invalid}
-use Rattle.plan_ir.specs.Parts.{condition_of, list_of, plan_shape, roots_of}
+use Rattle.plan_ir.specs.Parts.{condition_of, is_join, list_of, plan_shape, roots_of}
 use Rattle.plan_join.specs.declared.options.JoinOptions.{JoinOptions}
 use Rattle.plan_join.specs.declared.origin.Side.{Side}
 use Rattle.plan_join.specs.Told.{told_at}
@@ -54,6 +54,41 @@ join_stands ex left right schema left_on right_on options h =
 pub keeps_some : (asked : List Name) (by : Name → Option (Side × Name)) (k : Kept) → (length asked ≡ 0 → ⊥) → k.asked ≡ asked → ((a : Name) → origin_in k.origins a ≡ by a) → Keeps asked by (Some k)
 keeps_some [] by k some names same = absurd (some refl)
 keeps_some (a ∷ asked) by k some names same = (k, refl, names, same)
+
+-- where something is kept of a join, something is asked, and from which columns its names are is kept
+pub kept_some : (asked : List Name) (by : Name → Option (Side × Name)) (k : Kept) → Keeps asked by (Some k) → length asked ≡ 0 → ⊥
+kept_some [] by k kept e = cc
+kept_some (b ∷ asked) by k kept e = omega (arith, e)
+
+pub kept_origins : (asked : List Name) (by : Name → Option (Side × Name)) (k : Kept) → Keeps asked by (Some k) → (a : Name) → origin_in k.origins a ≡ by a
+kept_origins [] by k kept a = cc
+kept_origins (b ∷ asked) by k (other, is, names, same) a =
+    let own : k ≡ other = cc in
+    ap (λ (x : Kept). origin_in x.origins a) own ∙ same a
+
+-- where nothing is kept of a join, nothing is asked
+pub kept_none : (asked : List Name) (by : Name → Option (Side × Name)) → Keeps asked by None → [] ≡ asked
+kept_none [] by kept = refl
+kept_none (b ∷ asked) by (k, is, names, same) = cc
+
+pub unkept_join : (lp : List IR) (ex : List AExpr) (asked : List Name) (p : IR) → is_join p ≡ true → IsKept lp ex asked p None → [] ≡ asked
+unkept_join lp ex asked (Join left right schema left_on right_on options) e kept = kept_none asked _ kept
+unkept_join lp ex asked (Slice j offset len) e kept = cc
+unkept_join lp ex asked (Filter j predicate) e kept = cc
+unkept_join lp ex asked (Scan sources info hive predicate output kind options) e kept = cc
+unkept_join lp ex asked (DataFrameScan df schema output) e kept = cc
+unkept_join lp ex asked (SimpleProjection j cs) e kept = cc
+unkept_join lp ex asked (Select j es schema options) e kept = cc
+unkept_join lp ex asked (HStack j es schema options) e kept = cc
+unkept_join lp ex asked (Sort j keys part options) e kept = cc
+unkept_join lp ex asked (GroupBy j keys aggs schema ordered options) e kept = cc
+unkept_join lp ex asked (Distinct j options) e kept = cc
+unkept_join lp ex asked (MapFunction j function) e kept = cc
+unkept_join lp ex asked (Sink j payload) e kept = cc
+unkept_join lp ex asked (Union inputs options) e kept = cc
+unkept_join lp ex asked (HConcat inputs schema options) e kept = cc
+unkept_join lp ex asked (Cache j id hits) e kept = cc
+unkept_join lp ex asked Invalid e kept = cc
 
 -- of a node nothing is kept where nothing is asked
 pub keeps_none : (lp : List IR) (ex : List AExpr) (asked : List Name) (p : IR) → length asked ≡ 0 → IsKept lp ex asked p None

@@ -2,7 +2,7 @@
 //! the asked columns under their names on top where it puts out others, or some under other names. It needs the columns that the
 //! sides had before. Asked nothing it stays as it is over the pruned sides: a side that it puts out is asked nothing, and another what
 //! the keys read.
-ghost use Rattle.std.specs.Prelude.{◌≡◌, ◌<◌, ◌≤◌, ◌∷◌, [], All, List, IfOk, IsTrue, None, OnOk, length};
+ghost use Rattle.std.specs.Prelude.{◌≡◌, ◌<◌, ◌≤◌, ◌∷◌, [], All, List, IfOk, IsTrue, None, OnOk, Some, length};
 ghost use Rattle.plan_core.specs.declared.arena.Node.{Node as NodeType};
 ghost use Rattle.plan_tree.specs.Stands.{Trees, StandsOnce};
 ghost use Rattle.plan_expr.specs.Exprs.{all_named_at};
@@ -145,16 +145,17 @@ fn told(
     Ok(options)
 }
 
-/// The step of a join that is asked names.
+/// The step of a join that is asked names, by what is kept of it.
 fn prepare_asked(
     alloc: Global,
     join: IR,
     asked: &Names,
+    kept: &Kept,
     lp: &Arena<IR>,
     ex: &Arena<AExpr>,
 ) -> Result<Step, AllocError>
     requires kind { IsTrue (is_join join) }
-    requires some { length asked.now ≡ 0 → ⊥ }
+    requires kept { IsKept lp.now ex.now asked.now join (Some kept.now) }
     requires exprs { StandExprs ex.now (roots_of join) }
     requires inputs { (t : Trees IR) × StandsOnce plan_shape lp.now (inputs_of join) t }
     ensures { IfOk result (λ step. step ≡ step_of_join lp.now ex.now asked.now join) }
@@ -170,12 +171,13 @@ fn prepare_asked(
         } => {
             let left = stored_schema(alloc, input_left, lp)?;
             let right = stored_schema(alloc, input_right, lp)?;
-            let (lists, _) = asks(
+            let lists = asks(
                 alloc,
                 asked,
                 left_on.as_slice(),
                 right_on.as_slice(),
                 &options,
+                &kept.origins,
                 left.columns(),
                 right.columns(),
                 ex,
@@ -196,23 +198,25 @@ fn prepare_asked(
     }
 }
 
-/// The step of a join.
+/// The step of a join, by what is kept of it.
 pub fn prepare(
     alloc: Global,
     join: IR,
     asked: &Names,
+    kept: &Option<Kept>,
     lp: &Arena<IR>,
     ex: &Arena<AExpr>,
 ) -> Result<Step, AllocError>
     requires kind { IsTrue (is_join join) }
+    requires kept { IsKept lp.now ex.now asked.now join kept.now }
     requires exprs { StandExprs ex.now (roots_of join) }
     requires inputs { (t : Trees IR) × StandsOnce plan_shape lp.now (inputs_of join) t }
     ensures { IfOk result (λ step. step ≡ step_of_join lp.now ex.now asked.now join) }
 {
-    if asked.len() == 0 {
-        return prepare_unasked(alloc, join, ex);
+    match kept {
+        Some(kept) => prepare_asked(alloc, join, asked, kept, lp, ex),
+        None => prepare_unasked(alloc, join, ex),
     }
-    prepare_asked(alloc, join, asked, lp, ex)
 }
 
 /// Puts a join at `node`, or at a new number under what goes on top, which takes `node`. Refuses for want of memory alone, and then

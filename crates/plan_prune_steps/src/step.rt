@@ -7,6 +7,7 @@ ghost use Rattle.plan_ir.specs.declared.ir.IR.{IR};
 ghost use Rattle.plan_ir.specs.Parts.{IsPlan, inputs_of, is_join, plan_shape, roots_of};
 ghost use Rattle.plan_renamed.specs.Renamed.{IsLonger};
 ghost use Rattle.plan_prune_parts.specs.declared.kept.Kept.{Kept as KeptType};
+ghost use Rattle.plan_prune_joins.specs.Joined.{IsKept};
 ghost use Rattle.plan_prune_steps.specs.Steps.{IsPutBack, put_back, step_of};
 ghost use Rattle.plan_prune_parts.specs.Places.{StandExprs};
 
@@ -21,14 +22,17 @@ use plan_prune_joins::join;
 use plan_prune_parts::{Kept, Step};
 use std::alloc::{AllocError, Global};
 
-/// The step of a node that was taken and is asked these names, of which nothing is kept yet; no names stand for every column.
+/// The step of a node that was taken and is asked these names, by what is kept of it, which the step doesn't have yet; no names
+/// stand for every column.
 pub fn prepare(
     alloc: Global,
     entry: IR,
     asked: Names,
+    kept: &Option<Kept>,
     lp: &Arena<IR>,
     ex: &Arena<AExpr>,
 ) -> Result<Step, AllocError>
+    requires kept { IsKept lp.now ex.now asked entry kept.now }
     requires exprs { StandExprs ex.now (roots_of entry) }
     requires inputs { (t : Trees IR) × StandsOnce plan_shape lp.now (inputs_of entry) t }
     requires plans { (j : ℕ) (i : NodeType) → slice_get (inputs_of entry) j ≡ Some i → IsPlan lp.now ex.now i }
@@ -46,7 +50,7 @@ pub fn prepare(
         addition @ IR::HStack { .. } => hstack::prepare(alloc, addition, asked, lp, ex),
         sort @ IR::Sort { .. } => sort::prepare(sort, asked, ex),
         grouping @ IR::GroupBy { .. } => group_by::prepare(alloc, grouping, &asked, lp, ex),
-        join @ IR::Join { .. } => join::prepare(alloc, join, &asked, lp, ex),
+        join @ IR::Join { .. } => join::prepare(alloc, join, &asked, kept, lp, ex),
         IR::Distinct { input, options } => distinct::prepare(alloc, input, options, asked, lp),
         IR::MapFunction { input, function } => function::prepare(alloc, input, function, asked, lp),
         IR::Sink { input, payload } => Ok(sink::prepare(input, payload, asked)),

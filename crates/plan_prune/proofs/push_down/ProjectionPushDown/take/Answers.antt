@@ -16,6 +16,9 @@ keep-requires-clause-exprs c = plan_exprs c.args.lp.now c.args.ex.now c.args.nod
 pub keep-requires-clause-inputs : goal.keep-requires-clause-inputs
 keep-requires-clause-inputs c = inputs_taken c.args.lp.now c.take-entry.new.self c.args.node c.take-entry.result c.take-entry.ensures.after.0 c.requires.nodes c.requires.stands.nodes c.take-entry.ensures.given c.take-entry.ensures.after.2
 
+pub prepare-requires-clause-kept : goal.prepare-requires-clause-kept
+prepare-requires-clause-kept c = c.in_ok-kept.ensures
+
 pub prepare-requires-clause-exprs : goal.prepare-requires-clause-exprs
 prepare-requires-clause-exprs c = plan_exprs c.args.lp.now c.args.ex.now c.args.node c.take-entry.result c.requires c.take-entry.ensures.given
 
