@@ -1,6 +1,6 @@
 -- The lemmas of this crate.
 pub mod FirstColumns
-mod SideLemmas
+pub mod SideLemmas
 mod JoinNames
 mod JoinColumns
 mod JoinTops

@@ -25,9 +25,10 @@ use Rattle.plan_meaning.proofs.CheckParts.{MadeGood}
 use Rattle.plan_frame.proofs.MadeColumns.{types_made}
 use Rattle.plan_meaning.proofs.KeptExprs.{all_selected, new_distinct}
 use Rattle.plan_narrowing.specs.Pruned.{typed_names}
-use Rattle.plan_narrowing.proofs.NarrowLemmas.{holding_same, known_within}
+use Rattle.plan_narrowing.proofs.NarrowLemmas.{holding_same}
 use Rattle.plan_narrowing.proofs.TypedNames.{new_from}
 use Rattle.plan_schema.proofs.StoredLemmas.{same_is, is_same}
+pub use Rattle.plan_join_narrowing.proofs.SideLemmas.{SameLeaves, front_leaves, back_leaves, same_known}
 
 -- at names, or at everything where there are none
 
@@ -50,10 +51,6 @@ pub leaf_frames : (es : List Named) (f g : Frame) → AgreeOn (set_of (with_name
 leaf_frames es f g h =
     let w = with_names [] (all_leaves es) in
     agree_fewer (all_leaves es) w f g (λ b i. adds_names [] (all_leaves es) b i) (set_frames w f g h)
-
--- columns have one type at each name that expressions read
-abbrev pub SameLeaves : List Named → Columns → Columns → Type 0
-SameLeaves es r s = (b : Name) → has (all_leaves es) b ≡ true → type_of r b ≡ type_of s b
 
 -- the number of rows reads no column
 
@@ -100,20 +97,10 @@ needed_frames es ks o f g none h = at (counts_rows es) none h
     at true n k = agree_fewer (all_leaves ks) (stand_in_names o) f g (λ b i. absurd (no_leaf ks (n refl) b i)) (set_frames (stand_in_names o) f g k)
     at false n k = leaf_frames ks f g k
 
-pub front_leaves : (e : Named) (es : List Named) (r s : Columns) → SameLeaves (e ∷ es) r s → (b : Name) → has (leaves e.expr) b ≡ true → type_of r b ≡ type_of s b
-front_leaves e es r s h b i = h b (has_front (leaves e.expr) (all_leaves es) b i)
-
-pub back_leaves : (e : Named) (es : List Named) (r s : Columns) → SameLeaves (e ∷ es) r s → SameLeaves es r s
-back_leaves e es r s h b i = h b (has_back (leaves e.expr) (all_leaves es) b i)
-
 -- over these the expressions make the same columns
 pub same_made : (es : List Named) (r s : Columns) → SameLeaves es r s → map (made_column r) es ≡ map (made_column s) es
 same_made [] r s h = refl
 same_made (e ∷ es) r s h = ap₂ (λ (o : Option DataType) (cs : Columns). (name_of e.name, unwrap_or o types.Int64) ∷ cs) (type_within e.expr r s (front_leaves e es r s h)) (same_made es r s (back_leaves e es r s h))
-
-pub same_known : (es : List Named) (r s : Columns) → SameLeaves es r s → AllByRecursion (λ (e : Named). all_known (leaves e.expr) s ≡ true) es → AllByRecursion (λ (e : Named). all_known (leaves e.expr) r ≡ true) es
-same_known [] r s h k = tt
-same_known (e ∷ es) r s h k = (known_within (leaves e.expr) r s (front_leaves e es r s h) ∙ k.0, same_known es r s (back_leaves e es r s h) k.1)
 
 same_typed : (es : List Named) (r s : Columns) → SameLeaves es r s → AllByRecursion (λ (e : Named). is_some (expr_type e.expr s) ≡ true) es → AllByRecursion (λ (e : Named). is_some (expr_type e.expr r) ≡ true) es
 same_typed [] r s h k = tt

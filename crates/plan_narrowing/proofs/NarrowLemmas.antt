@@ -1,12 +1,12 @@
 -- What narrowing needs of each kind of node.
-use Rattle.std.proofs.Common.{◌≡◌, ℕ, ℤ, Bool, true, ◌&&◌, List, [], ◌∷◌, Option, refl, sym, ap, ap₂, ◌∙◌, subst, is_some}
+use Rattle.std.proofs.Common.{◌≡◌, ℕ, ℤ, true, List, [], ◌∷◌, Option, refl, sym, ap, ap₂, ◌∙◌, subst}
 use Rattle.plan_core.specs.declared.data_type.DataType.{DataType}
 use Rattle.plan_core.specs.Columns.{Columns, type_of}
 use Rattle.plan_core.specs.Names.{has, with_names}
 use Rattle.plan_expr.specs.Exprs.{Named, Expr}
 use Rattle.plan_ir.specs.Plans.{Op, slice, filter}
 use Rattle.plan_expr.specs.Leaves.{Name, leaves}
-use Rattle.plan_frame.specs.Exprs.{all_known, is_type}
+use Rattle.plan_frame.specs.Exprs.{is_type}
 use Rattle.plan_meaning.specs.Typing.{checks, AllHold}
 use Rattle.plan_frame.specs.Frames.{Frame, HasSchema, rows_at, Agree}
 use Rattle.plan_frame.specs.Meaning.{val}
@@ -15,12 +15,13 @@ use Rattle.plan_meaning.specs.Steps.{Step}
 use Rattle.plan_frame.specs.Rows.{slice_rows, true_rows, filtered}
 use Rattle.plan_meaning.specs.Relating.{Asked, all, names, cached, Holding, NarrowColumns, AgreeOn}
 use Rattle.plan_meaning.specs.Asked.{with_more}
-use Rattle.plan_frame.proofs.NameSets.{has_first, has_later, keeps_names, adds_names}
+use Rattle.plan_frame.proofs.NameSets.{keeps_names, adds_names}
 use Rattle.plan_frame.proofs.FrameLemmas.{agree_fewer, agree_rows}
 use Rattle.plan_frame.proofs.Depends.{val_depends, type_within}
 use Rattle.plan_frame.proofs.TurnLemmas.{HaveSchemas}
 use Rattle.plan_meaning.proofs.Related.{LocalTo, FramesRelated}
 use Rattle.plan_core.specs.declared.data_type.DataType.TheVariants as types
+pub use Rattle.plan_join_narrowing.proofs.SideLemmas.{holding_same, known_within}
 
 -- what has to be shown of a node that narrows another
 abbrev pub Local : Op → Op → List Asked → Asked → List Columns → List Columns → Type 0
@@ -29,15 +30,8 @@ Local = LocalTo Asked NarrowColumns AgreeOn
 abbrev pub AgreeOnAll : List Asked → List Frame → List Frame → Type 0
 AgreeOnAll = FramesRelated Asked NarrowColumns AgreeOn
 
-pub holding_same : (l : List Name) (r s : Columns) → Holding l r s → (a : Name) → has l a ≡ true → type_of r a ≡ type_of s a
-holding_same l r s h a i = let k = h.held a i in k.1 ∙ sym k.2
-
 pub holding_fewer : (l m : List Name) (r s : Columns) → ((a : Name) → has l a ≡ true → has m a ≡ true) → Holding m r s → Holding l r s
 holding_fewer l m r s sub h = record { held = λ a i. h.held a (sub a i); within = h.within }
-
-pub known_within : (l : List Name) (r s : Columns) → ((a : Name) → has l a ≡ true → type_of r a ≡ type_of s a) → all_known l r ≡ all_known l s
-known_within [] r s h = refl
-known_within (a ∷ l) r s h = ap₂ (λ (o : Option DataType) (b : Bool). is_some o && b) (h a (has_first a l)) (known_within l r s (λ b i. h b (has_later a l b i)))
 
 -- one input
 

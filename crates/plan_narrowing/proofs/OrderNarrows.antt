@@ -11,7 +11,7 @@ use Rattle.plan_core.specs.Columns.{Columns, names_of, type_of}
 use Rattle.plan_core.specs.Names.{has, with_names}
 use Rattle.plan_expr.specs.Exprs.{Named}
 use Rattle.plan_ir.specs.Plans.{sort, distinct, sink}
-use Rattle.plan_expr.specs.Leaves.{Name, leaves}
+use Rattle.plan_expr.specs.Leaves.{Name}
 use Rattle.plan_frame.specs.Exprs.{expr_type}
 use Rattle.plan_meaning.specs.Checks.{is_known, is_plain_type}
 use Rattle.plan_meaning.specs.Typing.{checks, subset_checks, AllHold}
@@ -24,13 +24,14 @@ use Rattle.plan_meaning.specs.Steps.{Step}
 use Rattle.plan_meaning.specs.Relating.{Asked, all, names, cached, Holding, NarrowColumns}
 use Rattle.plan_frame.specs.ExprLists.{all_leaves}
 use Rattle.plan_meaning.specs.Asked.{with_more}
-use Rattle.plan_frame.proofs.NameSets.{has_back, has_cons, has_first, has_front, has_later, keeps_names, adds_names, some-type_of}
+use Rattle.plan_frame.proofs.NameSets.{has_cons, has_first, has_later, keeps_names, adds_names, some-type_of}
 use Rattle.plan_frame.proofs.FrameLemmas.{agree_fewer, agree_rows}
-use Rattle.plan_frame.proofs.Depends.{val_depends, type_within}
+use Rattle.plan_frame.proofs.Depends.{type_within}
 use Rattle.plan_meaning.proofs.CheckParts.{pass_each, pass_names, keys_good, good_keys}
 use Rattle.plan_narrowing.proofs.NarrowLemmas.{Local, holding_fewer, holding_same, one_step, same_one, same_cached}
 use Rattle.plan_frame.proofs.BesideLemmas.{names-are}
 use Rattle.plan_narrowing.proofs.MadeNarrows.{SameLeaves, front_leaves, back_leaves, same_known}
+pub use Rattle.plan_join_narrowing.proofs.SideLemmas.{same_keys}
 
 -- sinks
 
@@ -54,14 +55,6 @@ local_sink payload cached r s h = subst (λ (x : Columns). Local (sink payload) 
 same_plain : (es : List Named) (r s : Columns) → SameLeaves es r s → AllByRecursion (λ (e : Named). is_plain_type (expr_type e.expr s) ≡ true) es → AllByRecursion (λ (e : Named). is_plain_type (expr_type e.expr r) ≡ true) es
 same_plain [] r s h k = tt
 same_plain (e ∷ es) r s h k = (ap is_plain_type (type_within e.expr r s (front_leaves e es r s h)) ∙ k.0, same_plain es r s (back_leaves e es r s h) k.1)
-
--- over frames that agree on what keys read they are the same
-pub same_keys : (es : List Named) (f g : Frame) → Agree (all_leaves es) f g → key_cells es f ≡ key_cells es g
-same_keys [] f g a = refl
-same_keys (e ∷ es) f g a =
-    let here = agree_fewer (leaves e.expr) (all_leaves (e ∷ es)) f g (λ b i. has_front (leaves e.expr) (all_leaves es) b i) a in
-    let rest = agree_fewer (all_leaves es) (all_leaves (e ∷ es)) f g (λ b i. has_back (leaves e.expr) (all_leaves es) b i) a in
-    ap₂ (λ (c : Cell) (cs : List Cell). c ∷ cs) (val_depends e.expr f g here) (same_keys es f g rest)
 
 module _ (keys : List Named) (part : Option (ℤ × ℕ)) (options : SortMultipleOptions) (wanted : List Name) where
   abbrev read_all : List Name

@@ -1,19 +1,18 @@
 -- Names with their types among columns, and names that are each new.
-use Rattle.std.proofs.Common.{◌≡◌, ℕ, suc, Bool, true, false, cond, not, List, [], ◌∷◌, ◌++◌, map, Option, Some, None, unwrap_or, option_map, refl, sym, ap, ◌∙◌, subst, is_some, ⊎_elim}
+use Rattle.std.proofs.Common.{◌≡◌, Bool, true, false, cond, List, [], ◌∷◌, map, Option, Some, None, unwrap_or, option_map, refl, sym, ap, ◌∙◌, subst, is_some, ⊎_elim}
 use Rattle.std.specs.List.{AllByRecursion, cons_option}
 use Rattle.std.specs.Str.{bytes_eq}
-use Rattle.std.proofs.lemmas.Bool.{both_ways}
 use Rattle.plan_core.specs.declared.data_type.DataType.{DataType}
 use Rattle.plan_core.specs.declared.data_type.DataType.TheVariants.{Int64}
 use Rattle.plan_core.specs.Columns.{Columns, names_of, type_of}
 use Rattle.plan_core.specs.Names.{has, AreDistinct}
 use Rattle.plan_expr.specs.Leaves.{Name}
 use Rattle.plan_frame.proofs.FrameLemmas.{is_type_some}
-use Rattle.plan_frame.proofs.NameSets.{named, same_named, has_cons, has_first, has_later, has_either, distinct_cons}
-use Rattle.plan_meaning.specs.Checks.{is_column, each_new}
-use Rattle.plan_meaning.specs.Typing.{AllHold}
+use Rattle.plan_frame.proofs.NameSets.{named, same_named, has_cons, has_first, has_later}
+use Rattle.plan_meaning.specs.Checks.{is_column}
 use Rattle.plan_file_narrowing.specs.Left.{AreNamed}
 use Rattle.plan_narrowing.specs.Pruned.{typed_names}
+pub use Rattle.plan_join_narrowing.proofs.SideLemmas.{new_from}
 
 abbrev pub type_or : Columns → Name → DataType
 type_or s a = unwrap_or (type_of s a) Int64
@@ -64,26 +63,6 @@ typed_named file wanted once known =
 pub each_column : (P : Name × DataType → Type 0) (s : Columns) (wanted : List Name) → ((a : Name) → has wanted a ≡ true → P (a, type_or s a)) → AllByRecursion P (columns_at wanted s)
 each_column P s [] h = tt
 each_column P s (a ∷ wanted) h = (h a (has_first a wanted), each_column P s wanted (λ b i. h b (has_later a wanted b i)))
-
--- names that stand once are each new
-pub new_from : (k : ℕ) (before wanted : List Name) → ((a : Name) → has wanted a ≡ true → has before a ≡ false) → AreDistinct wanted → AllHold (each_new k before wanted)
-new_from k before [] apart once = tt
-new_from k before (a ∷ wanted) apart once =
-    let parts = distinct_cons a wanted once in
-    (ap not (apart a (has_first a wanted)), new_from (suc k) (before ++ a ∷ []) wanted (λ b i. at b i (has (before ++ a ∷ []) b) refl parts.0) parts.1)
-  where
-    only : (b : Name) → has (a ∷ []) b ≡ true → b ≡ a
-    only b i = ⊎_elim (λ e. e) (λ e. none b e) (has_cons a [] b i)
-      where
-        none : (b : Name) → false ≡ true → b ≡ a
-        none b e = cc
-
-    at : (b : Name) → has wanted b ≡ true → (t : Bool) → has (before ++ a ∷ []) b ≡ t → has wanted a ≡ false → t ≡ false
-    at b i false e out = refl
-    at b i true e out = ⊎_elim
-        (λ h. absurd (both_ways (has before b) (apart b (has_later a wanted b i)) h))
-        (λ h. absurd (both_ways (has wanted a) out (ap (has wanted) (sym (only b h)) ∙ i)))
-        (has_either before (a ∷ []) b e)
 
 -- columns that are others have their types
 pub all_typed : (file cs : Columns) (a : Name) (t : DataType) → AllByRecursion (λ (c : Name × DataType). is_column file c ≡ true) cs → type_of cs a ≡ Some t → type_of file a ≡ Some t
