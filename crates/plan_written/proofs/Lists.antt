@@ -77,7 +77,7 @@ module _ {A : Type 0} (reads : Data → Option A) (writes : A → Data) where
       let first : reads (writes x) ≡ Some x = a.0 in
       rw (first, each_read xs a.1) refl
 
-  each_parts : (xs : List A) → each reads (map writes xs) ≡ Some xs → AllByRecursion (Again reads writes) xs
+  pub each_parts : (xs : List A) → each reads (map writes xs) ≡ Some xs → AllByRecursion (Again reads writes) xs
   each_parts [] e = tt
   each_parts (x ∷ xs) e =
       let a = bind_some (reads (writes x)) (λ y. each reads (map writes xs) >>= λ ys. Some (y ∷ ys)) (x ∷ xs) e in

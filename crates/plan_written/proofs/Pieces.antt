@@ -159,7 +159,7 @@ no_names : names_of null ≡ None
 unfolding names_of entries_of
 no_names = refl
 
-no_columns : columns_of null ≡ None
+pub no_columns : columns_of null ≡ None
 unfolding columns_of entries_of
 no_columns = refl
 

@@ -1,5 +1,5 @@
 -- A plan that is numbered anew has the operators of the plan, so that JSON values stand for its parts where they do for those of the plan.
-use Rattle.std.proofs.Common.{◌≡◌, ◌<◌, ◌≤◌, ◌^◌, List, [], ◌∷◌, ◌++◌, length, map, Option, Some, None, refl, sym, ap, ◌∙◌, arith}
+use Rattle.std.proofs.Common.{◌≡◌, ◌<◌, ◌≤◌, ◌^◌, List, [], ◌∷◌, ◌++◌, length, map, Option, Some, None, refl, sym, ap, subst, ◌∙◌, arith}
 use Rattle.std.specs.List.{AllByRecursion, flat_map}
 use Rattle.std.specs.Option.{option_map}
 use Rattle.plan_core.specs.declared.arena.Node.{Node}
@@ -18,7 +18,7 @@ use Rattle.plan_join.specs.declared.options.JoinTypeOptionsIR.{JoinTypeOptionsIR
 use Rattle.plan_join.specs.declared.options.JoinTypeOptionsIR.TheVariants as told
 use Rattle.plan_ir.specs.Copies.{IsRenumbered}
 use Rattle.plan_ir.specs.Parts.{IsPlan, condition_in, condition_of, exprs_of, inputs_of, list_of, plan_shape, roots_in, roots_of}
-use Rattle.plan_ir.specs.Plans.{Op, bare, cache, distinct, filter, frame_scan, group_by, hconcat, hstack, invalid, join, map_function, op_at, plans_of, scan, select, simple_projection, sink, slice, sort, union}
+use Rattle.plan_ir.specs.Plans.{Op, bare, cache, distinct, filter, frame_scan, group_by, hconcat, hstack, invalid, join, map_function, op_at, plans_at, plans_of, scan, select, simple_projection, sink, slice, sort, union}
 use Rattle.plan_ir.specs.declared.copy.PlanCopy.{PlanCopy}
 use Rattle.plan_ir.specs.declared.ir.IR.{IR}
 use Rattle.plan_ir.specs.declared.ir.IR.TheVariants as nodes
@@ -47,7 +47,7 @@ use Rattle.plan_written.proofs.Trees.{Within, all_append, all_first, all_flat, a
 -- ---- expressions
 
 -- an expression beside its operands is read again of what is written for it
-abbrev OpTold : ExprOp → Type 0
+abbrev pub OpTold : ExprOp → Type 0
 OpTold (column name) = Unit {0}
 OpTold (literal value) = Again (value_or_null (literal_type value)) literal_data value
 OpTold (alias name) = Unit {0}
@@ -85,9 +85,9 @@ told_op (exprs.Window function partition_by) t a = (a.0, links_told partition_by
 told_op exprs.Len t a = tt
 
 -- an expression with its output name is read again, its numbers aside
-record NamedTold (n : Named) : Type 0 where
-  name : output_name_of (origin_text n.name) (name_text n.name) ≡ Some n.name
-  expr : Within OpTold n.expr
+pub record NamedTold (n : Named) : Type 0 where
+  pub name : output_name_of (origin_text n.name) (name_text n.name) ≡ Some n.name
+  pub expr : Within OpTold n.expr
 
 module _ (ex : List AExpr) where
   -- so is the expression at a number
@@ -123,13 +123,13 @@ module _ (ex : List AExpr) where
 -- ---- nodes
 
 -- the condition among what only some kinds of joins are told, if there is one
-abbrev conditions : Option KindOptions → List Named
+abbrev pub conditions : Option KindOptions → List Named
 conditions None = []
 conditions (Some (inequalities operators)) = []
 conditions (Some (condition n)) = n ∷ []
 
 -- a node beside its inputs is read again, its numbers aside
-abbrev NodeOpTold : Op → Type 0
+abbrev pub NodeOpTold : Op → Type 0
 NodeOpTold (slice offset count) = Again integer_of integer_data offset × ToldNumber count
 NodeOpTold (filter predicate) = NamedTold predicate
 NodeOpTold (scan from info hive predicate output format options) = ToldScan from info hive None output options × AllByRecursion NamedTold (list_of predicate)
@@ -284,21 +284,30 @@ plan_ops lp ex root h said =
     let told : AllByRecursion Told (items h.nodes) = items_hold plan_shape lp Told (all_from (IsSaid node_of) Told said_told lp said.nodes) (root ∷ []) h.nodes h.stands.nodes.stands in
     all_mapped NodeOpTold (op_at ex) (items h.nodes) (all_from_both Told (λ (x : IR). AllByRecursion (AtTold ex) (roots_of x)) (λ (x : IR). NodeOpTold (op_at ex x)) (λ x t a. node_op ex x t (all_unmapped (AtTold ex) number_of_expr (exprs_of x) a)) (items h.nodes) told own)
 
+-- all operators of a plan are read again, its numbers aside
+abbrev pub PlanTold : List IR → List AExpr → Node → Type 0
+PlanTold lp ex root = AllByRecursion NodeOpTold (items (bare (plans_at lp ex (root ∷ []))))
+
+-- so it is where JSON values stand for the parts of the plan
+pub plan_told : (lp : List IR) (ex : List AExpr) (root : Node) → IsPlan lp ex root → AreSaid lp ex root → PlanTold lp ex root
+plan_told lp ex root h said =
+    subst (AllByRecursion NodeOpTold)
+    (sym (ap (λ (t : Trees IR). items (bare (plans_of ex t))) (trees_at-is plan_shape lp (root ∷ []) h.nodes h.stands.nodes) ∙ bare_items ex h.nodes))
+    (plan_ops lp ex root h said)
+
 -- numbers below a bound are read again
 abbrev IsSmall : Node → Type 0
 IsSmall n = n.0 < 2 ^ 32
 
-module _ (lp : List IR) (ex : List AExpr) (root : Node) (copy : PlanCopy) (plan : IsPlan lp ex root) (h : IsRenumbered lp ex root copy) (few_nodes : length copy.lp ≤ 2 ^ 32) (few_exprs : length copy.ex ≤ 2 ^ 32) (said : AreSaid lp ex root) where
-  same_ops : map (op_at copy.ex) (items h.nodes) ≡ map (op_at ex) (items plan.nodes)
+module _ (lp : List IR) (ex : List AExpr) (root : Node) (copy : PlanCopy) (h : IsRenumbered lp ex root copy) (few_nodes : length copy.lp ≤ 2 ^ 32) (few_exprs : length copy.ex ≤ 2 ^ 32) (told : PlanTold lp ex root) where
+  same_ops : items (bare (plans_at lp ex (root ∷ []))) ≡ map (op_at copy.ex) (items h.nodes)
   same_ops =
-      sym (bare_items copy.ex h.nodes)
-      ∙ ap (λ (t : Trees IR). items (bare (plans_of copy.ex t))) (sym (trees_at-is plan_shape copy.lp (copy.root ∷ []) h.nodes h.stands.nodes))
-      ∙ ap items h.same
-      ∙ ap (λ (t : Trees IR). items (bare (plans_of ex t))) (trees_at-is plan_shape lp (root ∷ []) plan.nodes plan.stands.nodes)
-      ∙ bare_items ex plan.nodes
+      sym (ap items h.same)
+      ∙ ap (λ (t : Trees IR). items (bare (plans_of copy.ex t))) (trees_at-is plan_shape copy.lp (copy.root ∷ []) h.nodes h.stands.nodes)
+      ∙ bare_items copy.ex h.nodes
 
   ops : AllByRecursion (λ (x : IR). NodeOpTold (op_at copy.ex x)) (items h.nodes)
-  ops = all_unmapped NodeOpTold (op_at copy.ex) (items h.nodes) (rw same_ops (plan_ops lp ex root plan said))
+  ops = all_unmapped NodeOpTold (op_at copy.ex) (items h.nodes) (subst (AllByRecursion NodeOpTold) same_ops told)
 
   node_links : AllByRecursion ToldLink (labels h.nodes)
   node_links = all_from IsSmall ToldLink small_told (labels h.nodes) (ranged (2 ^ 32) (labels h.nodes) 0 (length copy.lp) h.nodes_in_order (omega (arith, few_nodes)))
@@ -344,9 +353,13 @@ module _ (lp : List IR) (ex : List AExpr) (root : Node) (copy : PlanCopy) (plan 
       (inputs_hold expr_shape copy.ex ToldLink (roots_in h.nodes) h.exprs h.stands.exprs.stands expr_links)
 
   -- JSON values stand for the parts of the plan that is numbered anew
-  pub renumbered_said : AreSaid copy.lp copy.ex copy.root
-  renumbered_said = record {
+  pub told_said : AreSaid copy.lp copy.ex copy.root
+  told_said = record {
     nodes = rw (← renumbered-nodes lp ex root copy h) nodes_said_anew;
     exprs = rw (← renumbered-exprs lp ex root copy h) exprs_said_anew;
     root = link_said copy.root (numbers_hold plan_shape copy.lp ToldLink (copy.root ∷ []) h.nodes h.stands.nodes.stands node_links).0;
   }
+
+-- and so where they stand for those of the plan
+pub renumbered_said : (lp : List IR) (ex : List AExpr) (root : Node) (copy : PlanCopy) → IsPlan lp ex root → IsRenumbered lp ex root copy → length copy.lp ≤ 2 ^ 32 → length copy.ex ≤ 2 ^ 32 → AreSaid lp ex root → AreSaid copy.lp copy.ex copy.root
+renumbered_said lp ex root copy plan h few_nodes few_exprs said = told_said lp ex root copy h few_nodes few_exprs (plan_told lp ex root plan said)

@@ -118,7 +118,7 @@ hive_column_again d s c e =
 hive_column_back : Back hive_column_of hive_column_data
 hive_column_back = record { again = hive_column_again }
 
-hive_part_read : (ss : Stats) (named : List (List ℕ × DataType)) → AllByRecursion (Again hive_column_of hive_column_data) ss → distinct_columns (columns_of ss) ≡ Some named → Again hive_part_of hive_part_data ss
+pub hive_part_read : (ss : Stats) (named : List (List ℕ × DataType)) → AllByRecursion (Again hive_column_of hive_column_data) ss → distinct_columns (columns_of ss) ≡ Some named → Again hive_part_of hive_part_data ss
 unfolding hive_part_of
 hive_part_read ss named a e = rw (entries_again hive_column_data ss, each_read hive_column_of hive_column_data ss a, e) refl
 
@@ -140,7 +140,7 @@ hive_parts_again d ps c e = list_again hive_part_back d ps c e
 hive_parts_back : Back hive_parts_of hive_parts_data
 hive_parts_back = record { again = hive_parts_again }
 
-no_parts : hive_parts_of null ≡ None
+pub no_parts : hive_parts_of null ≡ None
 unfolding hive_parts_of entries_of
 no_parts = refl
 
