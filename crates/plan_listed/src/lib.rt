@@ -1,0 +1,4 @@
+//! The plan of a listing reads as that plan: the laws.
+#![tactic(auto)]
+
+pub mod laws;
