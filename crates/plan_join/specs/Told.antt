@@ -4,7 +4,7 @@ use Rattle.std.specs.List.{filter_map}
 use Rattle.plan_options.specs.declared.join.IEJoinOptions.{IEJoinOptions}
 use Rattle.plan_options.specs.declared.join.InequalityOperator.{InequalityOperator}
 use Rattle.plan_options.specs.declared.join.JoinArgs.{JoinArgs}
-use Rattle.plan_tree.specs.Rose.{Roses, rose, no_roses, more}
+use Rattle.plan_tree.specs.Rose.{rose, no_roses}
 use Rattle.plan_expr.specs.declared.aexpr.AExpr.{AExpr}
 use Rattle.plan_expr.specs.Exprs.{column, Expr, Named, named_at}
 use Rattle.plan_expr.specs.Leaves.{Name}

@@ -1,5 +1,5 @@
 -- What a node asks can be asked of its inputs, and what a scan may read is among what it reads.
-use Rattle.std.proofs.Common.{◌≡◌, ◌&&◌, suc, Bool, true, false, cond, not, ◌||◌, List, [], ◌∷◌, ◌++◌, length, map, Option, Some, None, refl, sym, ap, ◌∙◌, subst, is_some, ⊎_elim}
+use Rattle.std.proofs.Common.{◌≡◌, ◌&&◌, Bool, true, false, cond, not, ◌||◌, List, [], ◌∷◌, ◌++◌, length, map, Option, Some, None, refl, sym, ap, ◌∙◌, subst, is_some, ⊎_elim}
 use Rattle.std.specs.List.{AllByRecursion, filter as only_where, list_all}
 use Rattle.std.proofs.lemmas.Bool.{and_parts}
 use Rattle.plan_core.specs.declared.data_type.DataType.{DataType}
@@ -12,7 +12,7 @@ use Rattle.plan_ir.specs.Plans.{Op, slice, filter, scan, frame_scan, simple_proj
 use Rattle.plan_expr.specs.Leaves.{Name, leaves}
 use Rattle.plan_frame.specs.Exprs.{all_known}
 use Rattle.plan_frame.specs.Grouping.{gathered, group_exprs}
-use Rattle.plan_meaning.specs.Checks.{each, is_known, is_column}
+use Rattle.plan_meaning.specs.Checks.{is_known, is_column}
 use Rattle.plan_core.specs.declared.options.FileScanOptions.{FileScanOptions}
 use Rattle.plan_frame.proofs.BesideLemmas.{or_else}
 use Rattle.plan_scan.specs.Sources.{sources_of}
@@ -31,7 +31,7 @@ use Rattle.plan_frame.specs.ExprLists.{counts_rows, all_leaves}
 use Rattle.plan_meaning.specs.Counting.{stand_ins, first_stand_in, stand_in_names}
 use Rattle.plan_meaning.specs.Asked.{asked_names, is_asked, set_of, with_more, kept, asks_columns, kept_exprs, selected_exprs, needed_names, asks_selected, asks_added, asks_stacked, asks_grouped, asks_held, asks_alike, asks_joined, asks, own_site, sites, reads, allowed, Fair, IsFair, SiteFair, AllSites}
 use Rattle.plan_frame.proofs.NameSets.{only, has_cons, has_first, has_later, some-type_of, keeps_names, from_names, distinct_names, distinct_none}
-use Rattle.plan_meaning.proofs.CheckParts.{hold_front, each_pass, name_passes, known_leaf, scan_good, projection_good, made_good, keys_good}
+use Rattle.plan_meaning.proofs.CheckParts.{each_pass, name_passes, known_leaf, scan_good, projection_good, made_good, keys_good}
 use Rattle.plan_join.specs.Told.{Told}
 use Rattle.plan_meaning.specs.JoinChecks.{join_checks}
 use Rattle.plan_meaning.proofs.AskedSets.{column_passes, some_name, has_some, fair_set}

@@ -15,7 +15,6 @@ use Rattle.plan_narrowing.specs.Pruned.{typed_names}
 use Rattle.plan_narrowing.proofs.ListSteps.{with_names-append}
 use Rattle.plan_prune_parts.specs.Kept.{many_at, names_at, with_typed}
 use Rattle.plan_core.specs.declared.arena.Node.{Node}
-use Rattle.plan_ir.specs.declared.ir.IR.TheVariants as nodes
 use Rattle.plan_expr.specs.Operands.{IsExpr, operands_of}
 use Rattle.plan_expr.specs.Walks.{column_name}
 use Rattle.plan_expr.proofs.LeafLemmas.{leaves_column, leaves_below}

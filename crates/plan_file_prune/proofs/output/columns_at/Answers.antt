@@ -1,4 +1,4 @@
-use Rattle.std.proofs.Common.{◌≡◌, ◌∙◌, Some, sym, ap, arith}
+use Rattle.std.proofs.Common.{◌≡◌, ◌∙◌, Some, ap, arith}
 use Rattle.std.specs.List.{slice_get}
 use Rattle.plan_frame.specs.Reshaped.{type_or}
 use Rattle.plan_frame.proofs.ScalarExprs.{item_here}

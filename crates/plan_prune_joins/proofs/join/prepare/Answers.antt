@@ -1,4 +1,4 @@
-use Rattle.std.proofs.Common.{◌∙◌, List, Option, None, ap, subst}
+use Rattle.std.proofs.Common.{◌∙◌, List, Option, ap, subst}
 use Rattle.std.proofs.lemmas.Result.{IfOk-weaker}
 use Rattle.plan_expr.specs.Leaves.{Name}
 use Rattle.plan_prune_joins.specs.Joined.{IsKept, step_of_join}
