@@ -1,5 +1,5 @@
 -- Words, one after another, and the first mark in a line.
-use Rattle.std.proofs.Common.{◌≡◌, ◌≢◌, ◌∙◌, ◌⊎◌, inl, inr, ℕ, zero, suc, ◌+◌, ◌<◌, ◌≤◌, Bool, true, false, ◌||◌, cond, List, [], ◌∷◌, ◌++◌, length, take, drop, map, filter, codes, append-nil, IfSome, IfNone, Option, Some, None, Bor, refl, sym, ap, subst, get_or, drop-cons, add-one}
+use Rattle.std.proofs.Common.{◌≡◌, ◌≢◌, ◌∙◌, inl, inr, ℕ, zero, suc, ◌+◌, ◌<◌, ◌≤◌, Bool, true, false, ◌||◌, cond, List, [], ◌∷◌, ◌++◌, length, take, drop, map, filter, codes, append-nil, IfSome, IfNone, Option, Some, None, Bor, arith, refl, sym, ap, subst, get_or, drop-cons, add-one}
 use Rattle.std.specs.List.{slice_get, slice_set}
 use Rattle.std.specs.Option.{MatchOption, unwrap_or}
 use Rattle.std.specs.Str.{bytes_eq}
@@ -9,7 +9,8 @@ use Rattle.std.proofs.Math.Seq.{take-suc}
 use Rattle.std.proofs.lemmas.List.{drop_at, map-append}
 use Rattle.std.proofs.lemmas.List.Elements.{filter-append}
 use Rattle.std.proofs.lemmas.Bool.{cases_lt}
-use Rattle.plan_answers.specs.Words.{AreWordsOf, gives_word, has_word, IsDefinition, IsFilled, IsReplaced, IsWordOf, SameWords, with_text}
+use Rattle.std.proofs.lemmas.Str.Pattern.{split_text_parts}
+use Rattle.plan_answers.specs.Words.{AreWordsOf, gives_word, has_word, IsCut, IsDefinition, IsFilled, IsReplaced, IsTrimmed, IsWordOf, Lacks, with_text}
 
 -- a word with its text, as it lies in memory
 abbrev pub Lies : Type 0
@@ -30,8 +31,21 @@ first_mark mark s i lacks before after e = elim (cases_lt (length before) i) [
   | inr le ↦ le
 ]
 
+-- a text is cut where a mark first stands, where it stands somewhere
+pub cut_first : (mark s : List ℕ) (r : Option Lies) → MatchOption r (FindsText mark s None) (λ (x : Lies). (i : ℕ) × (j : ℕ) × FindsText mark s (Some (i, j)) × (x.0.now ≡ take i s) × (x.1.now ≡ drop j s) × (i ≤ j) × (length x.0.now ≡ i) × (length x.1.now + j ≡ length s)) → IfSome r (λ (x : Lies). IsCut mark s x.0.now x.1.now)
+cut_first mark s None h = tt
+cut_first mark s (Some x) h = record {
+  parts = split_text_parts mark s (Some x) h;
+  first = λ front rest e. let least = first_mark mark s h.0 h.2.0 front rest e in omega (arith, h);
+}
+
+-- and lacks the mark where it is not cut
+pub lacks_mark : (mark s : List ℕ) (r : Option Lies) → MatchOption r (FindsText mark s None) (λ (x : Lies). (i : ℕ) × (j : ℕ) × FindsText mark s (Some (i, j)) × (x.0.now ≡ take i s) × (x.1.now ≡ drop j s) × (i ≤ j) × (length x.0.now ≡ i) × (length x.1.now + j ≡ length s)) → IfNone r (Lacks mark s)
+lacks_mark mark s None h = split_text_parts mark s None h
+lacks_mark mark s (Some x) h = tt
+
 -- a text less one blank, or as it is where it begins with none
-pub less_blank : (rest t : Bor (List ℕ)) (r : Option (Bor (List ℕ))) → MatchOption r ((more : List ℕ) → rest.now ≢ 32 ∷ more) (λ (x : Bor (List ℕ)). rest.now ≡ 32 ∷ x.now) → t ≡ unwrap_or r rest → (rest.now ≡ 32 ∷ t.now) ⊎ (((more : List ℕ) → rest.now ≢ 32 ∷ more) × (t.now ≡ rest.now))
+pub less_blank : (rest t : Bor (List ℕ)) (r : Option (Bor (List ℕ))) → MatchOption r ((more : List ℕ) → rest.now ≢ 32 ∷ more) (λ (x : Bor (List ℕ)). rest.now ≡ 32 ∷ x.now) → t ≡ unwrap_or r rest → IsTrimmed rest.now t.now
 less_blank rest t None h e = inr (h, ap (λ (b : Bor (List ℕ)). b.now) e)
 less_blank rest t (Some x) h e = inl (h ∙ ap (λ (b : Bor (List ℕ)). 32 ∷ b.now) (sym e))
 
@@ -116,12 +130,12 @@ replaced_first p to (suc n) s out (inr (a, b, q, rest, finds, keeps, on, is)) =
     )
 
 -- another text for a word changes no word
-pub same_words : (ws : List (List ℕ × List ℕ)) (word text : List ℕ) → SameWords ws (with_text ws word text)
+pub same_words : (ws : List (List ℕ × List ℕ)) (word text other : List ℕ) → has_word (with_text ws word text) other ≡ has_word ws other
 same_words [] word text other = refl
 same_words (w ∷ ws) word text other = elim (bytes_eq w.0 word) as (λ b. has_word (cond b ((w.0, text) ∷ ws) (w ∷ with_text ws word text)) other ≡ has_word (w ∷ ws) other) [ true ↦ refl | false ↦ ap (λ (b : Bool). bytes_eq w.0 other || b) (same_words ws word text other) ]
 
 -- what is made of a line is its word
-pub word_of_line : (line : List ℕ) (r : Option Lies) (other made : Lies) → IfSome r (λ (p : Lies). IsDefinition line p.0.now p.1.now) → IfNone r ((before after : List ℕ) → line ≡ before ++ (codes " =" ++ after) → ⊥) → seen other ≡ (line, []) → made ≡ unwrap_or r other → IsWordOf line (seen made)
+pub word_of_line : (line : List ℕ) (r : Option Lies) (other made : Lies) → IfSome r (λ (p : Lies). IsDefinition line p.0.now p.1.now) → IfNone r (Lacks (codes " =") line) → seen other ≡ (line, []) → made ≡ unwrap_or r other → IsWordOf line (seen made)
 word_of_line line None other made some none alone is = inr (none, ap seen is ∙ alone)
 word_of_line line (Some p) other made some none alone is = inl (subst (λ (w : Lies). IsDefinition line w.0.now w.1.now) (sym is) some)
 

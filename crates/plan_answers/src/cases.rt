@@ -1,11 +1,10 @@
 //! The lines of a file of cases.
 ghost use Rattle.std.specs.Prelude.{◌≡◌, ◌↔◌, ◌++◌, ℕ, List, codes, MatchBool, IsTrue, IfOk, count_by, string_bytes};
-ghost use Rattle.plan_answers.specs.declared.cases.Line.TheVariants.{Given, Right, Wrong};
-ghost use Rattle.plan_answers.specs.Cases.{after_word, Answers, AreRead, AreRefusals, AreValues, first_word, is_case, IsNoCase, IsRight, IsVariant, Judges, Makes, refusal, under};
-ghost use Rattle.plan_answers.specs.Words.{SameWords};
+ghost use Rattle.plan_answers.specs.declared.cases.Line.TheVariants.{Right, Wrong};
+ghost use Rattle.plan_answers.specs.Cases.{after_both, after_word, AreRead, AreRefusals, first_word, is_case, IsJudged, IsRead, IsValued, IsVaried, Judges, Makes, refusal, Under, under};
 
 use crate::answers::{has_values, is_answered, reads_as};
-use crate::words::Words;
+use crate::words::{Words, cut, trimmed};
 use std::alloc::{AllocError, Global};
 
 /// What a line of a file of cases is.
@@ -24,6 +23,13 @@ fn judged(right: bool) -> Line
     ensures { MatchBool right (result ≡ Right) (result ≡ Wrong) }
 {
     if right { Line::Right } else { Line::Wrong }
+}
+
+/// Whether two things are so.
+fn both(one: bool, other: bool) -> bool
+    ensures { IsTrue result ↔ (IsTrue one × IsTrue other) }
+{
+    one && other
 }
 
 /// The text up to the first blank, and what follows that; the whole text and nothing where there is none.
@@ -56,8 +62,7 @@ fn is_under<'a>(
     answer: &str,
 ) -> Result<bool, AllocError>
     ensures words { words.new ≡ under words.old flags.now }
-    ensures same { SameWords words.old words.new }
-    ensures right { IfOk result (λ right. IsTrue right → Answers words.new (codes "optimize") answer.now) }
+    ensures right { IfOk result (Under words.old flags.now (λ now. Judges now (codes "optimize") answer.now)) }
 {
     if !words.set("<flags>", flags) {
         return Ok(false);
@@ -77,14 +82,14 @@ fn refusal(alloc: Global, told: &str) -> Result<String, AllocError>
 
 /// The document is refused with a kind, a node and a place, by `check`, and by `optimize` whether pruning is asked or not.
 fn fault<'a>(alloc: Global, words: &mut Words<'a>, told: &str) -> Result<bool, AllocError>
-    ensures same { SameWords words.old words.new }
-    ensures right { IfOk result (λ right. IsTrue right → AreRefusals words.old told.now) }
+    ensures words { IfOk result (λ right. words.new ≡ after_both words.old) }
+    ensures right { IfOk result (AreRefusals words.old told.now) }
 {
     let answer = refusal(alloc, told)?;
     let checked = is(alloc, words, "check", &answer)?;
     let unpruned = is_under(alloc, words, "0", &answer)?;
     let pruned = is_under(alloc, words, "1", &answer)?;
-    Ok(checked && unpruned && pruned)
+    Ok(both(checked, both(unpruned, pruned)))
 }
 
 /// `optimize` makes of the document a column of a type and with values, under these flags from here on.
@@ -96,8 +101,7 @@ fn makes<'a>(
     values: &str,
 ) -> Result<bool, AllocError>
     ensures words { words.new ≡ under words.old flags.now }
-    ensures same { SameWords words.old words.new }
-    ensures right { IfOk result (λ right. IsTrue right → Makes words.new dtype.now values.now) }
+    ensures right { IfOk result (Under words.old flags.now (λ now. Makes now dtype.now values.now)) }
 {
     if !words.set("<flags>", flags) {
         return Ok(false);
@@ -108,31 +112,27 @@ fn makes<'a>(
 
 /// The expressions make a column of a type and with values, whether pruning is asked or not.
 fn value<'a>(alloc: Global, words: &mut Words<'a>, told: &'a str) -> Result<bool, AllocError>
-    ensures same { SameWords words.old words.new }
-    ensures right { IfOk result (λ right. IsTrue right → AreValues words.old told.now) }
+    ensures { IfOk result (λ right. IsValued words.old told.now right words.new) }
 {
-    let Some((made, exprs)) = told.split_once(" = ") else {
+    let Some((made, exprs)) = cut(told, " = ") else {
         return Ok(false);
     };
     let (dtype, values) = parted(made);
     let named = words.set("<exprs>", exprs);
     let typed = words.set("<type>", dtype);
-    if !named || !typed {
-        return Ok(false);
-    }
     let unpruned = makes(alloc, words, "0", dtype, values)?;
     let pruned = makes(alloc, words, "1", dtype, values)?;
-    Ok(unpruned && pruned)
+    Ok(both(both(named, typed), both(unpruned, pruned)))
 }
 
 /// The document that is given, with a piece replaced where it stands first, reads so.
 fn variant(alloc: Global, words: &Words<'_>, wanted: &str, pieces: &str) -> Result<bool, AllocError>
-    ensures { IfOk result (λ right. IsTrue right → IsVariant words.now wanted.now pieces.now) }
+    ensures { IfOk result (IsVaried words.now wanted.now pieces.now) }
 {
-    let Some((old, rest)) = pieces.split_once(" =>") else {
+    let Some((old, rest)) = cut(pieces, " =>") else {
         return Ok(false);
     };
-    let new = rest.strip_prefix(' ').unwrap_or(rest);
+    let new = trimmed(rest);
     let given = words.full(alloc, "<given>")?;
     let document = given.replacen(alloc, old, new, 1)?;
     if document == given {
@@ -148,8 +148,7 @@ fn is_right<'a>(
     verb: &str,
     rest: &'a str,
 ) -> Result<bool, AllocError>
-    ensures same { SameWords words.old words.new }
-    ensures right { IfOk result (λ right. IsTrue right → IsRight words.old verb.now rest.now) }
+    ensures { IfOk result (λ right. IsJudged words.old verb.now rest.now right words.new) }
 {
     match verb {
         "is" => is(alloc, words, "optimize", rest),
@@ -163,9 +162,7 @@ fn is_right<'a>(
 
 /// Reads a line, and tries the case where it is one.
 pub fn tried<'a>(alloc: Global, words: &mut Words<'a>, line: &'a str) -> Result<Line, AllocError>
-    ensures same { SameWords words.old words.new }
-    ensures given { IfOk result (λ tried. (tried ≡ Given) ↔ IsNoCase words.old line.now) }
-    ensures right { IfOk result (λ tried. tried ≡ Right → IsRight words.old (first_word line.now) (after_word line.now)) }
+    ensures { IfOk result (λ found. IsRead words.old line.now found words.new) }
 {
     if line.is_empty() || line.starts_with('#') {
         return Ok(Line::Given);
@@ -185,7 +182,7 @@ pub fn all_tried<'a>(
     words: &mut Words<'a>,
     lines: &[&'a str],
 ) -> Result<Vec<Line>, AllocError>
-    ensures { IfOk result (λ found. AreRead words.old lines.now found.items) }
+    ensures { IfOk result (λ found. AreRead words.old lines.now found.items words.new) }
 {
     let mut found = Vec::new(alloc);
     for line in lines {

@@ -1,7 +1,7 @@
 //! Words in angle brackets, each with the text that it stands for.
-ghost use Rattle.std.specs.Prelude.{◌≡◌, ◌↔◌, ◌++◌, ℕ, List, codes, filter, map, IsTrue, IfOk, IfSome, IfNone, string_bytes};
+ghost use Rattle.std.specs.Prelude.{◌≡◌, ℕ, List, codes, filter, map, IfOk, IfSome, IfNone, string_bytes};
 ghost use Rattle.std.specs.Str.Lines.{lines};
-ghost use Rattle.plan_answers.specs.Words.{AreWordsOf, DefinesKnown, gives_word, has_word, IsDefinition, IsFilled, SameWords, with_text};
+ghost use Rattle.plan_answers.specs.Words.{AreWordsOf, gives_word, has_word, IsCut, IsDefinition, IsFilled, IsSet, IsTrimmed, Lacks, with_text};
 
 use std::alloc::{AllocError, Global};
 use std::marker::Model;
@@ -20,15 +20,28 @@ impl<'a> Model for Words<'a> {
     ghost view = { λ s. map (λ w. (w.0.now, w.1.now)) s.words.items };
 }
 
-/// The word and its text, of a line `<word> = text` or `<word> =`.
+/// What stands before a mark and behind it, where it first stands in a text; None where it stands nowhere.
+pub fn cut<'a>(text: &'a str, mark: &str) -> Option<(&'a str, &'a str)>
+    ensures parts { IfSome result (λ parts. IsCut mark.now text.now parts.0.now parts.1.now) }
+    ensures none { IfNone result (Lacks mark.now text.now) }
+{
+    text.split_once(mark)
+}
+
+/// A text without the blank that it may begin with.
+pub fn trimmed(text: &str) -> &str
+    ensures { IsTrimmed text.now result.now }
+{
+    text.strip_prefix(' ').unwrap_or(text)
+}
+
+/// The word and its text, of a line `<word> = text` or `<word> =`; None for a line without ` =`.
 fn defined(line: &str) -> Option<(&str, &str)>
     ensures parts { IfSome result (λ p. IsDefinition line.now p.0.now p.1.now) }
-    ensures none { IfNone result ((word text : List ℕ) → line.now ≡ word ++ (codes " =" ++ text) → ⊥) }
+    ensures none { IfNone result (Lacks (codes " =") line.now) }
 {
-    let Some((word, text)) = line.split_once(" =") else {
-        return None;
-    };
-    Some((word, text.strip_prefix(' ').unwrap_or(text)))
+    let (word, rest) = cut(line, " =")?;
+    Some((word, trimmed(rest)))
 }
 
 /// The lines of a text.
@@ -67,7 +80,6 @@ impl<'a> Words<'a> {
     pub fn set(&mut self, word: &str, text: &'a str) -> bool
         ensures known { result ≡ has_word self.old word.now }
         ensures texts { self.new ≡ with_text self.old word.now text.now }
-        ensures same { SameWords self.old self.new }
     {
         for at in 0..self.words.len() {
             if self.words[at].0 == word {
@@ -80,8 +92,7 @@ impl<'a> Words<'a> {
 
     /// Gives the word of a line another text. Whether the line has such a form, and the word is there.
     pub fn set_line(&mut self, line: &'a str) -> bool
-        ensures known { IsTrue result ↔ DefinesKnown self.old line.now }
-        ensures same { SameWords self.old self.new }
+        ensures { IsSet self.old line.now result self.new }
     {
         match defined(line) {
             Some((word, text)) => self.set(word, text),

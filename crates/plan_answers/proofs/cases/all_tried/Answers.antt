@@ -1,19 +1,15 @@
-use Rattle.std.proofs.Common.{◌∙◌, ◌+◌, ℕ, List, [], take, Bor, get_or, sym, subst}
+use Rattle.std.proofs.Common.{◌+◌, ℕ, List, [], take, Bor, get_or, sym, subst}
 use Rattle.std.proofs.lemmas.Option.{slice_get-get_or}
 use Rattle.plan_answers.specs.declared.cases.Line.{Line}
 use Rattle.plan_answers.specs.Cases.{AreRead}
-use Rattle.plan_answers.proofs.CaseLemmas.{read_by, read_next}
+use Rattle.plan_answers.proofs.CaseLemmas.{read_next}
 use Rattle.plan_answers.proofs.cases.all_tried.Goals as goal
 
 pub loop-line-preserved : goal.loop-line-preserved
 loop-line-preserved c =
     let none : Bor (List ℕ) = record { ref_ptr = (0, 0); now = [] } in
     let line : Bor (List ℕ) = get_or c.args.lines.now c.loop-line.line-index none in
-    record {
-      read = subst (λ (l : List Line). AreRead c.args.words.now (take (c.loop-line.line-index + 1) c.args.lines.now) l) (sym c.in_ok-push.ensures.items)
-          (read_next c.args.words.now c.args.lines.now c.loop-line.line-index line c.loop-line.found.items c.in_ok-tried.field-0
-          (slice_get-get_or c.args.lines.now c.loop-line.line-index none c.loop-line-test.true)
-          (read_by c.args.words.now c.loop-line.words line.now c.in_ok-tried.field-0 c.loop-line.invariant.same c.in_ok-tried.ensures.given c.in_ok-tried.ensures.right)
-          c.loop-line.invariant.read);
-      same = λ word. c.in_ok-tried.ensures.same word ∙ c.loop-line.invariant.same word;
-    }
+    subst (λ (l : List Line). AreRead c.args.words.now (take (c.loop-line.line-index + 1) c.args.lines.now) l c.tried.new.words) (sym c.in_ok-push.ensures.items)
+    (read_next c.args.words.now c.loop-line.words c.tried.new.words c.args.lines.now c.loop-line.line-index line c.loop-line.found.items c.in_ok-tried.field-0
+    (slice_get-get_or c.args.lines.now c.loop-line.line-index none c.loop-line-test.true)
+    c.in_ok-tried.ensures c.loop-line.invariant)

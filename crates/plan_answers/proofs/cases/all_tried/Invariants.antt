@@ -1,11 +1,7 @@
 use Rattle.std.proofs.Common.{take}
 use Rattle.plan_answers.specs.Cases.{AreRead}
-use Rattle.plan_answers.specs.Words.{SameWords}
 use Rattle.plan_answers.proofs.cases.all_tried.Given as goal
 
--- the lines up to here are read, and the words are the same
+-- the lines up to here are read
 abbrev pub invariant-loop-line : goal.invariant-loop-line
-invariant-loop-line l = record {
-  read : AreRead l.initial.words (take l.line-index l.lines) l.found.items;
-  same : SameWords l.initial.words l.words;
-}
+invariant-loop-line l = AreRead l.initial.words (take l.line-index l.lines) l.found.items l.words

@@ -3,7 +3,7 @@ use Rattle.std.proofs.lemmas.List.{get_or_default, take_all}
 use Rattle.std.proofs.lemmas.Option.{slice_get-get_or}
 use Rattle.plan_answers.specs.Words.{has_word, with_text}
 use Rattle.plan_answers.specs.declared.words.Words.TheInside.{Inside}
-use Rattle.plan_answers.proofs.WordLemmas.{Lies, absent_next, known_at, same_words, seen, text_at, text_nowhere}
+use Rattle.plan_answers.proofs.WordLemmas.{Lies, absent_next, known_at, seen, text_at, text_nowhere}
 use Rattle.plan_answers.proofs.words.Words.set.Goals as goal
 
 pub loop-at-preserved : goal.loop-at-preserved
@@ -51,6 +51,3 @@ returns-clause-texts c =
     ap (λ (l : List Lies). has_word (map seen l) c.args.word.now) (sym (take_all c.loop-at.at c.loop-at.self-inside.words.items past)) ∙ c.loop-at.invariant.absent in
     text_nowhere c.loop-at.self-inside.words.items c.args.word.now c.args.text.now absent
     ∙ ap (λ (l : List (List ℕ × List ℕ)). with_text l c.args.word.now c.args.text.now) is
-
-pub returns-then-eq-clause-same : goal.returns-then-eq-clause-same
-returns-then-eq-clause-same c = λ other. ap (λ (l : List (List ℕ × List ℕ)). has_word l other) (returns-then-eq-clause-texts c) ∙ same_words c.args.self.now c.args.word.now c.args.text.now other
