@@ -1,8 +1,9 @@
 //! The parts of nodes: inputs and expressions.
-ghost use Rattle.std.specs.Prelude.{◌≡◌, ◌++◌, length, map, IfOk, OnOk};
+ghost use Rattle.std.specs.Prelude.{◌≡◌, ◌++◌, length, map, take, IfOk, OnOk, OnErr};
 ghost use Rattle.plan_ir.specs.Parts.{condition_of, exprs_of, exprs_over, inputs_of, list_of, listed_exprs_of, over_parts};
 
 use crate::ir::IR;
+use crate::split::keep_first;
 use plan_core::{Items, Node, TryClone, UnitVec};
 use plan_expr::ExprIR;
 use plan_join::{JoinOptions, JoinTypeOptionsIR};
@@ -20,7 +21,29 @@ impl Entry for IR {
         matches!(self, IR::Invalid)
     }
 
-    fn copy_inputs(&self, out: &mut Items<Node>) -> Result<(), AllocError> {
+    /// Appends the numbers of the inputs, from first to last. Refuses for want of memory alone, and then changes nothing.
+    fn copy_inputs(&self, out: &mut Items<Node>) -> Result<(), AllocError>
+        ensures appended { OnOk result (out.new ≡ out.old ++ inputs_of self.now) }
+        ensures unchanged { OnErr result (out.new ≡ out.old) }
+    {
+        let held = out.len();
+        match self.append_inputs(out) {
+            Ok(()) => Ok(()),
+            Err(error) => {
+                keep_first(out, held);
+                Err(error)
+            }
+        }
+    }
+}
+
+impl IR {
+    /// Appends the numbers of the inputs, from first to last. Refuses for want of memory alone, and may then have appended
+    /// some.
+    fn append_inputs(&self, out: &mut Items<Node>) -> Result<(), AllocError>
+        ensures appended { OnOk result (out.new ≡ out.old ++ inputs_of self.now) }
+        ensures front { OnErr result (take (length out.old) out.new ≡ out.old) }
+    {
         match self {
             IR::Slice { input, .. }
             | IR::Filter { input, .. }
@@ -54,9 +77,7 @@ impl Entry for IR {
             IR::Scan { .. } | IR::DataFrameScan { .. } | IR::Invalid => Ok(()),
         }
     }
-}
 
-impl IR {
     /// The expressions, in order: for a filter its predicate, for a scan the predicate that it may have, for a selection
     /// and an addition of columns those that make them, for a sort its keys, for a grouping its keys and then its aggregates,
     /// for a join its left keys, its right keys, and then the condition that it may have. Refuses for want of memory alone.
@@ -121,9 +142,26 @@ impl IR {
     }
 
     /// Appends copies of the expressions, in order; the condition of a join isn't among them. Refuses for want of memory
-    /// alone.
+    /// alone, and then changes nothing.
     pub fn copy_exprs(&self, alloc: Global, out: &mut Items<ExprIR>) -> Result<(), AllocError>
-        ensures { OnOk result (out.new ≡ out.old ++ listed_exprs_of self.now) }
+        ensures appended { OnOk result (out.new ≡ out.old ++ listed_exprs_of self.now) }
+        ensures unchanged { OnErr result (out.new ≡ out.old) }
+    {
+        let held = out.len();
+        match self.append_exprs(alloc, out) {
+            Ok(()) => Ok(()),
+            Err(error) => {
+                keep_first(out, held);
+                Err(error)
+            }
+        }
+    }
+
+    /// Appends copies of the expressions, in order; the condition of a join isn't among them. Refuses for want of memory
+    /// alone, and may then have appended some.
+    fn append_exprs(&self, alloc: Global, out: &mut Items<ExprIR>) -> Result<(), AllocError>
+        ensures appended { OnOk result (out.new ≡ out.old ++ listed_exprs_of self.now) }
+        ensures front { OnErr result (take (length out.old) out.new ≡ out.old) }
     {
         for expr in self.listed_exprs(alloc)?.as_slice() {
             out.push(expr.try_clone(alloc)?)?;

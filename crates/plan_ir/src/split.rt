@@ -26,3 +26,12 @@ pub(crate) fn split_at<T: Drop>(
     }
     Ok((first, rest))
 }
+
+/// Drops the items behind the first so many.
+pub(crate) fn keep_first<T: Drop>(items: &mut Items<T>, count: usize)
+    ensures { items.new ≡ take count items.old }
+{
+    while count < items.len() {
+        let _ = items.pop();
+    }
+}
