@@ -160,7 +160,7 @@ fn is_right<'a>(
     }
 }
 
-/// Reads a line, and tries the case where it is one.
+/// Reads a line, and tries the case where it is one. Refuses for want of memory alone.
 pub fn tried<'a>(alloc: Global, words: &mut Words<'a>, line: &'a str) -> Result<Line, AllocError>
     ensures { IfOk result (λ found. IsRead words.old line.now found words.new) }
 {
@@ -176,7 +176,7 @@ pub fn tried<'a>(alloc: Global, words: &mut Words<'a>, line: &'a str) -> Result<
     Ok(judged(right))
 }
 
-/// Reads lines, one after another, and tries those that are cases.
+/// Reads lines, one after another, and tries those that are cases. Refuses for want of memory alone.
 pub fn all_tried<'a>(
     alloc: Global,
     words: &mut Words<'a>,

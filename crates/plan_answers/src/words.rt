@@ -44,7 +44,7 @@ fn defined(line: &str) -> Option<(&str, &str)>
     Some((word, trimmed(rest)))
 }
 
-/// The lines of a text.
+/// The lines of a text. Refuses for want of memory alone.
 pub fn lines_of(alloc: Global, text: &str) -> Result<Vec<&str>, AllocError>
     ensures { IfOk result (λ found. map (λ line. line.now) found.items ≡ lines text.now) }
 {
@@ -67,7 +67,7 @@ fn words_of<'a>(alloc: Global, lines: &[&'a str]) -> Result<Vec<(&'a str, &'a st
 }
 
 impl<'a> Words<'a> {
-    /// The words that the lines of a file give, in their order.
+    /// The words that the lines of a file give, in their order. Refuses for want of memory alone.
     pub fn new(alloc: Global, file: &'a str) -> Result<Self, AllocError>
         ensures { IfOk result (AreWordsOf (filter gives_word (lines file.now))) }
     {
@@ -100,7 +100,7 @@ impl<'a> Words<'a> {
         }
     }
 
-    /// The text with each word replaced wherever it stands, one word after another.
+    /// The text with each word replaced wherever it stands, one word after another. Refuses for want of memory alone.
     pub fn full(&self, alloc: Global, text: &str) -> Result<String, AllocError>
         ensures { IfOk result (λ full. IsFilled self.now text.now (string_bytes full)) }
     {

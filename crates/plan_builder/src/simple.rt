@@ -112,7 +112,8 @@ impl IRBuilder<'_> {
         Ok(())
     }
 
-    /// Puts on the plan a projection to the columns at these numbers, as `project_simple` does to their names.
+    /// Puts on the plan a projection to the columns at these numbers, as `project_simple` does to their names, and
+    /// refuses as that does.
     pub fn project_simple_nodes(&mut self, alloc: Global, nodes: &[Node]) -> PolarsResult<()>
         requires built { IsBuilt self.old.lp_arena.now self.old.expr_arena.now self.old.root }
         requires columns { All (IsColumn self.old.expr_arena.now) nodes.now }

@@ -44,7 +44,9 @@ fn check_all(node: Node, df: Option<u32>, schema: &Schema) -> PolarsResult<()>
     Ok(())
 }
 
-/// Checks a scan of the frame under a number.
+/// Checks a scan of the frame under a number. Refuses with `SchemaFieldNotFound` at the first column of `output` that
+/// the frame lacks, the first one being at place 1; then with `SchemaMismatch` at place 0 where there are columns
+/// without a number, or else at the first column of `output` that has another type in the frame.
 pub fn check_frame_scan(
     node: Node,
     df: Option<u32>,

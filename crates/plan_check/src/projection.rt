@@ -9,9 +9,9 @@ use plan_core::{Node, PolarsError, PolarsResult, Schema, TryClone};
 use plan_function::at;
 use std::alloc::Global;
 
-/// Checks a simple projection over the columns of its input: `InvalidOperation` at place 0 where it has no columns,
-/// `SchemaFieldNotFound` at the first column that isn't there, and then `SchemaMismatch` at the first of another type. No two
-/// have one name, since they are a schema.
+/// Checks a simple projection over the columns of its input. Refuses with `InvalidOperation` at place 0 where it has no
+/// columns, with `SchemaFieldNotFound` at the first column that isn't there, and then with `SchemaMismatch` at the
+/// first of another type. No two have one name, since they are a schema.
 #[tactic(auto, using(plan_function::proofs::CheckLemmas::fault_append))]
 pub fn check_projection(node: Node, columns: &Schema, schema: &Schema) -> PolarsResult<()>
     ensures { Says result (first_fault node (projection_checks columns.now schema.now)) }

@@ -40,8 +40,9 @@ fn is_plain(
     predicate.is_none() && options.slice.is_none() && is_one_each(hive, sources)
 }
 
-/// Checks a scan: `InvalidOperation` at place 0 where it has a form that isn't built; then its columns, those of its
-/// `output` from place 1 on, and after them the names that it is told to read.
+/// Checks a scan, and refuses with its first fault: `InvalidOperation` at place 0 where it has a form that isn't built;
+/// then those of its columns, of its `output` from place 1 on, and after them of the names that it is told to read.
+/// Refuses where memory is short, too.
 #[tactic(auto, unfolding(plan_meaning::specs::Typing::is_built_scan))]
 pub fn check_scan(
     alloc: Global,

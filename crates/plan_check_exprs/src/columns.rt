@@ -16,7 +16,8 @@ pub fn columns_differ(node: Node, columns: &Schema)
     let _count = columns.len();
 }
 
-/// Each column's name is one of the schema's, else `SchemaFieldNotFound` at the column; the first one is at place 1.
+/// Each column's name is one of the schema's, else refuses with `SchemaFieldNotFound` at the column; the first one is
+/// at place 1.
 pub fn check_columns_known(node: Node, columns: &Schema, schema: &Schema) -> PolarsResult<()>
     ensures { Says result (first_fault node (each SchemaFieldNotFound 1 (λ c. is_known schema.now c.0) columns.now)) }
 {
@@ -30,7 +31,8 @@ pub fn check_columns_known(node: Node, columns: &Schema, schema: &Schema) -> Pol
     Ok(())
 }
 
-/// Each column is one of the schema's, with its type, else `SchemaMismatch` at the column; the first one is at place 1.
+/// Each column is one of the schema's, with its type, else refuses with `SchemaMismatch` at the column; the first one
+/// is at place 1.
 pub fn check_columns_typed(node: Node, columns: &Schema, schema: &Schema) -> PolarsResult<()>
     ensures { Says result (first_fault node (each SchemaMismatch 1 (is_one schema.now) columns.now)) }
 {
@@ -44,7 +46,7 @@ pub fn check_columns_typed(node: Node, columns: &Schema, schema: &Schema) -> Pol
     Ok(())
 }
 
-/// The stored columns are those that are computed; else a `SchemaMismatch` at place 0.
+/// The stored columns are those that are computed, else refuses with `SchemaMismatch` at place 0.
 #[tactic(auto, unfolding(plan_meaning::specs::Checks::stored_checks))]
 pub fn check_stored(node: Node, stored: &Schema, computed: &Schema) -> PolarsResult<()>
     ensures { Says result (first_fault node (stored_checks stored.now computed.now)) }

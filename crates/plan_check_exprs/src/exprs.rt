@@ -16,7 +16,7 @@ use plan_frame::{expr_type, reads_only};
 use plan_function::at;
 use std::alloc::Global;
 
-/// Each expression has a form; the first expression stands at place 1.
+/// Each expression has a form, else refuses with `InvalidOperation` at the expression; the first one stands at place 1.
 pub fn check_forms(node: Node, exprs: &[ExprIR], ex: &Arena<AExpr>) -> PolarsResult<()>
     requires { All (λ e. IsExpr ex.now e.node) exprs.now }
     ensures { Says result (first_fault node (form_checks (all_named_at ex.now exprs.now))) }
@@ -29,7 +29,8 @@ pub fn check_forms(node: Node, exprs: &[ExprIR], ex: &Arena<AExpr>) -> PolarsRes
     Ok(())
 }
 
-/// Each expression reads columns of the schema; the first expression stands at `place`.
+/// Each expression reads columns of the schema, else refuses with `SchemaFieldNotFound` at the expression; the first
+/// one stands at `place`.
 pub fn check_leaves_from(
     node: Node,
     place: usize,
@@ -48,7 +49,8 @@ pub fn check_leaves_from(
     Ok(())
 }
 
-/// Each expression reads columns of the schema; the first expression stands at place 1.
+/// Each expression reads columns of the schema, else refuses with `SchemaFieldNotFound` at the expression; the first
+/// one stands at place 1.
 #[tactic(auto, unfolding(plan_meaning::specs::Checks::leaf_checks))]
 pub fn check_leaves(
     node: Node,
@@ -62,7 +64,7 @@ pub fn check_leaves(
     check_leaves_from(node, 1, exprs, ex, schema)
 }
 
-/// Each expression has a type; the first expression stands at place 1.
+/// Each expression has a type, else refuses with `SchemaMismatch` at the expression; the first one stands at place 1.
 pub fn check_types(
     node: Node,
     exprs: &[ExprIR],
@@ -80,7 +82,8 @@ pub fn check_types(
     Ok(())
 }
 
-/// Each expression has a plain type; the first expression stands at place 1.
+/// Each expression has a plain type, else refuses with `SchemaMismatch` at the expression; the first one stands at
+/// place 1.
 pub fn check_plain(
     node: Node,
     exprs: &[ExprIR],
@@ -98,7 +101,8 @@ pub fn check_plain(
     Ok(())
 }
 
-/// No expression has the name of one before it; the first expression stands at place 1.
+/// No expression has the name of one before it, else refuses with `Duplicate` at the expression; the first one stands
+/// at place 1. Refuses where memory is short, too.
 pub fn check_outputs(
     alloc: Global,
     node: Node,
@@ -116,7 +120,8 @@ pub fn check_outputs(
     Ok(())
 }
 
-/// Each expression is named as it may be; the first expression stands at `place`.
+/// Each expression is named as it may be, else refuses with `SchemaMismatch` at the expression; the first one stands at
+/// `place`.
 pub fn check_namings_from(
     node: Node,
     place: usize,
@@ -134,7 +139,8 @@ pub fn check_namings_from(
     Ok(())
 }
 
-/// Each expression is named as it may be; the first expression stands at place 1.
+/// Each expression is named as it may be, else refuses with `SchemaMismatch` at the expression; the first one stands at
+/// place 1.
 #[tactic(auto, unfolding(plan_meaning::specs::Checks::naming_checks))]
 pub fn check_namings(node: Node, exprs: &[ExprIR], ex: &Arena<AExpr>) -> PolarsResult<()>
     requires { All (λ e. IsExpr ex.now e.node) exprs.now }

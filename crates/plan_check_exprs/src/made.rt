@@ -34,7 +34,9 @@ pub fn made_schema(
     Ok(made)
 }
 
-/// Checks the expressions of a node over the columns of its input, and gives the columns of the node.
+/// Checks the expressions of a node over the columns of its input, and gives the columns of the node. Refuses with
+/// their first fault: of form, of columns that they read, of types, of names that come twice, of the stored columns,
+/// and then of output names; and where memory is short.
 #[tactic(auto, using(plan_function::proofs::CheckLemmas::fault_append), unfolding(plan_meaning::specs::Typing::made_checks))]
 pub fn check_made(
     alloc: Global,

@@ -126,7 +126,8 @@ fn json(alloc: Global, bytes: &[u8]) -> Result<Value, ReadError>
     }
 }
 
-/// The document that the bytes stand for, or why they stand for none.
+/// The document that the bytes stand for. `NotJson` where no JSON value is read from them, `Form` where that is no
+/// document, and `OutOfMemory` where memory is short.
 #[tactic(auto, unfolding(crate::specs::Document::doc_of))]
 pub fn read_document(alloc: Global, bytes: &[u8]) -> Result<Document, ReadError>
     ensures { IsReading result (doc_of bytes.now) }

@@ -209,7 +209,8 @@ fn len(value: &Value) -> Result<AExpr, Fault>
     Ok(AExpr::Len)
 }
 
-/// The expression of an entry, by its `op`.
+/// The expression of an entry, by its `op`. `Form` where the entry is no expression, and `Memory` where memory is
+/// short.
 #[tactic(auto, unfolding(crate::specs::Exprs::expr_of))]
 pub fn expr(alloc: Global, value: &Value) -> Result<AExpr, Fault>
     ensures { Gives result (expr_of (view value.now)) }

@@ -64,7 +64,7 @@ fn invalid(value: &Value) -> Result<IR, Fault>
     Ok(IR::Invalid)
 }
 
-/// The node of an entry, by its `op`.
+/// The node of an entry, by its `op`. `Form` where the entry is no node, and `Memory` where memory is short.
 #[tactic(auto, unfolding(crate::specs::Nodes::node_of))]
 pub fn node(alloc: Global, value: &Value) -> Result<IR, Fault>
     ensures { Gives result (node_of (view value.now)) }

@@ -7,7 +7,8 @@ use plan_core::{Arena, Items};
 use serde_json::Value;
 use std::alloc::Global;
 
-/// The list of what `read` gives at each entry.
+/// The list of what `read` gives at each entry. Refuses as `read` does at the first entry that it refuses, and with
+/// `Memory` where memory is short.
 pub fn each<T: Drop, F: Fn(&Value) -> Result<T, Fault>>(
     alloc: Global,
     entries: &[Value],
@@ -26,7 +27,8 @@ pub fn each<T: Drop, F: Fn(&Value) -> Result<T, Fault>>(
     Ok(found)
 }
 
-/// The arena of what `read` gives at each entry.
+/// The arena of what `read` gives at each entry. Refuses as `read` does at the first entry that it refuses, and with
+/// `Memory` where memory is short.
 pub fn arena_of_each<T: Drop, F: Fn(&Value) -> Result<T, Fault>>(
     alloc: Global,
     entries: &[Value],

@@ -66,7 +66,8 @@ pub fn only<'a>(value: &'a Value, key: &str) -> Result<&'a Value, Fault>
     field(object(value, &[key])?, key)
 }
 
-/// The number of a node or an expression under a key; whether such an entry is there isn't asked.
+/// The number of a node or an expression under a key; whether such an entry is there isn't asked. `Form` where the key
+/// is absent or something else stands there.
 #[tactic(auto, unfolding(crate::specs::Members::at))]
 pub fn link_at(object: &Value, key: &str) -> Result<Node, Fault>
     ensures { Gives result (at key.now link_of (view object.now)) }
@@ -74,7 +75,7 @@ pub fn link_at(object: &Value, key: &str) -> Result<Node, Fault>
     link(field(object, key)?)
 }
 
-/// The whole number of 64 signed bits under a key.
+/// The whole number of 64 signed bits under a key. `Form` where the key is absent or something else stands there.
 #[tactic(auto, unfolding(crate::specs::Members::at))]
 pub fn integer_at(object: &Value, key: &str) -> Result<i64, Fault>
     ensures { Gives result (at key.now integer_of (view object.now)) }
@@ -82,7 +83,7 @@ pub fn integer_at(object: &Value, key: &str) -> Result<i64, Fault>
     integer(field(object, key)?)
 }
 
-/// The whole number from 0 to 4294967295 under a key.
+/// The whole number from 0 to 4294967295 under a key. `Form` where the key is absent or something else stands there.
 #[tactic(auto, unfolding(crate::specs::Members::at))]
 pub fn number_at(object: &Value, key: &str) -> Result<u32, Fault>
     ensures { Gives result (at key.now number_of (view object.now)) }
@@ -90,7 +91,8 @@ pub fn number_at(object: &Value, key: &str) -> Result<u32, Fault>
     number(field(object, key)?)
 }
 
-/// The array of whole numbers from 0 to 4294967295 under a key.
+/// The array of whole numbers from 0 to 4294967295 under a key. `Form` where the key is absent or something else stands
+/// there, and `Memory` where memory is short.
 #[tactic(auto, unfolding(crate::specs::Members::at))]
 pub fn numbers_at(alloc: Global, object: &Value, key: &str) -> Result<Items<u32>, Fault>
     ensures { Gives result (at key.now numbers_of (view object.now)) }
@@ -98,7 +100,7 @@ pub fn numbers_at(alloc: Global, object: &Value, key: &str) -> Result<Items<u32>
     numbers(alloc, field(object, key)?)
 }
 
-/// The truth value under a key.
+/// The truth value under a key. `Form` where the key is absent or something else stands there.
 #[tactic(auto, unfolding(crate::specs::Members::at))]
 pub fn truth_at(object: &Value, key: &str) -> Result<bool, Fault>
     ensures { Gives result (at key.now truth_of (view object.now)) }
@@ -106,7 +108,8 @@ pub fn truth_at(object: &Value, key: &str) -> Result<bool, Fault>
     truth(field(object, key)?)
 }
 
-/// The text under a key, as a name.
+/// The text under a key, as a name. `Form` where the key is absent or something else stands there, and `Memory` where
+/// memory is short.
 #[tactic(auto, unfolding(crate::specs::Members::at))]
 pub fn name_at(alloc: Global, object: &Value, key: &str) -> Result<PlSmallStr, Fault>
     ensures { Gives result (at key.now name_of (view object.now)) }
@@ -114,7 +117,8 @@ pub fn name_at(alloc: Global, object: &Value, key: &str) -> Result<PlSmallStr, F
     name(alloc, field(object, key)?)
 }
 
-/// The array of names under a key.
+/// The array of names under a key. `Form` where the key is absent or something else stands there, and `Memory` where
+/// memory is short.
 #[tactic(auto, unfolding(crate::specs::Members::at))]
 pub fn names_at(alloc: Global, object: &Value, key: &str) -> Result<Items<PlSmallStr>, Fault>
     ensures { Gives result (at key.now names_of (view object.now)) }
@@ -122,7 +126,8 @@ pub fn names_at(alloc: Global, object: &Value, key: &str) -> Result<Items<PlSmal
     names(alloc, field(object, key)?)
 }
 
-/// The array of names with types under a key, no name twice.
+/// The array of names with types under a key, no name twice. `Form` where the key is absent or something else stands
+/// there, and `Memory` where memory is short.
 #[tactic(auto, unfolding(crate::specs::Members::at))]
 pub fn columns_at(alloc: Global, object: &Value, key: &str) -> Result<Schema, Fault>
     ensures { Gives result (at key.now columns_of (view object.now)) }
@@ -130,7 +135,8 @@ pub fn columns_at(alloc: Global, object: &Value, key: &str) -> Result<Schema, Fa
     columns(alloc, field(object, key)?)
 }
 
-/// The expression with its output name under a key.
+/// The expression with its output name under a key. `Form` where the key is absent or something else stands there, and
+/// `Memory` where memory is short.
 #[tactic(auto, unfolding(crate::specs::Members::at))]
 pub fn output_at(alloc: Global, object: &Value, key: &str) -> Result<ExprIR, Fault>
     ensures { Gives result (at key.now output_of (view object.now)) }
@@ -138,7 +144,8 @@ pub fn output_at(alloc: Global, object: &Value, key: &str) -> Result<ExprIR, Fau
     output(alloc, field(object, key)?)
 }
 
-/// The array of numbers of nodes or of expressions under a key.
+/// The array of numbers of nodes or of expressions under a key. `Form` where the key is absent or something else stands
+/// there, and `Memory` where memory is short.
 #[tactic(auto, unfolding(crate::specs::Members::at))]
 pub fn links_at(alloc: Global, object: &Value, key: &str) -> Result<Items<Node>, Fault>
     ensures { Gives result (at key.now links_of (view object.now)) }
@@ -146,7 +153,8 @@ pub fn links_at(alloc: Global, object: &Value, key: &str) -> Result<Items<Node>,
     links(alloc, field(object, key)?)
 }
 
-/// The array of truth values under a key.
+/// The array of truth values under a key. `Form` where the key is absent or something else stands there, and `Memory`
+/// where memory is short.
 #[tactic(auto, unfolding(crate::specs::Members::at))]
 pub fn truths_at(alloc: Global, object: &Value, key: &str) -> Result<Items<bool>, Fault>
     ensures { Gives result (at key.now truths_of (view object.now)) }
@@ -154,7 +162,8 @@ pub fn truths_at(alloc: Global, object: &Value, key: &str) -> Result<Items<bool>
     truths(alloc, field(object, key)?)
 }
 
-/// The array of expressions with their output names under a key.
+/// The array of expressions with their output names under a key. `Form` where the key is absent or something else
+/// stands there, and `Memory` where memory is short.
 #[tactic(auto, unfolding(crate::specs::Members::at))]
 pub fn outputs_at(alloc: Global, object: &Value, key: &str) -> Result<Items<ExprIR>, Fault>
     ensures { Gives result (at key.now outputs_of (view object.now)) }
@@ -162,7 +171,7 @@ pub fn outputs_at(alloc: Global, object: &Value, key: &str) -> Result<Items<Expr
     outputs(alloc, field(object, key)?)
 }
 
-/// What a node that makes columns may do, under a key.
+/// What a node that makes columns may do, under a key. `Form` where the key is absent or something else stands there.
 #[tactic(auto, unfolding(crate::specs::Members::at))]
 pub fn options_at(object: &Value, key: &str) -> Result<ProjectionOptions, Fault>
     ensures { Gives result (at key.now options_of (view object.now)) }

@@ -12,7 +12,7 @@ use plan_expr::ExprIR;
 use serde_json::Value;
 use std::alloc::Global;
 
-/// Under a key null, or a number.
+/// Under a key null, or a number. `Form` where the key is absent or something else stands there.
 #[tactic(auto, using(crate::proofs::NullLemmas::nullable_null, crate::proofs::NullLemmas::nullable_other), unfolding(crate::specs::Members::at))]
 pub fn optional_number_at(object: &Value, key: &str) -> Result<Option<u32>, Fault>
     ensures { Gives result (at key.now (nullable number_of) (view object.now)) }
@@ -24,7 +24,8 @@ pub fn optional_number_at(object: &Value, key: &str) -> Result<Option<u32>, Faul
     Ok(Some(number(value)?))
 }
 
-/// Under a key null, or a name.
+/// Under a key null, or a name. `Form` where the key is absent or something else stands there, and `Memory` where
+/// memory is short.
 #[tactic(auto, using(crate::proofs::NullLemmas::nullable_null, crate::proofs::NullLemmas::nullable_other), unfolding(crate::specs::Members::at))]
 pub fn optional_name_at(
     alloc: Global,
@@ -40,7 +41,7 @@ pub fn optional_name_at(
     Ok(Some(name(alloc, value)?))
 }
 
-/// Under a key null, or the first row and how many rows.
+/// Under a key null, or the first row and how many rows. `Form` where the key is absent or something else stands there.
 #[tactic(auto, using(crate::proofs::NullLemmas::nullable_null, crate::proofs::NullLemmas::nullable_other), unfolding(crate::specs::Members::at))]
 pub fn optional_slice_at(object: &Value, key: &str) -> Result<Option<(i64, usize)>, Fault>
     ensures { Gives result (at key.now (nullable slice_of) (view object.now)) }
@@ -52,7 +53,8 @@ pub fn optional_slice_at(object: &Value, key: &str) -> Result<Option<(i64, usize
     Ok(Some(slice(value)?))
 }
 
-/// Under a key null, or an expression with its output name.
+/// Under a key null, or an expression with its output name. `Form` where the key is absent or something else stands
+/// there, and `Memory` where memory is short.
 #[tactic(auto, using(crate::proofs::NullLemmas::nullable_null, crate::proofs::NullLemmas::nullable_other), unfolding(crate::specs::Members::at))]
 pub fn optional_output_at(alloc: Global, object: &Value, key: &str) -> Result<Option<ExprIR>, Fault>
     ensures { Gives result (at key.now (nullable output_of) (view object.now)) }
@@ -64,7 +66,8 @@ pub fn optional_output_at(alloc: Global, object: &Value, key: &str) -> Result<Op
     Ok(Some(output(alloc, value)?))
 }
 
-/// Under a key null, or names.
+/// Under a key null, or names. `Form` where the key is absent or something else stands there, and `Memory` where memory
+/// is short.
 #[tactic(auto, using(crate::proofs::NullLemmas::nullable_null, crate::proofs::NullLemmas::nullable_other), unfolding(crate::specs::Members::at))]
 pub fn optional_names_at(
     alloc: Global,
@@ -80,7 +83,8 @@ pub fn optional_names_at(
     Ok(Some(names(alloc, value)?))
 }
 
-/// Under a key null, or names with types.
+/// Under a key null, or names with types. `Form` where the key is absent or something else stands there, and `Memory`
+/// where memory is short.
 #[tactic(auto, using(crate::proofs::NullLemmas::nullable_null, crate::proofs::NullLemmas::nullable_other), unfolding(crate::specs::Members::at))]
 pub fn optional_columns_at(
     alloc: Global,

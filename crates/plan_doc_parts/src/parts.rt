@@ -11,7 +11,7 @@ use plan_expr::{ExprIR, OutputName};
 use serde_json::Value;
 use std::alloc::Global;
 
-/// A whole number from 0 to 4294967295.
+/// A whole number from 0 to 4294967295. `Form` for any other value.
 #[tactic(auto, unfolding(crate::specs::Parts::number_of))]
 pub fn number(value: &Value) -> Result<u32, Fault>
     ensures { Gives result (number_of (view value.now)) }
@@ -50,7 +50,7 @@ pub fn links(alloc: Global, value: &Value) -> Result<Items<Node>, Fault>
     each(alloc, entries, |entry| link(entry))
 }
 
-/// A whole number of 64 signed bits.
+/// A whole number of 64 signed bits. `Form` for any other value.
 #[tactic(auto, unfolding(crate::specs::Parts::integer_of))]
 pub fn integer(value: &Value) -> Result<i64, Fault>
     ensures { Gives result (integer_of (view value.now)) }
@@ -58,7 +58,7 @@ pub fn integer(value: &Value) -> Result<i64, Fault>
     value.as_i64().ok_or(Fault::Form)
 }
 
-/// True or false.
+/// True or false. `Form` for any other value.
 #[tactic(auto, unfolding(crate::specs::Parts::truth_of))]
 pub fn truth(value: &Value) -> Result<bool, Fault>
     ensures { Gives result (truth_of (view value.now)) }
@@ -75,7 +75,7 @@ pub fn truths(alloc: Global, value: &Value) -> Result<Items<bool>, Fault>
     each(alloc, entries, |entry| truth(entry))
 }
 
-/// A text.
+/// A text. `Form` for any other value.
 #[tactic(auto, unfolding(crate::specs::Parts::name_of))]
 pub fn text(value: &Value) -> Result<&str, Fault>
     ensures { Shows (λ s. s.now) result (name_of (view value.now)) }
@@ -83,7 +83,7 @@ pub fn text(value: &Value) -> Result<&str, Fault>
     value.as_str().ok_or(Fault::Form)
 }
 
-/// A text, as a name.
+/// A text, as a name. `Form` for any other value, and `Memory` where memory is short.
 pub fn name(alloc: Global, value: &Value) -> Result<PlSmallStr, Fault>
     ensures { Gives result (name_of (view value.now)) }
 {
@@ -91,7 +91,7 @@ pub fn name(alloc: Global, value: &Value) -> Result<PlSmallStr, Fault>
     Ok(PlSmallStr::new(alloc, text)?)
 }
 
-/// The entries of an array.
+/// The entries of an array. `Form` for any other value.
 pub fn entries(value: &Value) -> Result<&[Value], Fault>
     ensures { Shows (λ v. map view v.now) result (entries_of (view value.now)) }
 {
@@ -101,7 +101,7 @@ pub fn entries(value: &Value) -> Result<&[Value], Fault>
     }
 }
 
-/// The entries of an array of two.
+/// The entries of an array of two. `Form` for any other value.
 #[tactic(auto, unfolding(crate::specs::Parts::two_of))]
 pub fn two(value: &Value) -> Result<(&Value, &Value), Fault>
     ensures { Shows (λ p. (view p.0.now, view p.1.now)) result (two_of (view value.now)) }
@@ -112,7 +112,7 @@ pub fn two(value: &Value) -> Result<(&Value, &Value), Fault>
     }
 }
 
-/// The entries of an array of three.
+/// The entries of an array of three. `Form` for any other value.
 #[tactic(auto, unfolding(crate::specs::Parts::three_of))]
 pub fn three(value: &Value) -> Result<(&Value, &Value, &Value), Fault>
     ensures { Shows (λ p. (view p.0.now, view p.1.now, view p.2.now)) result
@@ -133,7 +133,7 @@ pub fn names(alloc: Global, value: &Value) -> Result<Items<PlSmallStr>, Fault>
     each(alloc, entries, |entry| name(alloc, entry))
 }
 
-/// The name of a type.
+/// The name of a type. `Form` for any other value.
 #[tactic(auto, unfolding(crate::specs::Parts::type_of, crate::specs::Parts::type_named))]
 pub fn data_type(value: &Value) -> Result<DataType, Fault>
     ensures { Gives result (type_of (view value.now)) }
@@ -149,7 +149,7 @@ pub fn data_type(value: &Value) -> Result<DataType, Fault>
     }
 }
 
-/// The name of a type of a single value.
+/// The name of a type of a single value. `Form` for any other value.
 #[tactic(auto, unfolding(crate::specs::Parts::plain_of, crate::specs::Parts::plain_named))]
 pub fn plain_type(value: &Value) -> Result<PlainType, Fault>
     ensures { Gives result (plain_of (view value.now)) }
@@ -190,7 +190,7 @@ pub fn columns(alloc: Global, value: &Value) -> Result<Schema, Fault>
     Ok(columns)
 }
 
-/// An expression with its output name.
+/// An expression with its output name. `Form` for any other value, and `Memory` where memory is short.
 #[tactic(auto, unfolding(crate::specs::Parts::output_of, crate::specs::Parts::output_name_of))]
 pub fn output(alloc: Global, value: &Value) -> Result<ExprIR, Fault>
     ensures { Gives result (output_of (view value.now)) }

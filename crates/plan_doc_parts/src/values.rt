@@ -53,7 +53,7 @@ fn typed_value(alloc: Global, dtype: DataType, value: &Value) -> Result<AnyValue
     }
 }
 
-/// Null, or a value of the type.
+/// Null, or a value of the type. `Form` for any other value, and `Memory` where memory is short.
 pub fn any_value(alloc: Global, dtype: DataType, value: &Value) -> Result<AnyValue, Fault>
     ensures { Gives result (any_value_of dtype (view value.now)) }
 {
@@ -63,7 +63,7 @@ pub fn any_value(alloc: Global, dtype: DataType, value: &Value) -> Result<AnyVal
     typed_value(alloc, dtype, value)
 }
 
-/// An array of values, each null or of the type.
+/// An array of values, each null or of the type. `Form` for any other value, and `Memory` where memory is short.
 #[tactic(auto, unfolding(crate::specs::Values::any_values_of))]
 pub fn any_values(alloc: Global, dtype: DataType, value: &Value) -> Result<Items<AnyValue>, Fault>
     ensures { Gives result (any_values_of dtype (view value.now)) }

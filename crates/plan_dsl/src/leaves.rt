@@ -65,7 +65,7 @@ pub fn expr_to_leaf_column_names_iter(
     })
 }
 
-/// The names of the columns in the expression, in walk order, with repeats.
+/// The names of the columns in the expression, in walk order, with repeats. Refuses for want of memory alone.
 pub fn expr_to_leaf_column_names(
     alloc: Global,
     expr: &Expr,

@@ -13,7 +13,7 @@ use std::alloc::{AllocError, Global};
 impl Expr {
     /// The expression that the function makes of this one: it is called for each expression after those
     /// that this one is made of, in walk order, which stand for what it answered for them. The function
-    /// may be called on every expression, in every state.
+    /// may be called on every expression, in every state. Refuses for want of memory alone.
     pub fn map_expr<F: FnMut(Expr) -> Expr>(self, alloc: Global, f: F) -> Result<Expr, AllocError>
         requires { F.IsAlwaysCallable f }
         ensures { IfOk result (λ r. (last : F) × Maps (λ p n a q. F.step p n a q) f (self ∷ []) (r ∷ []) last) }

@@ -31,7 +31,7 @@ fn type_of(value: &str) -> DataType {
     }
 }
 
-/// A column of these values, of the type of the first.
+/// A column of these values, of the type of the first. Refuses for want of memory alone.
 pub fn column(alloc: Global, name: &str, values: &[&str]) -> Result<Column, AllocError>
     ensures named { IfOk result (λ c. c.name ≡ name.now) }
     ensures each { IfOk result (λ c. length c.values ≡ length values.now) }
@@ -51,7 +51,8 @@ pub fn column(alloc: Global, name: &str, values: &[&str]) -> Result<Column, Allo
     })
 }
 
-/// The table of the columns a, b and c with these values, and a row for each value of a.
+/// The table of the columns a, b and c with these values, and a row for each value of a. Refuses for want of memory
+/// alone.
 pub fn table(alloc: Global, a: &[&str], b: &[&str], c: &[&str]) -> Result<Table, AllocError>
     ensures height { IfOk result (λ t. t.height ≡ length a.now) }
     ensures columns { IfOk result (λ t. lengths_of t.columns ≡ (codes "a", length a.now) ∷ (codes "b", length b.now) ∷ (codes "c", length c.now) ∷ []) }
@@ -67,7 +68,7 @@ pub fn table(alloc: Global, a: &[&str], b: &[&str], c: &[&str]) -> Result<Table,
 }
 
 /// Adds the table of a source that has none yet, where each column has a value of its type for each row; else the tables
-/// stay as they are.
+/// stay as they are. Refuses for want of memory alone.
 pub fn add(key: SourceKey, table: Table, tables: &mut Tables) -> Result<(), AllocError>
     ensures added { table_at tables.old key ≡ None → HasRows table → OnOk result (tables.new ≡ tables.old ++ (key, table) ∷ []) }
     ensures taken { is_some (table_at tables.old key) ≡ true → tables.new ≡ tables.old }

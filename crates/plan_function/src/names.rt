@@ -16,7 +16,7 @@ pub fn is_column(schema: &Schema, name: &str, dtype: DataType) -> bool
     schema.get(name).copied() == Some(dtype)
 }
 
-/// Each name is one of the schema's, else `SchemaFieldNotFound` at the name; the first one is at `place`.
+/// Each name is one of the schema's, else refuses with `SchemaFieldNotFound` at the name; the first one is at `place`.
 pub fn check_names_known(
     node: Node,
     place: usize,
@@ -50,7 +50,8 @@ pub fn check_names_typed(
     Ok(())
 }
 
-/// No name is one before it, else `Duplicate` at the name; the first one is at `place`.
+/// No name is one before it, else refuses with `Duplicate` at the name; the first one is at `place`. Refuses where
+/// memory is short, too.
 pub fn check_names_new(
     alloc: Global,
     node: Node,
@@ -68,7 +69,7 @@ pub fn check_names_new(
     Ok(())
 }
 
-/// The names of a list, each once, in the order in which they first come.
+/// The names of a list, each once, in the order in which they first come. Refuses for want of memory alone.
 pub fn set_of(alloc: Global, names: &[PlSmallStr]) -> Result<Names, AllocError>
     ensures { IfOk result (λ set. set ≡ with_names [] names.now) }
 {

@@ -5,7 +5,7 @@ ghost use Rattle.plan_narrowing.specs.Pruned.{asked_columns as asked_of, kept as
 use plan_core::{Names, PlSmallStr, Schema};
 use std::alloc::{AllocError, Global};
 
-/// The names with their types in a schema; those that it lacks are left out.
+/// The names with their types in a schema; those that it lacks are left out. Refuses for want of memory alone.
 pub fn typed_columns(alloc: Global, names: &Names, schema: &Schema) -> Result<Schema, AllocError>
     ensures { IfOk result (λ columns. columns ≡ typed_names schema.now names.now) }
 {
@@ -20,7 +20,7 @@ pub fn typed_columns(alloc: Global, names: &Names, schema: &Schema) -> Result<Sc
     Ok(columns)
 }
 
-/// The asked names with their types among columns; none where nothing is asked.
+/// The asked names with their types among columns; none where nothing is asked. Refuses for want of memory alone.
 pub fn asked_columns(
     alloc: Global,
     asked: &Names,
@@ -34,7 +34,8 @@ pub fn asked_columns(
     Ok(Some(typed_columns(alloc, asked, columns)?))
 }
 
-/// The columns that a projection keeps: those that are asked, in its own order; asked no names, all.
+/// The columns that a projection keeps: those that are asked, in its own order; asked no names, all. Refuses for want
+/// of memory alone.
 pub fn kept_columns(alloc: Global, columns: Schema, asked: &Names) -> Result<Schema, AllocError>
     ensures { IfOk result (λ kept. kept ≡ kept_of asked.now columns) }
 {
@@ -52,7 +53,8 @@ pub fn kept_columns(alloc: Global, columns: Schema, asked: &Names) -> Result<Sch
     Ok(kept)
 }
 
-/// What a scan of a frame puts out: asked no names, what it put out, else the asked names with their types in the schema.
+/// What a scan of a frame puts out: asked no names, what it put out, else the asked names with their types in the
+/// schema. Refuses for want of memory alone.
 pub fn pruned_output(
     alloc: Global,
     output: Option<Schema>,

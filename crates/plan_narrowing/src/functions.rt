@@ -12,7 +12,7 @@ use plan_function::Renaming;
 use plan_ir::{FunctionIR, UnpivotArgsIR};
 use std::alloc::{AllocError, Global};
 
-/// The names that are columns, in their order.
+/// The names that are columns, in their order. Refuses for want of memory alone.
 pub fn known_names(alloc: Global, names: &Names, columns: &Schema) -> Result<Names, AllocError>
     ensures { IfOk result (λ known. known ≡ filter_list (has (names_of columns.now)) names.now) }
 {

@@ -6,7 +6,7 @@ ghost use Rattle.plan_core.specs.Names.{with_names};
 use plan_core::{Items, Names, PlSmallStr, Schema};
 use std::alloc::{AllocError, Global};
 
-/// A copy of names.
+/// A copy of names. Refuses for want of memory alone.
 pub fn copied_names(alloc: Global, names: &Names) -> Result<Names, AllocError>
     ensures { IfOk result (λ copy. copy ≡ names.now) }
 {
@@ -19,7 +19,7 @@ pub fn copied_names(alloc: Global, names: &Names) -> Result<Names, AllocError>
     Ok(copy)
 }
 
-/// The names as a list.
+/// The names as a list. Refuses for want of memory alone.
 pub fn listed_names(alloc: Global, names: &Names) -> Result<Items<PlSmallStr>, AllocError>
     ensures { IfOk result (λ list. list ≡ names.now) }
 {

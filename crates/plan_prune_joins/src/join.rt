@@ -198,7 +198,7 @@ fn prepare_asked(
     }
 }
 
-/// The step of a join, by what is kept of it.
+/// The step of a join, by what is kept of it. Refuses for want of memory alone.
 pub fn prepare(
     alloc: Global,
     join: IR,

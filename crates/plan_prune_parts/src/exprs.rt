@@ -11,7 +11,8 @@ use plan_core::{Arena, Items, Names, Node, PlSmallStr, Schema, TryClone};
 use plan_expr::{AExpr, ExprIR, output_name};
 use std::alloc::{AllocError, Global};
 
-/// Adds the names of the columns of an expression, in walk order.
+/// Adds the names of the columns of an expression, in walk order. Refuses for want of memory alone, and then nothing is
+/// known of the names.
 pub fn add_names(names: &mut Names, node: Node, ex: &Arena<AExpr>) -> Result<(), AllocError>
     requires { IsExpr ex.now node }
     ensures { OnOk result (names.new ≡ with_names names.old (leaves (expr_at ex.now node))) }
@@ -29,7 +30,8 @@ pub fn add_names(names: &mut Names, node: Node, ex: &Arena<AExpr>) -> Result<(),
     Ok(())
 }
 
-/// Adds the names of the columns of the expressions, in walk order.
+/// Adds the names of the columns of the expressions, in walk order. Refuses for want of memory alone, and then nothing
+/// is known of the names.
 pub fn add_all_names(
     names: &mut Names,
     exprs: &[ExprIR],
@@ -44,7 +46,7 @@ pub fn add_all_names(
     Ok(())
 }
 
-/// The expressions that are asked, in their order.
+/// The expressions that are asked, in their order. Refuses for want of memory alone.
 pub fn asked_exprs(
     alloc: Global,
     exprs: &[ExprIR],
@@ -61,7 +63,7 @@ pub fn asked_exprs(
     Ok(kept)
 }
 
-/// The expressions that are asked, in their order; asked nothing, all.
+/// The expressions that are asked, in their order; asked nothing, all. Refuses for want of memory alone.
 pub fn kept_exprs(
     alloc: Global,
     exprs: Items<ExprIR>,
@@ -76,7 +78,7 @@ pub fn kept_exprs(
 }
 
 /// The columns, and those that the expressions make beside them: each in the place of the one of its name, or last, with its
-/// type in the schema; one that the schema lacks is left out.
+/// type in the schema; one that the schema lacks is left out. Refuses for want of memory alone.
 pub fn with_typed(
     alloc: Global,
     base: Schema,

@@ -97,7 +97,7 @@ fn asks(
     Ok(names)
 }
 
-/// The step of a selection.
+/// The step of a selection. Refuses for want of memory alone.
 pub fn prepare(
     alloc: Global,
     selection: IR,

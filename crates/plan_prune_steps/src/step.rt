@@ -23,7 +23,7 @@ use plan_prune_parts::{Kept, Step};
 use std::alloc::{AllocError, Global};
 
 /// The step of a node that was taken and is asked these names, by what is kept of it, which the step doesn't have yet; no names
-/// stand for every column.
+/// stand for every column. Refuses for want of memory alone.
 pub fn prepare(
     alloc: Global,
     entry: IR,

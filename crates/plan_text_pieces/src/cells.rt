@@ -73,7 +73,8 @@ fn write_singles(writer: &mut Writer, values: &[PlainValue]) -> Result<(), Alloc
     writer.end_array()
 }
 
-/// Writes a value: null, a whole number, a text, a truth value, or an array of such.
+/// Writes a value: null, a whole number, a text, a truth value, or an array of such. Refuses for want of memory alone,
+/// and then nothing is known of what was written.
 pub fn write_cell(writer: &mut Writer, value: &AnyValue) -> Result<(), AllocError>
     ensures tokens { OnOk result (writer.new.tokens
         ≡ writer.old.tokens ++ json_tokens (outline (value_data value.now))) }

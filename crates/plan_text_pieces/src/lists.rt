@@ -25,7 +25,7 @@ pub fn each<T, F: Fn(&T) -> Result<Value, AllocError>>(
     Ok(written)
 }
 
-/// What `write` gives at each entry, in order.
+/// What `write` gives at each entry, in order. Refuses for want of memory alone.
 pub fn each_entry<T, F: Fn(&T) -> Result<Value, AllocError>>(
     alloc: Global,
     arena: &Arena<T>,

@@ -12,7 +12,7 @@ use plan_scan::ScanSources;
 use serde_json::{Value, json};
 use std::alloc::{AllocError, Global};
 
-/// The object of paths, or of the numbers of buffers.
+/// The object of paths, or of the numbers of buffers. Refuses for want of memory alone.
 pub fn sources(alloc: Global, given: &ScanSources) -> Result<Value, AllocError>
     ensures { IfOk result (λ v. view v ≡ sources_data given.now) }
 {

@@ -130,7 +130,7 @@ fn value(alloc: Global, piece: &Piece<'_>) -> Result<Value, AllocError>
     }
 }
 
-/// The object of these entries, whose keys stand in byte order.
+/// The object of these entries, whose keys stand in byte order. Refuses for want of memory alone.
 pub fn object(alloc: Global, entries: Entries<'_>) -> Result<Value, AllocError>
     requires { are_ascending (map piece_key entries.items) ≡ true }
     ensures { IfOk result (λ v. view v ≡ object_of entries.entry.items) }

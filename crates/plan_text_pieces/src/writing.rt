@@ -29,7 +29,8 @@ fn write_field(writer: &mut Writer, name: &str, data_type: DataType) -> Result<(
     writer.end_array()
 }
 
-/// Writes the array of the columns of a schema, in order.
+/// Writes the array of the columns of a schema, in order. Refuses for want of memory alone, and then nothing is known
+/// of what was written.
 #[tactic(auto, unfolding(crate::specs::Values::list_data))]
 pub fn write_columns(writer: &mut Writer, schema: &Schema) -> Result<(), AllocError>
     ensures tokens { OnOk result (writer.new.tokens
@@ -43,7 +44,7 @@ pub fn write_columns(writer: &mut Writer, schema: &Schema) -> Result<(), AllocEr
     writer.end_array()
 }
 
-/// Writes the array of names.
+/// Writes the array of names. Refuses for want of memory alone, and then nothing is known of what was written.
 #[tactic(auto, unfolding(crate::specs::Values::list_data))]
 pub fn write_names(writer: &mut Writer, names: &[PlSmallStr]) -> Result<(), AllocError>
     ensures tokens { OnOk result (writer.new.tokens
@@ -232,7 +233,7 @@ fn write_piece(writer: &mut Writer, piece: &Piece<'_>) -> Result<(), AllocError>
     }
 }
 
-/// Writes the object of these entries.
+/// Writes the object of these entries. Refuses for want of memory alone, and then nothing is known of what was written.
 pub fn write_object(writer: &mut Writer, entries: &[(&str, Piece<'_>)]) -> Result<(), AllocError>
     ensures tokens { OnOk result (writer.new.tokens
         ≡ writer.old.tokens ++ json_tokens (outline (object_of entries.now))) }
