@@ -9,7 +9,7 @@ use Rattle.plan_core.specs.declared.options.FileScanOptions.{FileScanOptions}
 use Rattle.plan_core.specs.Columns.{Columns, names_of, type_of, same_columns}
 use Rattle.plan_core.specs.Names.{has}
 use Rattle.plan_core.proofs.SameLemmas.{same_columns-Decides}
-use Rattle.plan_files.specs.FileColumns.{hive_columns, plain_columns}
+use Rattle.plan_files.specs.FileColumns.{hive_columns, plain_columns, row_columns}
 use Rattle.plan_files.specs.HiveParts.{are_alike}
 use Rattle.plan_scan.specs.Stats.{Stats}
 use Rattle.plan_ir.specs.declared.scan.FileInfo.{FileInfo}
@@ -79,7 +79,7 @@ pub record ScanGood (sources : ℕ) (predicate : Option Named) (output : Option 
   pub known : AllByRecursion (λ (c : Name × DataType). is_known (scan_columns info hive options) c.0 ≡ true) (columns_or output [])
   pub told : AllByRecursion (λ (a : Name). is_known (reader_columns info) a ≡ true) (names_or options.with_columns [])
   pub alike : are_alike hive ≡ true
-  pub put_out : AllHold (put_out_checks output options.with_columns (plain_columns (reader_columns info) (hive_columns hive)) (scan_columns info hive options))
+  pub put_out : AllHold (put_out_checks output options.with_columns (row_columns options.row_index) (plain_columns (reader_columns info) (hive_columns hive)) (scan_columns info hive options))
   pub plain : AllByRecursion (λ (a : Name). not (has (names_of (hive_columns hive)) a) ≡ true) (names_or options.with_columns [])
   pub differ : all_differ (names_of (columns_or output (scan_columns info hive options))) ≡ true
   pub once : AllHold (each_new (suc (length (columns_or output []))) [] (names_or options.with_columns []))
@@ -95,7 +95,7 @@ scan_good sources predicate output info hive options h =
     let told = names_or options.with_columns [] in
     let a : List Check = each SchemaFieldNotFound 1 (λ (c : Name × DataType). is_known file c.0) outs in
     let b : List Check = each SchemaFieldNotFound (suc (length outs)) (is_known reader) told in
-    let c : List Check = put_out_checks output options.with_columns (plain_columns reader (hive_columns hive)) file in
+    let c : List Check = put_out_checks output options.with_columns (row_columns options.row_index) (plain_columns reader (hive_columns hive)) file in
     let d : List Check = each SchemaMismatch (suc (length outs)) (λ (x : Name). not (has (names_of (hive_columns hive)) x)) told in
     let e : List Check = differ_checks (columns_or output file) in
     let f : List Check = each_new (suc (length outs)) [] told in
@@ -128,7 +128,7 @@ good_scan sources predicate output info hive options g =
     let told = names_or options.with_columns [] in
     let a : List Check = each SchemaFieldNotFound 1 (λ (c : Name × DataType). is_known file c.0) outs in
     let b : List Check = each SchemaFieldNotFound (suc (length outs)) (is_known reader) told in
-    let c : List Check = put_out_checks output options.with_columns (plain_columns reader (hive_columns hive)) file in
+    let c : List Check = put_out_checks output options.with_columns (row_columns options.row_index) (plain_columns reader (hive_columns hive)) file in
     let d : List Check = each SchemaMismatch (suc (length outs)) (λ (x : Name). not (has (names_of (hive_columns hive)) x)) told in
     let e : List Check = differ_checks (columns_or output file) in
     let f : List Check = each_new (suc (length outs)) [] told in

@@ -19,9 +19,9 @@ use Rattle.plan_scan.specs.Sources.{sources_of}
 use Rattle.plan_scan.specs.declared.file_scan.FileScan.{FileScan}
 use Rattle.plan_scan.specs.declared.file_scan.FileScan.TheVariants as kinds
 use Rattle.plan_files.specs.FileColumns.{file_columns, hive_columns, path_columns, plain_columns, read_names, row_columns}
-use Rattle.plan_files.specs.FileReads.{first_alone, is_counted, is_given, is_read, is_told, left_names, own_names, stand_in}
+use Rattle.plan_files.specs.FileReads.{first_alone, is_counted, is_given, is_told, left_names, own_names, stand_in}
 use Rattle.plan_files.proofs.FileLemmas.{type_of-files}
-use Rattle.plan_meaning.specs.Typing.{columns_or, reader_columns, scan_columns, all_read, put_out_checks, subset_checks, first_schema, schema_by, schemas, checks, AllHold, AllValid}
+use Rattle.plan_meaning.specs.Typing.{columns_or, reader_columns, scan_columns, all_read, is_number_or_read, put_out_checks, subset_checks, first_schema, schema_by, schemas, checks, AllHold, AllValid}
 use Rattle.plan_frame.specs.Beside.{side_by_side}
 use Rattle.plan_frame.specs.Frames.{names_or}
 use Rattle.plan_frame.specs.Made.{made_schema}
@@ -209,19 +209,20 @@ all_read_each : (told : Option (List Name)) (cs : Columns) → all_read told cs 
 all_read_each told [] h = tt
 all_read_each told (c ∷ cs) h = let p = and_parts (is_told told c.0) (all_read told cs) h in (p.0, all_read_each told cs p.1)
 
-second_parts : (file : Columns) (told : Option (List Name)) (plain cs : Columns) → AllByRecursion (λ (c : Name × DataType). (is_column file c && is_read told plain c.0) ≡ true) cs → AllByRecursion (λ (c : Name × DataType). is_read told plain c.0 ≡ true) cs
-second_parts file told plain [] h = tt
-second_parts file told plain (c ∷ cs) h = ((and_parts (is_column file c) (is_read told plain c.0) h.0).1, second_parts file told plain cs h.1)
+second_parts : (file : Columns) (told : Option (List Name)) (row plain cs : Columns) → AllByRecursion (λ (c : Name × DataType). (is_column file c && is_number_or_read row told plain c.0) ≡ true) cs → AllByRecursion (λ (c : Name × DataType). is_number_or_read row told plain c.0 ≡ true) cs
+second_parts file told row plain [] h = tt
+second_parts file told row plain (c ∷ cs) h = ((and_parts (is_column file c) (is_number_or_read row told plain c.0) h.0).1, second_parts file told row plain cs h.1)
 
--- what a scan puts out of its files' own columns is read
-pub out_read : (output : Option Columns) (told : Option (List Name)) (plain file : Columns) → AllHold (put_out_checks output told plain file) → (a : Name) → has (names_of (columns_or output file)) a ≡ true → has (names_of plain) a ≡ true → is_told told a ≡ true
+-- what a scan puts out of its files' own columns is read, but for the column that numbers the rows
+pub out_read : (output : Option Columns) (told : Option (List Name)) (row plain file : Columns) → AllHold (put_out_checks output told row plain file) → (a : Name) → has (names_of (columns_or output file)) a ≡ true → has (names_of row) a ≡ false → has (names_of plain) a ≡ true → is_told told a ≡ true
 unfolding put_out_checks
-out_read None told plain file h a i j = column_passes (λ (x : Name). is_told told x ≡ true) plain (all_read_each told plain h.0) a j
-out_read (Some out) told plain file h a i j = at (has (names_of plain) a) j (column_passes (λ (x : Name). is_read told plain x ≡ true) out (second_parts file told plain out (each_pass SchemaMismatch 1 (λ (c : Name × DataType). is_column file c && is_read told plain c.0) out h)) a i)
+out_read None told row plain file h a i n j = column_passes (λ (x : Name). is_told told x ≡ true) plain (all_read_each told plain h.0) a j
+out_read (Some out) told row plain file h a i n j = at (has (names_of row) a) (has (names_of plain) a) n j (column_passes (λ (x : Name). is_number_or_read row told plain x ≡ true) out (second_parts file told row plain out (each_pass SchemaMismatch 1 (λ (c : Name × DataType). is_column file c && is_number_or_read row told plain c.0) out h)) a i)
   where
-    at : (b : Bool) → b ≡ true → (not b || is_told told a) ≡ true → is_told told a ≡ true
-    at true e q = q
-    at false e q = cc
+    at : (numbers b : Bool) → numbers ≡ false → b ≡ true → (numbers || (not b || is_told told a)) ≡ true → is_told told a ≡ true
+    at false true e f q = q
+    at false false e f q = cc
+    at true b e f q = cc
 
 -- and is found in its files
 pub out_found : (output : Option Columns) (file : Columns) → AllByRecursion (λ (c : Name × DataType). is_known file c.0 ≡ true) (columns_or output []) → (a : Name) → has (names_of (columns_or output file)) a ≡ true → is_some (type_of file a) ≡ true
@@ -265,7 +266,7 @@ read_of : (told : Option (List Name)) (reader hive : Columns) (a : Name) → has
 read_of None reader hive a i h = i
 read_of (Some given) reader hive a i h = h
 
-module _ (wanted : List Name) (kind : FileScan) (told : Option (List Name)) (reader hive : Columns) (options : FileScanOptions) (output : Option Columns) (put : AllHold (put_out_checks output told (plain_columns reader hive) (file_columns reader hive options))) (asked : (b : Name) → has wanted b ≡ true → has (names_of (columns_or output (file_columns reader hive options))) b ≡ true) (found : (b : Name) → has wanted b ≡ true → is_some (type_of (file_columns reader hive options) b) ≡ true) where
+module _ (wanted : List Name) (kind : FileScan) (told : Option (List Name)) (reader hive : Columns) (options : FileScanOptions) (output : Option Columns) (put : AllHold (put_out_checks output told (row_columns options.row_index) (plain_columns reader hive) (file_columns reader hive options))) (asked : (b : Name) → has wanted b ≡ true → has (names_of (columns_or output (file_columns reader hive options))) b ≡ true) (found : (b : Name) → has wanted b ≡ true → is_some (type_of (file_columns reader hive options) b) ≡ true) where
   own_reads : (a : Name) → has (own_names wanted hive options) a ≡ true → has (read_names told reader hive) a ≡ true
   own_reads a i =
       let row = row_columns options.row_index in
@@ -274,7 +275,7 @@ module _ (wanted : List Name) (kind : FileScan) (told : Option (List Name)) (rea
       let n = none_of (has (names_of row) a) (has (names_of path) a) (has (names_of hive) a) q.1 in
       let there : is_some (type_of reader a) ≡ true = found_at (type_of row a) (type_of hive a) (type_of reader a) (type_of path a) (some-type_of row a ∙ n.0) (some-type_of hive a ∙ n.2) (some-type_of path a ∙ n.1) (ap is_some (sym (type_of-files reader hive options a)) ∙ found a q.0) in
       let plain : has (names_of (plain_columns reader hive)) a ≡ true = subst (λ (l : List Name). has l a ≡ true) (sym (names-where (λ (b : Name). not (has (names_of hive) b)) reader)) (has_where (λ (b : Name). not (has (names_of hive) b)) (names_of reader) a (ap not n.2) (sym (some-type_of reader a) ∙ there)) in
-      read_of told reader hive a plain (out_read output told (plain_columns reader hive) (file_columns reader hive options) put a (asked a q.0) plain)
+      read_of told reader hive a plain (out_read output told (row_columns options.row_index) (plain_columns reader hive) (file_columns reader hive options) put a (asked a q.0) n.0 plain)
 
   scan_reads : (a : Name) → has (left_names kind wanted (read_names told reader hive) hive options) a ≡ true → has (read_names told reader hive) a ≡ true
   scan_reads a i = at (list_all (is_counted options) wanted) i

@@ -11,19 +11,6 @@ use Rattle.plan_meaning.specs.Relating.{Relates}
 use Rattle.plan_meaning.proofs.Runs.{valid_runs, may_have_all}
 use Rattle.plan_frame.proofs.TurnLemmas.{HaveSchemas}
 
--- one relation after another
-pub relates_trans : (S T U : Columns → Columns → Type 0) (F G H : Frame → Frame → Type 0) → ((r s t : Columns) → S r s → T s t → U r t) → ((f g h : Frame) → F f g → G g h → H f h) → (r q p : Plan) → Relates S F r q → Relates T G q p → Relates U H r p
-relates_trans S T U F G H su fu r q p a b = record {
-  valid = a.valid;
-  schema = su _ _ _ a.schema b.schema;
-  fits = λ c k. a.fits c (b.fits c k);
-  run = λ c k. a.run c (b.fits c k);
-  may = λ c f k m.
-      let x = a.may c f (b.fits c k) m in
-      let y = b.may c x.0 k x.1 in
-      (y.0, y.1, fu f x.0 y.0 x.2 y.2);
-}
-
 -- another relation of columns that is at hand, and a weaker one of frames
 pub relates_to : (S T : Columns → Columns → Type 0) (F G : Frame → Frame → Type 0) (r p : Plan) → T (schema r) (schema p) → ((f g : Frame) → F f g → G f g) → Relates S F r p → Relates T G r p
 relates_to S T F G r p s fg a = record {

@@ -16,7 +16,7 @@ use Rattle.plan_frame.specs.Grouping.{group_exprs}
 use Rattle.plan_meaning.specs.Mapped.{mapped}
 use Rattle.plan_meaning.specs.Checks.{is_column, is_plain_type}
 use Rattle.plan_meaning.specs.Typing.{columns_or, reader_columns, scan_columns, first_schema, schema_by, schema, schemas, checks, AllHold, AllValid}
-use Rattle.plan_files.specs.FileColumns.{hive_columns, plain_columns}
+use Rattle.plan_files.specs.FileColumns.{hive_columns, plain_columns, row_columns}
 use Rattle.plan_files.proofs.FileLemmas.{path_apart}
 use Rattle.plan_file_frames.specs.FileFrames.{no_frame, parts_of, scan_frame}
 use Rattle.plan_file_frames.proofs.ScanFrames.{scan_has}
@@ -92,7 +92,7 @@ step_has c (scan sources info hive predicate output kind options) [] [] f good f
     (scan_has (reader_columns info) (hive_columns hive) options (parts_of hive (scan_sources sources) (frames_of c sources)) out
     (path_apart (reader_columns info) (hive_columns hive) options names)
     (parts_fit c (reader_columns info) hive (scan_sources sources) one good_parts.alike fit)
-    (out_typed output options.with_columns (plain_columns (reader_columns info) (hive_columns hive)) file names good_parts.put_out))
+    (out_typed output options.with_columns (row_columns options.row_index) (plain_columns (reader_columns info) (hive_columns hive)) file names good_parts.put_out))
 step_has c (slice offset len) (s ∷ []) (g ∷ []) f good fit has st =
     subst (λ (x : Frame). HasSchema x s) (sym st) (rows_schema (slice_rows offset len g.height) g s has.0)
 step_has c (frame_scan df schema output) [] [] f good fit has st =

@@ -15,13 +15,12 @@ use Rattle.plan_frame.proofs.NameSets.{named, same_named}
 use Rattle.plan_scan.specs.Source.{Source as ScanSource}
 use Rattle.plan_scan.specs.Stats.{Stats, columns_of}
 use Rattle.plan_files.specs.FileColumns.{hive_columns}
-use Rattle.plan_files.specs.FileReads.{is_read}
 use Rattle.plan_files.specs.HiveParts.{are_alike, are_one_each, are_typed}
 use Rattle.plan_file_frames.specs.FileFrames.{PartFits, no_frame, parts_of}
 use Rattle.plan_ir.specs.declared.scan.FileInfo.{FileInfo}
 use Rattle.plan_meaning.specs.Checks.{is_column, is_none}
 use Rattle.plan_meaning.specs.Contents.{Contents, HasFrame, Source, frame_or, place_of}
-use Rattle.plan_meaning.specs.Typing.{columns_or, is_built_scan, put_out_checks, AllHold}
+use Rattle.plan_meaning.specs.Typing.{columns_or, is_built_scan, is_number_or_read, put_out_checks, AllHold}
 use Rattle.plan_meaning.proofs.CheckParts.{each_pass, same_is}
 
 -- each of columns whose names differ has its own type
@@ -42,14 +41,14 @@ own_types (c ∷ file) d = (rw (same_named c.0) refl, later file d.0 (own_types 
     later (x ∷ cs) far is = (past x far.0 is.0, later cs far.1 is.1)
 
 -- what a scan puts out are columns of its files
-pub out_typed : (output : Option Columns) (told : Option (List Name)) (plain file : Columns) → HasDistinctNames file → AllHold (put_out_checks output told plain file) → AllByRecursion (λ (c : Name × DataType). type_of file c.0 ≡ Some c.1) (columns_or output file)
+pub out_typed : (output : Option Columns) (told : Option (List Name)) (row plain file : Columns) → HasDistinctNames file → AllHold (put_out_checks output told row plain file) → AllByRecursion (λ (c : Name × DataType). type_of file c.0 ≡ Some c.1) (columns_or output file)
 unfolding put_out_checks
-out_typed None told plain file d h = own_types file d
-out_typed (Some out) told plain file d h = typed out (each_pass SchemaMismatch 1 (λ (c : Name × DataType). is_column file c && is_read told plain c.0) out h)
+out_typed None told row plain file d h = own_types file d
+out_typed (Some out) told row plain file d h = typed out (each_pass SchemaMismatch 1 (λ (c : Name × DataType). is_column file c && is_number_or_read row told plain c.0) out h)
   where
-    typed : (cs : Columns) → AllByRecursion (λ (c : Name × DataType). (is_column file c && is_read told plain c.0) ≡ true) cs → AllByRecursion (λ (c : Name × DataType). type_of file c.0 ≡ Some c.1) cs
+    typed : (cs : Columns) → AllByRecursion (λ (c : Name × DataType). (is_column file c && is_number_or_read row told plain c.0) ≡ true) cs → AllByRecursion (λ (c : Name × DataType). type_of file c.0 ≡ Some c.1) cs
     typed [] h = tt
-    typed (c ∷ cs) h = (is_type_some (type_of file c.0) c.1 (and_parts (is_column file c) (is_read told plain c.0) h.0).0, typed cs h.1)
+    typed (c ∷ cs) h = (is_type_some (type_of file c.0) c.1 (and_parts (is_column file c) (is_number_or_read row told plain c.0) h.0).0, typed cs h.1)
 
 -- the table of a source holds the columns that the reader finds
 source_holds : (c : Contents) (reader : Columns) (s : Source) → HasFrame c reader s → HoldsAll (frame_or c s) reader

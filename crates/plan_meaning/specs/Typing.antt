@@ -17,7 +17,7 @@ use Rattle.plan_tree.specs.Rose.{Rose, Roses, rose, no_roses, more}
 use Rattle.plan_ir.specs.declared.functions.FunctionIR.{FunctionIR}
 use Rattle.plan_ir.specs.declared.functions.FunctionIR.TheVariants.{Rename, RowIndex, Unpivot, Explode, FastCount}
 use Rattle.plan_ir.specs.declared.functions.UnpivotArgsIR.{UnpivotArgsIR}
-use Rattle.plan_files.specs.FileColumns.{file_columns, hive_columns, plain_columns}
+use Rattle.plan_files.specs.FileColumns.{file_columns, hive_columns, plain_columns, row_columns}
 use Rattle.plan_files.specs.FileReads.{is_read, is_told}
 use Rattle.plan_files.specs.HiveParts.{are_alike, are_one_each}
 use Rattle.plan_ir.specs.declared.scan.FileInfo.{FileInfo}
@@ -123,10 +123,14 @@ abbrev pub all_read : Option (List Name) → Columns → Bool
 all_read told [] = true
 all_read told (c ∷ cs) = is_told told c.0 && all_read told cs
 
--- what a scan puts out has the files' types and is read where it is read from the files; a scan that puts out everything reads all that is
-unfoldable pub put_out_checks : Option Columns → Option (List Name) → (plain file : Columns) → List Check
-put_out_checks None told plain file = check SchemaMismatch 0 (all_read told plain) ∷ []
-put_out_checks (Some output) told plain file = each SchemaMismatch 1 (λ (c : Name × DataType). is_column file c && is_read told plain c.0) output
+-- a name is that of the column that numbers the rows, or is read where it is one of the columns that are read from the files
+abbrev pub is_number_or_read : (row : Columns) → Option (List Name) → (plain : Columns) → Name → Bool
+is_number_or_read row told plain a = has (names_of row) a || is_read told plain a
+
+-- what a scan puts out has the files' types and is read where the first column of its name is read from the files; a scan that puts out everything reads all that is
+unfoldable pub put_out_checks : Option Columns → Option (List Name) → (row plain file : Columns) → List Check
+put_out_checks None told row plain file = check SchemaMismatch 0 (all_read told plain) ∷ []
+put_out_checks (Some output) told row plain file = each SchemaMismatch 1 (λ (c : Name × DataType). is_column file c && is_number_or_read row told plain c.0) output
 
 -- what a scan puts out are columns of the files, and then what it is told to read are columns that a reader finds
 unfoldable pub scan_name_checks : Columns → List Name → (file reader : Columns) → List Check
@@ -135,10 +139,10 @@ scan_name_checks outs told file reader =
     ++ each SchemaFieldNotFound (suc (length outs)) (is_known reader) told
 
 -- the hive parts are alike; what a scan puts out has its type and is read; and what it is told to read are no hive columns
-unfoldable pub scan_type_checks : Option Columns → Option (List Name) → Option (List Stats) → (reader file : Columns) → List Check
-scan_type_checks output told hive reader file =
+unfoldable pub scan_type_checks : Option Columns → Option (List Name) → Option (List Stats) → (row reader file : Columns) → List Check
+scan_type_checks output told hive row reader file =
     check SchemaMismatch 0 (are_alike hive)
-    ∷ (put_out_checks output told (plain_columns reader (hive_columns hive)) file
+    ∷ (put_out_checks output told row (plain_columns reader (hive_columns hive)) file
     ++ each SchemaMismatch (suc (length (columns_or output []))) (λ (a : Name). not (has (names_of (hive_columns hive)) a)) (names_or told []))
 
 -- whether a scan of so many sources has a form that is built: a reader's columns, a hive part for each source where parts are given, and neither a predicate nor a slice
@@ -151,10 +155,10 @@ unfoldable pub schema_checks : Columns → Columns → List Check
 schema_checks stored computed = check SchemaMismatch 0 (same_columns stored computed && all_differ (names_of computed)) ∷ []
 
 -- what a scan puts out and is told to read are columns of its files, each put out once and read once; its stored columns are those of the files
-unfoldable pub scan_column_checks : Option Columns → Option (List Name) → Option (List Stats) → (stored reader file : Columns) → List Check
-scan_column_checks output told hive stored reader file =
+unfoldable pub scan_column_checks : Option Columns → Option (List Name) → Option (List Stats) → (stored row reader file : Columns) → List Check
+scan_column_checks output told hive stored row reader file =
     scan_name_checks (columns_or output []) (names_or told []) file reader
-    ++ (scan_type_checks output told hive reader file
+    ++ (scan_type_checks output told hive row reader file
     ++ (differ_checks (columns_or output file)
     ++ (each_new (suc (length (columns_or output []))) [] (names_or told [])
     ++ schema_checks stored file)))
@@ -163,7 +167,7 @@ scan_column_checks output told hive stored reader file =
 abbrev pub scan_checks : ℕ → Option Named → Option Columns → FileInfo → Option (List Stats) → FileScanOptions → List Check
 scan_checks sources predicate output info hive options =
     check InvalidOperation 0 (is_built_scan sources predicate info hive options)
-    ∷ scan_column_checks output options.with_columns hive info.schema (reader_columns info) (scan_columns info hive options)
+    ∷ scan_column_checks output options.with_columns hive info.schema (row_columns options.row_index) (reader_columns info) (scan_columns info hive options)
 
 -- without a number a frame has no columns
 unfoldable pub number_checks : Option ℕ → Columns → List Check
