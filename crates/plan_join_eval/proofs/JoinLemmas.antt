@@ -34,6 +34,7 @@ use Rattle.plan_pairs.specs.Pairs.{Test, both}
 use Rattle.plan_pairs.specs.Rows.{flipped, AreMatches}
 use Rattle.plan_pairs.proofs.OrderLemmas.{own-asked}
 use Rattle.plan_pairs.proofs.PlaceLemmas.{passing-below}
+use Rattle.plan_join_eval.specs.Chosen.{own_told}
 use Rattle.plan_join_eval.specs.Compared.{option_test}
 
 -- keys that are equal are so the other way round
@@ -101,13 +102,17 @@ test_is ex told args left_on right_on f g None e = ap (λ (a : JoinArgs). keys_m
 test_is ex told args left_on right_on f g (Some (IEJoin operators)) e = refl
 test_is ex told args left_on right_on f g (Some (Cross predicate)) e = ap {B = Test} (λ (a : JoinArgs) (i j : ℕ). is_true (value_at (val (expr_at ex predicate.node) (joined a [] [] (both i j ∷ []) f g)) 0)) e
 
--- a join may give the frame along the pairs that it picks
+-- a join chooses the frame along the pairs that it picks
 pub picked-joins : (ex : List AExpr) (o : JoinOptions) (left_on right_on : List ExprIR) (f g frame : Frame) (ps : List RowPair) → All (λ (e : ExprIR). IsExpr ex e.node) left_on → All (λ (e : ExprIR). IsExpr ex e.node) right_on
     → ArePicked o.args.how (own_order o.args.maintain_order) (option_test ex o.args o.options (key_cells (all_named_at ex left_on) f) (key_cells (all_named_at ex right_on) g) f g) f.height g.height ps
-    → frame ≡ joined o.args (key_columns ex left_on) (key_columns ex right_on) ps f g → Joins (told_at ex o) (all_named_at ex left_on) (all_named_at ex right_on) f g frame
+    → frame ≡ joined o.args (key_columns ex left_on) (key_columns ex right_on) ps f g → Joins (own_told (told_at ex o)) (all_named_at ex left_on) (all_named_at ex right_on) f g frame
 picked-joins ex o left_on right_on f g frame ps left right picked is =
     let test = test_is ex (told_at ex o) o.args (all_named_at ex left_on) (all_named_at ex right_on) f g o.options refl in (
       ps,
-      subst (λ (t : Test). ArePicked o.args.how o.args.maintain_order t f.height g.height ps) (sym test) (record { pairs = picked.pairs; in_order = own-asked o.args.maintain_order ps picked.in_order }),
+      subst (λ (t : Test). ArePicked o.args.how (own_order o.args.maintain_order) t f.height g.height ps) (sym test) picked,
       is ∙ sym (ap₂ (λ (lk rk : List Name). joined o.args lk rk ps f g) (columns_at ex left_on left) (columns_at ex right_on right)),
     )
+
+-- which is a frame that it may give
+pub own-joins : (told : Told) (left_on right_on : List Named) (f g frame : Frame) → Joins (own_told told) left_on right_on f g frame → Joins told left_on right_on f g frame
+own-joins told left_on right_on f g frame h = (h.0, record { pairs = h.1.pairs; in_order = own-asked told.args.maintain_order h.0 h.1.in_order }, h.2)

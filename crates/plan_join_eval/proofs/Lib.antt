@@ -4,4 +4,4 @@ mod FillLemmas
 mod AlongLemmas
 mod TableLemmas
 mod CompareLemmas
-mod JoinLemmas
+pub mod JoinLemmas

@@ -3,3 +3,4 @@ pub mod Equal
 pub mod Fills
 pub mod Along
 pub mod Compared
+pub mod Chosen

@@ -5,6 +5,7 @@ ghost use Rattle.plan_expr.specs.Exprs.{all_named_at};
 ghost use Rattle.plan_expr.specs.Operands.{IsExpr};
 ghost use Rattle.plan_join.specs.Naming.{join_columns, key_columns};
 ghost use Rattle.plan_join.specs.Told.{told_at};
+ghost use Rattle.plan_join_eval.specs.Chosen.{own_told};
 ghost use Rattle.plan_join_eval.specs.Compared.{option_test, IsTold};
 ghost use Rattle.plan_joined.specs.Matching.{Joins};
 ghost use Rattle.plan_pairs.specs.Rows.{AreJoined};
@@ -62,7 +63,8 @@ fn matches(
     }
 }
 
-/// The table of a join of two: rows that match, and rows of one side alone, as its kind says, in an order that is asked, with
+/// The table of a join of two: rows that match, and rows of one side alone, as its kind says, in the order by the rows of both
+/// sides that keeps to the one that is asked: by the left rows first, or by the right ones where those are asked first; with
 /// the columns that it puts out. Where keys are to be equal, the time is that of the rows and of the pairs that are given;
 /// else each pair of rows is compared. Refuses for want of memory alone.
 pub fn evaluate_join(
@@ -80,6 +82,7 @@ pub fn evaluate_join(
     requires told { IsTold ex.now options.now.args options.now.options (schema_of left.now) (schema_of right.now) }
     requires distinct { HasDistinctNames (join_columns options.now.args (key_columns ex.now left_on.now) (key_columns ex.now right_on.now) (schema_of left.now) (schema_of right.now)) }
     ensures frame { IfOk result (λ table. Joins (told_at ex.now options.now) (all_named_at ex.now left_on.now) (all_named_at ex.now right_on.now) (frame_of left.now) (frame_of right.now) (frame_of table)) }
+    ensures choice { IfOk result (λ table. Joins (own_told (told_at ex.now options.now)) (all_named_at ex.now left_on.now) (all_named_at ex.now right_on.now) (frame_of left.now) (frame_of right.now) (frame_of table)) }
     ensures types { IfOk result (λ table. schema_of table ≡ join_columns options.now.args (key_columns ex.now left_on.now) (key_columns ex.now right_on.now) (schema_of left.now) (schema_of right.now)) }
 {
     let left_keys = key_values(alloc, left_on, ex, left)?;
