@@ -77,6 +77,7 @@ fn partitions_are_made_of_values(rt: HostRuntime) -> Result<(), Fail> {
     assert_eq!(rt; stats.len(), 1);
     if let Some(stat) = stats.first() {
         assert_eq!(rt; stat.field.name.as_str(), "y");
+        assert_eq!(rt; stat.field.dtype, DataType::Int64);
         assert_eq!(rt; stat.value, AnyValue::Int64(2020));
     }
     Ok(())
