@@ -25,11 +25,3 @@ module _ {X Y : Type 0} (view : X → Y) where
         ∙ ap₂ (λ (ys zs : List Y). ys ++ zs) (sym (append-nil (map view a.front)) ∙ a.whole) (sym (append-nil (map view b.front)) ∙ b.whole);
     appended = b.appended ∙ ap (λ (xs : List X). xs ++ b.front) a.appended ∙ append_assoc old a.front b.front;
   }
-
-same_items : {X : Type 0} (xs : List X) → map (λ (x : X). x) xs ≡ xs
-same_items [] = refl
-same_items (x ∷ xs) = ap (λ (ys : List _). x ∷ ys) (same_items xs)
-
--- all that was to be appended
-pub appends_all : {X : Type 0} (old new all : List X) → Appends (λ (x : X). x) old new [] all → new ≡ old ++ all
-appends_all {X} old new all a = a.appended ∙ ap (λ (xs : List X). old ++ xs) (sym (same_items a.front) ∙ sym (append-nil (map (λ (x : X). x) a.front)) ∙ a.whole)

@@ -1,10 +1,10 @@
 -- Faults that come first, and columns that are made one after another.
-use Rattle.std.proofs.Common.{Bor, ◌≡◌, ℕ, zero, suc, ◌+◌, ◌<◌, ◌≤◌, min, Bool, true, false, not, ◌||◌, if◌then◌else◌, List, [], ◌∷◌, ◌++◌, Option, Some, None, is_some, unwrap_or, map, take, length, refl, ap, ap₂, sym, ◌∙◌, arith}
+use Rattle.std.proofs.Common.{Bor, ◌≡◌, ℕ, zero, suc, ◌+◌, ◌<◌, min, Bool, true, false, not, ◌||◌, if◌then◌else◌, List, [], ◌∷◌, ◌++◌, Option, Some, None, is_some, unwrap_or, map, take, length, refl, ap, ap₂, sym, ◌∙◌, arith}
 use Rattle.std.specs.Prelude.{MatchOption, option_copied, option_map}
 use Rattle.std.specs.Option.{option_or}
 use Rattle.std.specs.Bool.{OnTrue}
 use Rattle.std.specs.List.{slice_get}
-use Rattle.std.proofs.lemmas.List.{map-append, take-map, take_all, length-take-le, length-map}
+use Rattle.std.proofs.lemmas.List.{map-append, take-map, length-take-le}
 use Rattle.std.proofs.lemmas.Option.{slice_get-map, slice_get_within}
 use Rattle.std.specs.Str.{bytes_eq}
 use Rattle.plan_core.specs.Columns.{Columns, names_of, type_of, with_type}
@@ -161,23 +161,3 @@ pub passed_fault : (context : Context) (s : Columns) (es : List Expr) (i : ℕ) 
     → IsPassed context s es i made repeated → slice_get es i ≡ Some e → expr_fault context s i e ≡ Some f → schema_fault context s es ≡ Some f
 passed_fault context s es i e f made repeated passed there is =
     ap (λ (p : Option PolarsError). option_or p (first_fault (repeat_fault (map name_made es)) 0 (map name_made es))) (first_fault-found (expr_fault context s) es i e f passed.faultless there is)
-
-faultless_all : (context : Context) (s : Columns) (es : List Expr) (i : ℕ) → length es ≤ i → first_fault (expr_fault context s) 0 (take i es) ≡ None → first_fault (expr_fault context s) 0 es ≡ None
-faultless_all context s es i past none = ap (first_fault (expr_fault context s) 0) (sym (take_all i es past)) ∙ none
-
--- after the last expression, where a name is repeated
-pub passed_repeated : (context : Context) (s : Columns) (es : List Expr) (i k : ℕ) (made : Columns) → length es ≤ i → IsPassed context s es i made (Some k)
-    → schema_fault context s es ≡ Some (Duplicate (item_at (min k 4294967295)))
-passed_repeated context s es i k made past passed =
-    ap (λ (p : Option PolarsError). option_or p (first_fault (repeat_fault (map name_made es)) 0 (map name_made es))) (faultless_all context s es i past passed.faultless) ∙ passed.names
-
--- after the last expression, where no name is repeated
-pub passed_made : (context : Context) (s : Columns) (es : List Expr) (i : ℕ) (made : Columns) → length es ≤ i → IsPassed context s es i made None → made ≡ made_columns context s es
-passed_made context s es i made past passed = passed.names.1 ∙ ap (made_columns context s) (take_all i es past)
-
-pub passed_faultless : (context : Context) (s : Columns) (es : List Expr) (i : ℕ) (made : Columns) → length es ≤ i → IsPassed context s es i made None → schema_fault context s es ≡ None
-passed_faultless context s es i made past passed =
-    let names : List (List ℕ) = map name_made es in
-    let long : length names ≤ i = omega (arith, length-map es name_made) in
-    ap (λ (p : Option PolarsError). option_or p (first_fault (repeat_fault names) 0 names)) (faultless_all context s es i past passed.faultless)
-    ∙ ap (first_fault (repeat_fault names) 0) (sym (take_all i names long)) ∙ passed.names.0

@@ -1,9 +1,9 @@
-//! Where the columns of joins are from.
+//! The columns of joins, and where they are from.
 ghost use Rattle.std.specs.Prelude.{◌≡◌, length, IfOk};
 
-use plan_core::{Arena, DataType, Node, PlSmallStr, Schema};
+use plan_core::{Arena, DataType, Node, PlSmallStr, PolarsError, Schema};
 use plan_expr::{AExpr, ExprIR, OutputName};
-use plan_join::{JoinOptions, Side, join_origin};
+use plan_join::{JoinOptions, Side, join_origin, join_schema};
 use plan_options::{JoinArgs, JoinCoalesce, JoinType, MaintainOrderJoin};
 use std::alloc::{AllocError, Global};
 use std::test::Fail;
@@ -68,5 +68,29 @@ fn columns_have_their_origins(rt: HostRuntime) -> Result<(), Fail> {
     assert!(rt; origin(alloc, &sides, &sides, "a", &right, "a")? == Some((Side::Right, 0)));
     let twice = ["b_right", "b"];
     assert!(rt; origin(alloc, &sides, &twice, "a", &inner, "b_right")? == Some((Side::Right, 0)));
+    Ok(())
+}
+
+// The columns that an inner join of two sides with the columns a, b and c puts out, with a as the key of both.
+fn joined(alloc: Global) -> Result<Schema, PolarsError> {
+    let ex = column(alloc, "a")?;
+    let keys = [ExprIR::new(Node(0), OutputName::None)];
+    let side = schema(alloc, &["a", "b", "c"])?;
+    join_schema(
+        alloc,
+        &side,
+        &side,
+        &keys,
+        &keys,
+        &told(JoinType::Inner),
+        &ex,
+    )
+}
+
+#[test]
+fn sides_are_put_out_in_order(rt: HostRuntime) -> Result<(), Fail> {
+    let alloc = rt.alloc();
+    let wanted = schema(alloc, &["a", "b", "c", "b_right", "c_right"])?;
+    assert!(rt; joined(alloc) == Ok(wanted));
     Ok(())
 }

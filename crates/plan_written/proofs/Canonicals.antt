@@ -42,7 +42,6 @@ use Rattle.plan_text_pieces.specs.JoinOptions.{second_items, inequalities_data, 
 use Rattle.plan_text_pieces.specs.Functions.{rename_data, numbering_data, unpivot_data, explode_data, count_data, frame_function_data}
 use Rattle.plan_text.specs.Exprs.{literal_data, expr_data}
 use Rattle.plan_text.specs.Nodes.{slice_node_data, scan_data, frame_scan_data, made_data, sort_data, group_by_data, join_data, distinct_data, map_function_data, union_data, hconcat_data, cache_data, node_data}
-use Rattle.plan_text.specs.Written.{plan_data}
 use Rattle.plan_written.specs.Canonical.{are_canonical}
 use Rattle.plan_written.proofs.Lists.{IsCanonical}
 
@@ -259,10 +258,3 @@ node_canonical (nodes.Union inputs options) = union_canonical inputs options
 node_canonical (nodes.HConcat inputs schema options) = hconcat_canonical inputs schema options
 node_canonical (nodes.Cache input id hits) = cache_canonical input id hits
 node_canonical nodes.Invalid = refl
-
-pub exprs_canonical : (ex : List AExpr) → IsCanonical (list_data expr_data ex)
-exprs_canonical ex = list_canonical expr_data ex expr_canonical
-
-pub plan_canonical : (lp : List IR) (ex : List AExpr) (root : Node) → IsCanonical (plan_data lp ex root)
-unfolding plan_data
-plan_canonical lp ex root = rw (exprs_canonical ex, list_canonical node_data lp node_canonical) refl

@@ -65,13 +65,7 @@ pub truth_again : (b : Bool) → Again truth_of boolean b
 unfolding truth_of
 truth_again b = refl
 
-pub truth_back : Back truth_of boolean
-truth_back = record { again = λ d b c e. truth_again b }
-
 -- a text
 pub name_again : (s : List ℕ) → Again name_of string s
 unfolding name_of
 name_again s = refl
-
-pub name_back : Back name_of string
-name_back = record { again = λ d s c e. name_again s }

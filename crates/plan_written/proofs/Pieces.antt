@@ -19,7 +19,7 @@ use Rattle.plan_text_pieces.specs.Values.{number_data, link_data, integer_data, 
 use Rattle.plan_written.proofs.Gives.{gives3, gives5}
 use Rattle.plan_written.proofs.Steps.{Again, Back}
 use Rattle.plan_written.proofs.Lists.{IsCanonical, entries_again, each_read, list_read, all_again, list_again, nullable_back, nullable_read, two_canonical}
-use Rattle.plan_written.proofs.Parts.{number_again, number_back, link_again, link_back, integer_back, truth_again, name_again, name_back}
+use Rattle.plan_written.proofs.Parts.{number_again, number_back, link_again, link_back, integer_back, truth_again, name_again}
 use Rattle.plan_written.proofs.Names.{type_again}
 
 -- ---- lists
@@ -42,15 +42,9 @@ pub truths_again : (bs : List Bool) → Again truths_of truths_data bs
 unfolding truths_of
 truths_again bs = list_read truth_of boolean bs (all_again truth_of boolean truth_again bs)
 
-pub truths_back : Back truths_of truths_data
-truths_back = record { again = λ d bs c e. truths_again bs }
-
 pub names_again : (ns : List (List ℕ)) → Again names_of names_data ns
 unfolding names_of
 names_again ns = list_read name_of string ns (all_again name_of string name_again ns)
-
-pub names_back : Back names_of names_data
-names_back = record { again = λ d ns c e. names_again ns }
 
 -- ---- columns
 
@@ -183,14 +177,8 @@ pub maybe_names_again : (o : Option (List (List ℕ))) → Again (nullable names
 maybe_names_again None = refl
 maybe_names_again (Some ns) = nullable_read names_of names_data ns no_names (names_again ns)
 
-pub maybe_name : Back (nullable name_of) (nullable_data string)
-maybe_name = nullable_back name_back no_name
-
 pub maybe_number : Back (nullable number_of) (nullable_data number_data)
 maybe_number = nullable_back number_back no_number
-
-pub maybe_names : Back (nullable names_of) (nullable_data names_data)
-maybe_names = nullable_back names_back no_names
 
 pub maybe_columns : Back (nullable columns_of) (nullable_data columns_data)
 maybe_columns = nullable_back columns_back no_columns
