@@ -46,6 +46,16 @@ fn refusals(rt: HostRuntime) -> Result<(), Fail> {
 }
 
 #[test]
+fn absent_columns(rt: HostRuntime) -> Result<(), Fail> {
+    let alloc = rt.alloc();
+    let schema = whole_numbers(alloc)?;
+    let exprs = [column(alloc, "d")?];
+    let absent = expressions_to_schema(alloc, exprs.as_slice(), &schema, Context::Default);
+    assert!(rt; absent == Err(PolarsError::SchemaFieldNotFound(item(0))));
+    Ok(())
+}
+
+#[test]
 fn forms_and_types(rt: HostRuntime) -> Result<(), Fail> {
     let alloc = rt.alloc();
     let schema = whole_numbers(alloc)?;

@@ -55,7 +55,7 @@ pub fn scan(alloc: Global, asked: Option<Items<PlSmallStr>>) -> Result<IR, Alloc
 }
 
 /// An expression that is named after the column b.
-fn named(alloc: Global, number: Node) -> Result<ExprIR, AllocError>
+pub fn named(alloc: Global, number: Node) -> Result<ExprIR, AllocError>
     ensures { IfOk result (λ expr. expr.node ≡ number) }
 {
     let name = OutputName::ColumnLhs(PlSmallStr::new(alloc, "b")?);

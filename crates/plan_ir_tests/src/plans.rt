@@ -1,11 +1,11 @@
 //! Parts, copies and reads of a small plan: a projection to a over a filter b > 1 over a scan of a, b and c.
 
-use crate::made::{filter, greater, projection, scan, texts, union};
+use crate::made::{filter, greater, named, projection, scan, texts, union};
 use plan_check::check_tree;
 use plan_core::{Arena, Items, Node, PlSmallStr, PolarsError, TryClone};
-use plan_expr::{AExpr, LiteralValue};
+use plan_expr::{AExpr, ExprIR, LiteralValue};
 use plan_ir::{ArenaLpIter, IR, PlanCopy, into_renumbered, reads, renumbered, scan_reads};
-use plan_tree::{Step, walk};
+use plan_tree::{Entry, Step, walk};
 use std::alloc::{AllocError, Global};
 use std::test::Fail;
 
@@ -176,9 +176,37 @@ fn union_lists_inputs(alloc: Global) -> Result<bool, AllocError> {
     has_inputs(alloc, &several, &[Node(7), Node(5)])
 }
 
+/// The inputs of a node behind a number.
+fn inputs_behind(alloc: Global, first: Node, node: &IR) -> Result<Items<Node>, AllocError> {
+    let mut inputs = Items::new(alloc);
+    inputs.push(first)?;
+    node.copy_inputs(&mut inputs)?;
+    Ok(inputs)
+}
+
+/// Whether a filter lists its input.
+fn filter_lists_its_input(alloc: Global) -> Result<bool, AllocError> {
+    let node = filter(alloc, Node(2), Node(4))?;
+    has_inputs(alloc, &node, &[Node(2)])
+}
+
+/// The input of a filter behind a number.
+fn input_behind(alloc: Global, first: Node) -> Result<Items<Node>, AllocError> {
+    let node = filter(alloc, Node(2), Node(4))?;
+    inputs_behind(alloc, first, &node)
+}
+
 #[test]
 fn lists_inputs_of_nodes(rt: HostRuntime) -> Result<(), Fail> {
     assert!(rt; union_lists_inputs(rt.alloc())?);
+    assert!(rt; filter_lists_its_input(rt.alloc())?);
+    Ok(())
+}
+
+#[test]
+fn copies_inputs_of_nodes(rt: HostRuntime) -> Result<(), Fail> {
+    let inputs = input_behind(rt.alloc(), Node(7))?;
+    assert_eq!(rt; inputs.as_slice(), [Node(7), Node(2)].as_slice());
     Ok(())
 }
 
@@ -215,17 +243,19 @@ fn lists_expressions_of_nodes(rt: HostRuntime) -> Result<(), Fail> {
     Ok(())
 }
 
-/// How many expressions a filter adds to a list.
-fn copied_of_a_filter(alloc: Global) -> Result<usize, AllocError> {
+/// The expressions that a filter appends to a list without items.
+fn copied_of_a_filter(alloc: Global) -> Result<Items<ExprIR>, AllocError> {
     let node = filter(alloc, Node(2), Node(4))?;
     let mut copies = Items::new(alloc);
     node.copy_exprs(alloc, &mut copies)?;
-    Ok(copies.len())
+    Ok(copies)
 }
 
 #[test]
 fn copies_expressions_of_nodes(rt: HostRuntime) -> Result<(), Fail> {
-    assert_eq!(rt; copied_of_a_filter(rt.alloc())?, 1);
+    let alloc = rt.alloc();
+    let copies = copied_of_a_filter(alloc)?;
+    assert_eq!(rt; copies.as_slice(), [named(alloc, Node(4))?].as_slice());
     Ok(())
 }
 
