@@ -18,7 +18,7 @@ or_assoc : (a b c : Bool) → ((a || b) || c) ≡ (a || (b || c))
 or_assoc true b c = refl
 or_assoc false b c = refl
 
-or_false : (a : Bool) → (a || false) ≡ a
+pub or_false : (a : Bool) → (a || false) ≡ a
 or_false true = refl
 or_false false = refl
 
@@ -58,10 +58,10 @@ all-same reads [] = refl
 all-same reads (c ∷ cs) = ap₂ (λ (a b : Bool). a && b) (reads-same reads c.0) (all-same reads cs)
 
 -- a list and the set of its names are checked alike
-pub put_out_same : (output : Option Columns) (reads : Option (List Name)) (plain file : Columns) → put_out_checks output (as_set reads) plain file ≡ put_out_checks output reads plain file
+pub put_out_same : (output : Option Columns) (reads : Option (List Name)) (row plain file : Columns) → put_out_checks output (as_set reads) row plain file ≡ put_out_checks output reads row plain file
 unfolding put_out_checks
-put_out_same None reads plain file = rw (all-same reads plain) refl
-put_out_same (Some output) reads plain file = each-same _ 1 _ _ output (λ c. ap (λ (b : Bool). is_column file c && (not (has (names_of plain) c.0) || b)) (reads-same reads c.0))
+put_out_same None reads row plain file = rw (all-same reads plain) refl
+put_out_same (Some output) reads row plain file = each-same _ 1 _ _ output (λ c. ap (λ (b : Bool). is_column file c && (has (names_of row) c.0 || (not (has (names_of plain) c.0) || b))) (reads-same reads c.0))
 
 -- a name is one of the columns that are read from files where a reader finds it and it is no hive column
 has-plain : (reader hive : Columns) (a : Name) → has (names_of (plain_columns reader hive)) a ≡ (has (names_of reader) a && not (has (names_of hive) a))

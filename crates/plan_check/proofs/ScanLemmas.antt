@@ -10,7 +10,6 @@ use Rattle.plan_core.specs.Names.{has, AreDistinct}
 use Rattle.plan_expr.specs.Exprs.{Named}
 use Rattle.plan_expr.specs.Leaves.{Name}
 use Rattle.plan_files.specs.FileColumns.{hive_columns, plain_columns}
-use Rattle.plan_files.specs.FileReads.{is_read}
 use Rattle.plan_files.specs.HiveParts.{are_alike}
 use Rattle.plan_frame.specs.Beside.{side_by_side}
 use Rattle.plan_frame.specs.Exprs.{is_type}
@@ -19,7 +18,7 @@ use Rattle.plan_frame.proofs.BesideLemmas.{beside-distinct, type_of-beside}
 use Rattle.plan_ir.specs.declared.scan.FileInfo.{FileInfo}
 use Rattle.plan_meaning.specs.Checks.{Check, check, each, each_new, is_known}
 use Rattle.plan_meaning.specs.Functions.{all_differ}
-use Rattle.plan_meaning.specs.Typing.{at, columns_or, differ_checks, first_fault, or_fault, put_out_checks, scan_checks, scan_column_checks, scan_columns, scan_name_checks, scan_type_checks, schema_checks}
+use Rattle.plan_meaning.specs.Typing.{at, columns_or, differ_checks, first_fault, is_number_or_read, or_fault, put_out_checks, scan_checks, scan_column_checks, scan_columns, scan_name_checks, scan_type_checks, schema_checks}
 use Rattle.plan_meaning.proofs.CheckParts.{same_is, scan_good}
 use Rattle.plan_meaning.proofs.JoinLemmas.{differ_distinct, distinct_differ}
 use Rattle.plan_meaning.proofs.Validity.{all_hold_unless}
@@ -94,31 +93,31 @@ module _ (found files : Columns) (is : found ≡ side_by_side (files ∷ [])) wh
       ap (λ (cs : List Check). cs ++ each SchemaFieldNotFound (suc (length outs)) (is_known reader) told)
       (each-same SchemaFieldNotFound 1 _ _ outs (λ (c : Name × DataType). ap (λ (o : Option DataType). is_some o) (same-type c.0)))
 
-  put_out_files : (output : Option Columns) (told : Option (List Name)) (plain : Columns) → put_out_checks output told plain found ≡ put_out_checks output told plain files
+  put_out_files : (output : Option Columns) (told : Option (List Name)) (row plain : Columns) → put_out_checks output told row plain found ≡ put_out_checks output told row plain files
   unfolding put_out_checks
-  put_out_files None told plain = refl
-  put_out_files (Some output) told plain =
-      each-same SchemaMismatch 1 _ _ output (λ (c : Name × DataType). ap (λ (o : Option DataType). is_type o c.1 && is_read told plain c.0) (same-type c.0))
+  put_out_files None told row plain = refl
+  put_out_files (Some output) told row plain =
+      each-same SchemaMismatch 1 _ _ output (λ (c : Name × DataType). ap (λ (o : Option DataType). is_type o c.1 && is_number_or_read row told plain c.0) (same-type c.0))
 
-  types_same : (output : Option Columns) (told : Option (List Name)) (hive : Option (List Stats)) (reader : Columns) → scan_type_checks output told hive reader found ≡ scan_type_checks output told hive reader files
+  types_same : (output : Option Columns) (told : Option (List Name)) (hive : Option (List Stats)) (row reader : Columns) → scan_type_checks output told hive row reader found ≡ scan_type_checks output told hive row reader files
   unfolding scan_type_checks
-  types_same output told hive reader =
+  types_same output told hive row reader =
       let own : List Check = each SchemaMismatch (suc (length (columns_or output []))) (λ (a : Name). not (has (names_of (hive_columns hive)) a)) (names_or told []) in
-      ap (λ (cs : List Check). check SchemaMismatch 0 (are_alike hive) ∷ (cs ++ own)) (put_out_files output told (plain_columns reader (hive_columns hive)))
+      ap (λ (cs : List Check). check SchemaMismatch 0 (are_alike hive) ∷ (cs ++ own)) (put_out_files output told row (plain_columns reader (hive_columns hive)))
 
   -- the first fault of the columns of a scan, by the checks on them, one after another
-  pub columns_fault : (n : Node) (output : Option Columns) (told : Option (List Name)) (hive : Option (List Stats)) (stored reader : Columns) → first_fault n (scan_column_checks output told hive stored reader files) ≡ or_fault (first_fault n (scan_name_checks (columns_or output []) (names_or told []) found reader)) (or_fault (first_fault n (scan_type_checks output told hive reader found)) (or_fault (first_fault n (differ_checks (columns_or output files))) (or_fault (first_fault n (each_new (suc (length (columns_or output []))) [] (names_or told []))) (first_fault n (schema_checks stored files)))))
+  pub columns_fault : (n : Node) (output : Option Columns) (told : Option (List Name)) (hive : Option (List Stats)) (stored row reader : Columns) → first_fault n (scan_column_checks output told hive stored row reader files) ≡ or_fault (first_fault n (scan_name_checks (columns_or output []) (names_or told []) found reader)) (or_fault (first_fault n (scan_type_checks output told hive row reader found)) (or_fault (first_fault n (differ_checks (columns_or output files))) (or_fault (first_fault n (each_new (suc (length (columns_or output []))) [] (names_or told []))) (first_fault n (schema_checks stored files)))))
   unfolding scan_column_checks
-  columns_fault n output told hive stored reader =
+  columns_fault n output told hive stored row reader =
       let a : List Check = scan_name_checks (columns_or output []) (names_or told []) files reader in
-      let b : List Check = scan_type_checks output told hive reader files in
+      let b : List Check = scan_type_checks output told hive row reader files in
       let c : List Check = differ_checks (columns_or output files) in
       let d : List Check = each_new (suc (length (columns_or output []))) [] (names_or told []) in
       let e : List Check = schema_checks stored files in
       fault_append n a (b ++ (c ++ (d ++ e)))
       ∙ ap₂ or_fault (ap (first_fault n) (sym (names_same (columns_or output []) (names_or told []) reader)))
       (fault_append n b (c ++ (d ++ e))
-      ∙ ap₂ or_fault (ap (first_fault n) (sym (types_same output told hive reader)))
+      ∙ ap₂ or_fault (ap (first_fault n) (sym (types_same output told hive row reader)))
       (fault_append n c (d ++ e) ∙ ap (or_fault (first_fault n c)) (fault_append n d e)))
 
 -- what a scan without a fault puts out is what it stores, where it doesn't say what that is

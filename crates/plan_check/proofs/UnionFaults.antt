@@ -16,7 +16,3 @@ union_answer n options ss rest s built none is =
     ap (λ (b : Bool). cond b (first_fault n (same_checks ss)) (Some (InvalidOperation (at n 0)))) built ∙ none in
     let are : AllAre (first_schema ss) ss = union_inputs options ss (all_hold_unless n (checks (union options) ss) all) in
     (all, sym (last_are (first_schema ss) s rest (subst (AllAre (first_schema ss)) is are)))
-
--- the fault of the checks on the inputs is that of the union
-pub union_fault : (n : Node) (options : UnionOptions) (ss : List Columns) → is_built_union options ss ≡ true → first_fault n (same_checks ss) ≡ first_fault n (checks (union options) ss)
-union_fault n options ss built = sym (ap (λ (b : Bool). cond b (first_fault n (same_checks ss)) (Some (InvalidOperation (at n 0)))) built)

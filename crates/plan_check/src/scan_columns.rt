@@ -2,7 +2,7 @@
 //! a reader finds, each once; its stored columns are those of the files.
 ghost use Rattle.std.specs.Prelude.{◌≡◌, ◌↔◌, [], ◌∷◌, length, suc, IsTrue};
 ghost use Rattle.plan_core.specs.Columns.{Columns, HasDistinctNames};
-ghost use Rattle.plan_files.specs.FileColumns.{file_columns as columns_of_files, hive_columns};
+ghost use Rattle.plan_files.specs.FileColumns.{file_columns as columns_of_files, hive_columns, row_columns};
 ghost use Rattle.plan_frame.specs.Beside.{side_by_side};
 ghost use Rattle.plan_frame.specs.Frames.{names_or};
 ghost use Rattle.plan_meaning.specs.Typing.{columns_or, differ_checks, first_fault, scan_column_checks, scan_name_checks, scan_type_checks, schema_checks, Says};
@@ -63,18 +63,23 @@ fn check_types(
     alloc: Global,
     node: Node,
     output: &Option<Schema>,
-    told: &Option<Items<PlSmallStr>>,
+    options: &FileScanOptions,
     hive: &Option<Items<HivePartitions>>,
     reader: &Schema,
     file: &Schema,
 ) -> PolarsResult<()>
-    ensures { Says result (first_fault node (scan_type_checks output.now told.now hive.now reader.now file.now)) }
+    ensures { Says result (first_fault node (scan_type_checks output.now options.now.with_columns hive.now (row_columns options.now.row_index) reader.now file.now)) }
 {
     if !parts_alike(hive) {
         return Err(PolarsError::SchemaMismatch(at(node, 0)));
     }
-    check_put_out(alloc, node, output, told, hive, reader, file)?;
-    check_own(node, told_place(output), names_of(told), hive)
+    check_put_out(alloc, node, output, options, hive, reader, file)?;
+    check_own(
+        node,
+        told_place(output),
+        names_of(&options.with_columns),
+        hive,
+    )
 }
 
 /// No name comes twice among what is put out: by the law of schemas where the scan says what that is, else where no name comes twice
@@ -123,20 +128,12 @@ pub fn check_scan_columns(
     hive: &Option<Items<HivePartitions>>,
     options: &FileScanOptions,
 ) -> PolarsResult<()>
-    ensures { Says result (first_fault node (scan_column_checks output.now options.now.with_columns hive.now stored.now reader.now (columns_of_files reader.now (hive_columns hive.now) options.now))) }
+    ensures { Says result (first_fault node (scan_column_checks output.now options.now.with_columns hive.now stored.now (row_columns options.now.row_index) reader.now (columns_of_files reader.now (hive_columns hive.now) options.now))) }
 {
     let file = file_columns(alloc, reader, hive, options)?;
     let told = names_of(&options.with_columns);
     check_names(node, output, told, &file.schema, reader)?;
-    check_types(
-        alloc,
-        node,
-        output,
-        &options.with_columns,
-        hive,
-        reader,
-        &file.schema,
-    )?;
+    check_types(alloc, node, output, options, hive, reader, &file.schema)?;
     check_differ(node, output, file.differ)?;
     check_names_new(alloc, node, told_place(output), told)?;
     check_files(node, stored, &file)
