@@ -1,10 +1,12 @@
 -- The rows that are kept part by part are kept of all rows.
-use Rattle.std.proofs.Common.{◌≡◌, ℕ, zero, suc, ◌+◌, ◌-◌, ◌<◌, ◌≤◌, ◌||◌, Bool, true, false, not, List, [], ◌∷◌, map, length, get_or, Option, Some, None, refl, sym, ap, ap₂, ◌∙◌, subst, arith, eqb-true, eq-eqb}
+use Rattle.std.proofs.Common.{◌≡◌, ◌⊎◌, inl, inr, true≢false, unwrap_or, ℕ, zero, suc, ◌+◌, ◌-◌, ◌<◌, ◌≤◌, ◌||◌, Bool, true, false, not, List, [], ◌∷◌, map, length, get_or, Option, Some, None, refl, sym, ap, ap₂, ◌∙◌, subst, arith, eqb-true, eq-eqb}
 use Rattle.std.specs.Prelude.{nat_eq}
-use Rattle.std.specs.Cmp.{IsEquivalence}
-use Rattle.std.specs.List.{AllByRecursion, IsDistinct, cons_option, filter_map, list_any, range_with_len}
+use Rattle.std.specs.Cmp.{IsEquivalence, nat_cmp_is}
+use Rattle.std.specs.List.{AllByRecursion, IsDistinct, cons_option, filter_map, list_any, range_with_len, slice_get}
 use Rattle.std.specs.List.Sorted.{IsPermutation, IsSorted}
-use Rattle.std.specs.Ordering.{nat_cmp}
+use Rattle.std.specs.Ordering.{is_lt, nat_cmp}
+use Rattle.std.specs.declared.cmp.Ordering.TheVariants.{Greater}
+use Rattle.std.proofs.lemmas.Bool.{cases_lt}
 use Rattle.std.proofs.lemmas.List.{get_or_default, same_lists}
 use Rattle.std.proofs.lemmas.List.Elements.{All-from_recursion, recursion_from_All}
 use Rattle.std.proofs.lemmas.List.FromFn.{get_or-map-range_with_len, length-map-range_with_len}
@@ -12,11 +14,14 @@ use Rattle.std.proofs.lemmas.List.Sorted.{All-permutation, list_any-IsPermutatio
 use Rattle.std.proofs.lemmas.Map.Keys.{IsDistinct-IsPermutation, IsDistinct-cons}
 use Rattle.plan_options.specs.declared.distinct.UniqueKeepStrategy.{UniqueKeepStrategy}
 use Rattle.plan_options.specs.declared.distinct.UniqueKeepStrategy.TheVariants as keeps
-use Rattle.plan_frame.specs.Meaning.{Cell, are_alike, places_from}
+use Rattle.plan_frame.specs.Meaning.{Cell, are_alike, places_from, rows_alike}
 use Rattle.plan_frame.specs.Orders.{AreKept, has_earlier, has_later, may_be_kept, must_be_kept}
 use Rattle.plan_frame.proofs.KeptRows.{alike_equivalence}
 use Rattle.plan_value.specs.Groups.{AreNumbered, rows_numbered}
+use Rattle.plan_value.proofs.WindowLemmas.{places-same}
+use Rattle.plan_eval.specs.Choices.{AreChosen, first_same, settled}
 use Rattle.plan_eval.specs.Distinct.{kept, kept_of}
+use Rattle.plan_eval.proofs.OrderLemmas.{near-sorted}
 use Rattle.plan_eval.proofs.PartLemmas.{NoneWithin, Passes, first-passes, first-there, last-passes, last-there, later-number, only-passes, only-there}
 
 or-first : (a b : Bool) → a ≡ true → (a || b) ≡ true
@@ -31,7 +36,7 @@ both-false : (a b : Bool) → (a || b) ≡ false → (a ≡ false) × (b ≡ fal
 both-false true b e = cc
 both-false false b e = (refl, e)
 
-neither : (a b : Bool) → not (a || b) ≡ true → (a ≡ false) × (b ≡ false)
+pub neither : (a b : Bool) → not (a || b) ≡ true → (a ≡ false) × (b ≡ false)
 neither true b e = cc
 neither false true e = cc
 neither false false e = (refl, refl)
@@ -83,7 +88,7 @@ none-any : (test : ℕ → Bool) (a n : ℕ) → NoneWithin test a (a + n) → l
 none-any test a zero h = refl
 none-any test a (suc n) h = ap₂ (λ (b c : Bool). b || c) (h a (omega arith) (omega arith)) (none-any test (a + 1) n (λ j from below. h j (omega (arith, from)) (omega (arith, below))))
 
-any-none : (test : ℕ → Bool) (a n : ℕ) → list_any test (range_with_len a n) ≡ false → NoneWithin test a (a + n)
+pub any-none : (test : ℕ → Bool) (a n : ℕ) → list_any test (range_with_len a n) ≡ false → NoneWithin test a (a + n)
 any-none test a zero e j from below = absurd (omega (arith, from, below))
 any-none test a (suc n) e j from below =
     let p = both-false (test a) (list_any test (range_with_len (a + 1) n)) e in
@@ -217,3 +222,72 @@ pub groups-kept : (cells : List Cell) (h count : ℕ) (numbers : List ℕ) (part
 groups-kept cells h count numbers parts rows stable keep n many-parts each moved sorted =
     are-kept (are_alike cells) h count (λ i. get_or numbers i 0) n.below n.same keep stable rows (alike_equivalence cells)
     (subst (λ (l : List (List ℕ)). IsPermutation (kept keep l) rows) (parts-are numbers h count parts n.height many-parts each) moved) sorted
+
+-- Groups by their first rows
+
+module _ (cells : List Cell) (h count : ℕ) (numbers : List ℕ) (n : AreNumbered cells h count numbers) where
+  abbrev same : ℕ → ℕ → Bool
+  same = are_alike cells
+
+  abbrev number : ℕ → ℕ
+  number i = get_or numbers i 0
+
+  abbrev own-part : ℕ → List ℕ
+  own-part = part same h count number n.below n.same
+
+  -- the rows that are the same as one of a group are the group
+  pub alike-part : (g i : ℕ) → i < h → g ≡ number i → rows_alike cells h i ≡ own-part g
+  alike-part g i lt has = places-same (same i) (λ (j : ℕ). nat_eq g (number j)) 0 h (λ j from below. sym (n.same i j lt (omega (arith, below))) ∙ ap (λ (m : ℕ). nat_eq m (number j)) (sym has))
+
+  -- the first row of each group comes before those of later groups
+  pub first-before : (k l i j : ℕ) → k < l → l < count → slice_get (own-part k) 0 ≡ Some i → slice_get (own-part l) 0 ≡ Some j → is_lt (nat_cmp j i) ≡ false
+  first-before k l i j lt below e f =
+      let b = is-kept same h count number n.below n.same keeps.First l j f in
+      let there = b.has in
+      let w = n.first j b.row k (omega (arith, lt, there)) in
+      let none = (first-passes (λ m. nat_eq k (number m)) 0 h i e).1 in
+      let early : w.0 < i → nat_eq k (number w.0) ≡ false = λ less. none w.0 (omega arith) less in
+      let late : i ≤ w.0 = at w.0 (eq-eqb k (number w.0) (sym w.2)) early (cases_lt w.0 i) in
+      sym (ap is_lt (nat_cmp_is j i Greater (let p = w.1 in omega (arith, p, late))))
+    where
+      at : (m : ℕ) → nat_eq k (number m) ≡ true → (m < i → nat_eq k (number m) ≡ false) → (m < i) ⊎ (i ≤ m) → i ≤ m
+      at m q early (inl less) = absurd (true≢false (sym q ∙ early less))
+      at m q early (inr le) = le
+
+  -- the first row that is the same as one of a group is the first of the group
+  own-first : (g i : ℕ) → i < h → g ≡ number i → (j : ℕ) × (slice_get (own-part g) 0 ≡ Some j) × (first_same same h i ≡ j)
+  own-first g i lt has =
+      let f = first-there (λ j. nat_eq g (number j)) h i lt (eq-eqb g (number i) has) in
+      (f.0, f.1, ap (λ (rows : List ℕ). unwrap_or (slice_get rows 0) i) (alike-part g i lt has) ∙ ap (λ (o : Option ℕ). unwrap_or o i) f.1)
+
+  module _ (keep : UniqueKeepStrategy) where
+    chosen-before : (k l i j : ℕ) → k < l → l < count → kept_of keep (own-part k) ≡ Some i → kept_of keep (own-part l) ≡ Some j → is_lt (nat_cmp (first_same same h j) (first_same same h i)) ≡ false
+    chosen-before k l i j lt below e f =
+        let a = is-kept same h count number n.below n.same keep k i e in
+        let b = is-kept same h count number n.below n.same keep l j f in
+        let p = own-first k i a.row a.has in
+        let q = own-first l j b.row b.has in
+        ap₂ (λ (x y : ℕ). is_lt (nat_cmp x y)) q.2 p.2 ∙ first-before k l p.0 q.0 lt below p.1 q.1
+
+    -- the rows that are kept part by part stand by the first rows of their groups
+    by-firsts : IsSorted (λ i j. nat_cmp (first_same same h i) (first_same same h j)) (kept keep (map own-part (range_with_len 0 count)))
+    by-firsts =
+        subst (IsSorted (λ i j. nat_cmp (first_same same h i) (first_same same h j))) (sym (kept-parts keep own-part (range_with_len 0 count)))
+        (near-sorted (λ i j. nat_cmp (first_same same h i) (first_same same h j)) (gathered (λ g. kept_of keep (own-part g)) 0 count)
+        (gathered-apart (λ g. kept_of keep (own-part g)) (λ i j. is_lt (nat_cmp (first_same same h j) (first_same same h i))) 0 count (λ k l i j lt below. chosen-before k l i j lt (omega (arith, below)))))
+
+-- what is kept of parts is what is kept of them in the settled way
+settled-kept : (keep : UniqueKeepStrategy) (parts : List (List ℕ)) → kept (settled keep) parts ≡ kept keep parts
+settled-kept keeps.First parts = refl
+settled-kept keeps.Last parts = refl
+settled-kept keeps.None parts = refl
+settled-kept keeps.Any parts = refl
+
+-- the rows that are kept of the groups are those that are chosen
+pub groups-chosen : (cells : List Cell) (h count : ℕ) (numbers : List ℕ) (parts : List (List ℕ)) (rows : List ℕ) (stable : Bool) (keep : UniqueKeepStrategy)
+    → AreNumbered cells h count numbers → length parts ≡ count → ((g : ℕ) → g < count → get_or parts g [] ≡ rows_numbered numbers g)
+    → IsPermutation (kept keep parts) rows → (stable ≡ true → IsSorted nat_cmp rows) → (stable ≡ false → rows ≡ kept keep parts) → AreChosen stable keep (are_alike cells) h rows
+groups-chosen cells h count numbers parts rows stable keep n many-parts each moved sorted by-parts = record {
+  kept = groups-kept cells h count numbers parts rows stable (settled keep) n many-parts each (subst (λ (l : List ℕ). IsPermutation l rows) (sym (settled-kept keep parts)) moved) sorted;
+  by_firsts = λ e. subst (IsSorted (λ i j. nat_cmp (first_same (are_alike cells) h i) (first_same (are_alike cells) h j))) (sym (by-parts e ∙ ap (kept keep) (parts-are numbers h count parts n.height many-parts each))) (by-firsts cells h count numbers n keep);
+}

@@ -9,13 +9,13 @@ use Rattle.plan_ir.specs.declared.ir.IR.{IR}
 use Rattle.plan_ir.specs.Plans.{Op, bare, plans_at}
 use Rattle.plan_meaning.specs.Contents.{Contents}
 use Rattle.plan_frame.specs.Frames.{Frame}
-use Rattle.plan_meaning.specs.Steps.{MayAll}
 use Rattle.plan_meaning.specs.Typing.{AllValid}
 use Rattle.plan_meaning.proofs.SideLemmas.{next, schemas-join, whole}
 use Rattle.plan_table.specs.declared.source_key.SourceKey.{SourceKey}
 use Rattle.plan_table.specs.declared.table.Table.{Table}
 use Rattle.plan_value.specs.Shown.{frame_of, schema_of}
 use Rattle.plan_fit.specs.Sources.{contents_of}
+use Rattle.plan_eval.specs.Choices.{ChooseAll}
 use Rattle.plan_eval.specs.Given.{GiveAll}
 
 -- The plans of two lists, side by side
@@ -28,11 +28,11 @@ valid-second : (f g : Roses Node Op) → AllValid (join f g) → AllValid g
 valid-second no_roses g h = h
 valid-second (more (rose n op ts) rest) g h = valid-second rest g h.2
 
-may-both : (c : Contents) (f g : Roses Node Op) (xs ys : List Frame) → MayAll c (bare f) xs → MayAll c (bare g) ys → MayAll c (bare (join f g)) (xs ++ ys)
-may-both c no_roses g [] ys h k = k
-may-both c no_roses g (x ∷ xs) ys h k = absurd h
-may-both c (more (rose n op ts) rest) g [] ys h k = absurd h
-may-both c (more (rose n op ts) rest) g (x ∷ xs) ys h k = (h.0, may-both c rest g xs ys h.1 k)
+chosen-both : (c : Contents) (f g : Roses Node Op) (xs ys : List Frame) → ChooseAll c (bare f) xs → ChooseAll c (bare g) ys → ChooseAll c (bare (join f g)) (xs ++ ys)
+chosen-both c no_roses g [] ys h k = k
+chosen-both c no_roses g (x ∷ xs) ys h k = absurd h
+chosen-both c (more (rose n op ts) rest) g [] ys h k = absurd h
+chosen-both c (more (rose n op ts) rest) g (x ∷ xs) ys h k = (h.0, chosen-both c rest g xs ys h.1 k)
 
 module _ (lp : List IR) (ex : List AExpr) where
   -- tables for all plans, once the last was passed
@@ -57,6 +57,6 @@ module _ (lp : List IR) (ex : List AExpr) where
     -- with the table of one plan more
     pub give-next : (ts : List (SourceKey × Table)) (tables : List Table) (t : Table) → GiveAll ts before tables → GiveAll ts this (t ∷ []) → GiveAll ts (plans_at lp ex (take (i + 1) ns)) (tables ++ t ∷ [])
     give-next ts tables t h k = subst (λ (r : Roses Node Op). GiveAll ts r (tables ++ t ∷ [])) (sym (next lp ex ns i d lt)) (record {
-      may = subst (MayAll (contents_of ts) (bare (join before this))) (sym (map-append frame_of tables (t ∷ []))) (may-both (contents_of ts) before this (map frame_of tables) (map frame_of (t ∷ [])) h.may k.may);
+      chosen = subst (ChooseAll (contents_of ts) (bare (join before this))) (sym (map-append frame_of tables (t ∷ []))) (chosen-both (contents_of ts) before this (map frame_of tables) (map frame_of (t ∷ [])) h.chosen k.chosen);
       types = map-append schema_of tables (t ∷ []) ∙ ap₂ (λ (x y : List Columns). x ++ y) h.types k.types ∙ sym (schemas-join before this);
     })

@@ -1,13 +1,8 @@
 -- Groupings: the first rows of groups, in order, and what is made of them.
-use Rattle.std.proofs.Common.{◌≡◌, ◌⊎◌, inl, inr, ℕ, zero, suc, ◌+◌, ◌<◌, ◌≤◌, Bool, true, false, cond, List, [], ◌∷◌, ◌++◌, map, length, get_or, replicate, Option, Some, refl, sym, ap, ap₂, ◌∙◌, subst, arith, eq-eqb, true≢false}
-use Rattle.std.specs.Prelude.{nat_eq}
-use Rattle.std.specs.Cmp.{nat_cmp_is}
-use Rattle.std.specs.List.{AllByRecursion, IsDistinct, cons_option, range_with_len, slice_index_or}
-use Rattle.std.specs.List.Sorted.{IsSorted}
+use Rattle.std.proofs.Common.{◌≡◌, ℕ, zero, suc, ◌+◌, ◌<◌, ◌≤◌, Bool, true, false, cond, List, [], ◌∷◌, ◌++◌, map, length, get_or, replicate, Option, Some, refl, sym, ap, ap₂, ◌∙◌, subst, arith}
+use Rattle.std.specs.List.{AllByRecursion, IsDistinct, cons_option, range_with_len}
 use Rattle.std.specs.Ordering.{is_lt, nat_cmp}
-use Rattle.std.specs.declared.cmp.Ordering.TheVariants.{Greater}
 use Rattle.std.specs.Str.{bytes_eq}
-use Rattle.std.proofs.lemmas.Bool.{cases_lt}
 use Rattle.std.proofs.lemmas.List.{map-append}
 use Rattle.std.proofs.lemmas.List.Sums.{fold-append}
 use Rattle.std.proofs.lemmas.List.Sorted.{IsPermutation-refl}
@@ -23,26 +18,10 @@ use Rattle.plan_frame.specs.Orders.{AreKept, key_cells}
 use Rattle.plan_frame.specs.Made.{grouped, made_columns}
 use Rattle.plan_frame.specs.Values.{Value}
 use Rattle.plan_value.specs.Groups.{AreNumbered, rows_numbered}
-use Rattle.plan_value.proofs.WindowLemmas.{places-same}
 use Rattle.plan_eval.specs.Distinct.{kept, kept_of}
 use Rattle.plan_eval.specs.Groups.{columns_in, group_column}
-use Rattle.plan_eval.proofs.DistinctLemmas.{gathered, gathered-apart, groups-kept, is-kept, kept-parts, one-kept, part, parts-are}
-use Rattle.plan_eval.proofs.PartLemmas.{first-passes}
-
--- Numbers that rise
-
--- numbers of which none is above one after it are in order
-rising-sorted : (xs : List ℕ) → IsDistinct (λ i j. is_lt (nat_cmp j i)) xs → IsSorted nat_cmp xs
-unfolding IsDistinct
-rising-sorted [] h = λ k d low high. absurd (omega (arith, high))
-rising-sorted (x ∷ []) h = λ k d low high. absurd (omega (arith, high))
-rising-sorted (x ∷ y ∷ ys) h = go (rising-sorted (y ∷ ys) h.1)
-  where
-    go : IsSorted nat_cmp (y ∷ ys) → (k d : ℕ) → 0 ≤ k → k + 1 < length (x ∷ y ∷ ys) → is_lt (nat_cmp (slice_index_or (x ∷ y ∷ ys) (k + 1) d) (slice_index_or (x ∷ y ∷ ys) k d)) ≡ false
-    go rest zero d low high = h.0.0
-    go rest (suc k) d low high =
-        let e : suc k + 1 ≡ suc (k + 1) = omega arith in
-        ap (λ (m : ℕ). is_lt (nat_cmp (slice_index_or (x ∷ y ∷ ys) m d) (slice_index_or (x ∷ y ∷ ys) (suc k) d))) e ∙ rest k d (omega arith) (omega (arith, high))
+use Rattle.plan_eval.proofs.DistinctLemmas.{alike-part, first-before, gathered, gathered-apart, groups-kept, is-kept, kept-parts, one-kept, part, parts-are}
+use Rattle.plan_eval.proofs.OrderLemmas.{near-sorted}
 
 -- Rows that are picked of columns that are put
 
@@ -122,26 +101,11 @@ module _ (keys : List Named) (g : Frame) (count : ℕ) (numbers : List ℕ) (par
   are-firsts : firsts ≡ gathered first 0 count
   are-firsts = ap (kept keeps.First) are-parts ∙ kept-parts keeps.First own (range_with_len 0 count)
 
-  -- the first row of each group comes before those of later groups
-  before : (k l i j : ℕ) → k < l → l < 0 + count → first k ≡ Some i → first l ≡ Some j → is_lt (nat_cmp j i) ≡ false
-  before k l i j lt below e f =
-      let b = is-kept same g.height count number n.below n.same keeps.First l j f in
-      let there = b.has in
-      let w = n.first j b.row k (omega (arith, lt, there)) in
-      let none = (first-passes (λ m. nat_eq k (number m)) 0 g.height i e).1 in
-      let early : w.0 < i → nat_eq k (number w.0) ≡ false = λ less. none w.0 (omega arith) less in
-      let late : i ≤ w.0 = at w.0 (eq-eqb k (number w.0) (sym w.2)) early (cases_lt w.0 i) in
-      sym (ap is_lt (nat_cmp_is j i Greater (let p = w.1 in omega (arith, p, late))))
-    where
-      at : (m : ℕ) → nat_eq k (number m) ≡ true → (m < i → nat_eq k (number m) ≡ false) → (m < i) ⊎ (i ≤ m) → i ≤ m
-      at m q early (inl less) = absurd (true≢false (sym q ∙ early less))
-      at m q early (inr le) = le
-
   -- the first rows are kept, in order
-  pub firsts-kept : (ordered : Bool) → AreKept ordered keeps.First same g.height firsts
-  firsts-kept ordered =
-      groups-kept (key_cells keys g) g.height count numbers parts firsts ordered keeps.First n many-parts each (IsPermutation-refl firsts)
-      (λ e. rising-sorted firsts (subst (IsDistinct (λ i j. is_lt (nat_cmp j i))) (sym are-firsts) (gathered-apart first (λ i j. is_lt (nat_cmp j i)) 0 count before)))
+  pub firsts-kept : AreKept true keeps.First same g.height firsts
+  firsts-kept =
+      groups-kept (key_cells keys g) g.height count numbers parts firsts true keeps.First n many-parts each (IsPermutation-refl firsts)
+      (λ e. near-sorted nat_cmp firsts (subst (IsDistinct (λ i j. is_lt (nat_cmp j i))) (sym are-firsts) (gathered-apart first (λ i j. is_lt (nat_cmp j i)) 0 count (λ k l i j lt below. first-before (key_cells keys g) g.height count numbers n k l i j lt (omega (arith, below))))))
 
   -- each group has a first row
   has-first : (k : ℕ) → k < count → (i : ℕ) × (first k ≡ Some i)
@@ -153,10 +117,8 @@ module _ (keys : List Named) (g : Frame) (count : ℕ) (numbers : List ℕ) (par
   -- the rows that are the same as the first one of a group are the group
   alike-first : (k i : ℕ) → first k ≡ Some i → (i < g.height) × (rows_alike (key_cells keys g) g.height i ≡ own k)
   alike-first k i e =
-      let a = is-kept same g.height count number n.below n.same keeps.First k i e in (
-        a.row,
-        places-same (same i) (λ (j : ℕ). nat_eq k (number j)) 0 g.height (λ j from below. sym (n.same i j a.row (omega (arith, below))) ∙ ap (λ (m : ℕ). nat_eq m (number j)) (sym a.has)),
-      )
+      let a = is-kept same g.height count number n.below n.same keeps.First k i e in
+      (a.row, alike-part (key_cells keys g) g.height count numbers n k i a.row a.has)
 
   -- what is made of each group, by its first row
   by-firsts : (make : List ℕ → Value) (at : ℕ → Value) → ((i : ℕ) → i < g.height → at i ≡ make (rows_alike (key_cells keys g) g.height i)) → (a m : ℕ) → a + m ≤ count → map at (gathered first a m) ≡ map make (map own (range_with_len a m))
@@ -184,15 +146,15 @@ module _ (keys : List Named) (g : Frame) (count : ℕ) (numbers : List ℕ) (par
   picked-aggs (e ∷ aggs) = ap₂ (λ (vs : List Value) (cs : List Column). record { name = name_of e.name; values = vs } ∷ cs) (picked-over e) (picked-aggs aggs)
 
   -- the keys in the first rows, and the aggregates over the groups, are the grouping
-  pub group-columns : (aggs : List Named) → (ordered : Bool) → record { height = length firsts; columns = with_columns (with_columns [] (map (key_column firsts g) keys)) (map (group_column parts g) aggs) } ≡ grouped keys aggs firsts g
-  group-columns aggs ordered =
+  pub group-columns : (aggs : List Named) → record { height = length firsts; columns = with_columns (with_columns [] (map (key_column firsts g) keys)) (map (group_column parts g) aggs) } ≡ grouped keys aggs firsts g
+  group-columns aggs =
       let column : Named → Column = λ (e : Named). record { name = name_of e.name; values = filled g.height (val e.expr g) } in
       let cut : Column → Column = λ (c : Column). record { name = c.name; values = picked firsts c.values } in
       let overs : List Named = map (over_keys keys) aggs in
       let split : picked_columns firsts (made_columns g.height g (row_exprs keys aggs)) ≡ map (key_column firsts g) keys ++ map (group_column parts g) aggs =
       ap (picked_columns firsts) (map-append column keys overs)
       ∙ map-append cut (made_columns g.height g keys) (made_columns g.height g overs)
-      ∙ ap₂ (λ (cs ds : List Column). cs ++ ds) (picked-keys g firsts keys (firsts-kept ordered).below) (picked-aggs aggs)
+      ∙ ap₂ (λ (cs ds : List Column). cs ++ ds) (picked-keys g firsts keys firsts-kept.below) (picked-aggs aggs)
       in
       ap (λ (cs : List Column). record { height = length firsts; columns = cs })
       (sym (fold-append with_column [] (map (key_column firsts g) keys) (map (group_column parts g) aggs))

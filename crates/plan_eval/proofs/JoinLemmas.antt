@@ -29,6 +29,7 @@ use Rattle.plan_meaning.specs.JoinChecks.{are_paired, fits_kind, is_built_join, 
 use Rattle.plan_meaning.specs.Checks.{is_none}
 use Rattle.plan_meaning.specs.Typing.{AllHold}
 use Rattle.plan_meaning.proofs.JoinLemmas.{JoinGood, differ_distinct, join_good}
+use Rattle.plan_join_eval.specs.Chosen.{own_told}
 use Rattle.plan_join_eval.specs.Compared.{IsTold}
 use Rattle.plan_table.specs.declared.source_key.SourceKey.{SourceKey}
 use Rattle.plan_table.specs.declared.table.Table.{Table}
@@ -159,10 +160,10 @@ both-tables (t ∷ []) left right many few l r = absurd (omega arith)
 both-tables (t ∷ u ∷ []) left right many few l r = ap₂ (λ (x y : Table). x ∷ y ∷ []) (sym l) (sym r)
 both-tables (t ∷ u ∷ v ∷ tables) left right many few l r = absurd (omega arith)
 
--- a join gives the frame of two tables that it may give, with the columns of the join
+-- a join gives the frame of two tables that it chooses, with the columns of the join
 module _ (ts : List (SourceKey × Table)) (ex : List AExpr) (left_on right_on : List ExprIR) (o : JoinOptions) (stored : Columns) (left right : Table) where
   pub join-gives : (r : Result Table AllocError) → All (λ (e : ExprIR). IsExpr ex e.node) left_on → All (λ (e : ExprIR). IsExpr ex e.node) right_on
-      → IfOk r (λ (t : Table). Joins (told_at ex o) (all_named_at ex left_on) (all_named_at ex right_on) (frame_of left) (frame_of right) (frame_of t))
+      → IfOk r (λ (t : Table). Joins (own_told (told_at ex o)) (all_named_at ex left_on) (all_named_at ex right_on) (frame_of left) (frame_of right) (frame_of t))
       → IfOk r (λ (t : Table). schema_of t ≡ join_columns o.args (key_columns ex left_on) (key_columns ex right_on) (schema_of left) (schema_of right))
       → IfOk r (Gives ts (join (all_named_at ex left_on) (all_named_at ex right_on) stored (told_at ex o)) (left ∷ right ∷ []))
   join-gives (Err e) l r frame types = tt

@@ -3,6 +3,9 @@ mod StackLemmas
 mod ScanLemmas
 mod ColumnLemmas
 mod MadeLemmas
+mod OrderLemmas
+mod KeptLemmas
+mod ChoiceLemmas
 mod GivenLemmas
 mod TurnLemmas
 mod PlanLemmas

@@ -13,7 +13,7 @@ use Rattle.plan_ir.proofs.PlanLemmas.{plan_open}
 use Rattle.plan_meaning.specs.Contents.{Contents, Fits, FitsAll}
 use Rattle.plan_frame.specs.Frames.{HasSchema}
 use Rattle.plan_meaning.specs.PlanAt.{one_plan, plan_at}
-use Rattle.plan_meaning.specs.Steps.{IsValid, May, MayAll}
+use Rattle.plan_meaning.specs.Steps.{IsValid, May}
 use Rattle.plan_meaning.specs.Typing.{AllHold, AllValid, checks, schema, schema_by, schemas}
 use Rattle.plan_frame.proofs.GroupLemmas.{all_back, all_front}
 use Rattle.plan_meaning.proofs.Runs.{may_has, may_have_all}
@@ -22,10 +22,12 @@ use Rattle.plan_meaning.proofs.Validity.{bare-valid, one_stands, schemas-bare, v
 use Rattle.plan_table.specs.declared.source_key.SourceKey.{SourceKey}
 use Rattle.plan_table.specs.declared.table.Table.{Table}
 use Rattle.plan_table.specs.Tables.{HasRows}
+use Rattle.plan_eval.specs.Choices.{ChooseAll, Chooses}
 use Rattle.plan_eval.specs.Given.{GiveAll, Gives}
 use Rattle.plan_value.specs.Shown.{frame_of, schema_of}
 use Rattle.plan_fit.specs.Sources.{contents_of}
 use Rattle.plan_fit.proofs.FormedLemmas.{have-columns}
+use Rattle.plan_eval.proofs.ChoiceLemmas.{all-may, chosen-may}
 use Rattle.plan_eval.proofs.TurnLemmas.{have-rows}
 
 -- what holds of each item of two lists in turn holds of each of the first, and of the second
@@ -41,7 +43,7 @@ module _ (lp : List IR) (ex : List AExpr) (n : Node) (p : IR) (h : IsPlan lp ex 
   plan-gives ts tables t below here =
       let whole = plan_open lp ex n p h entry in
       record {
-        may = subst (λ (r : Roses Node Op). MayAll (contents_of ts) (bare r) (frame_of t ∷ [])) (sym whole) ((map frame_of tables, below.may, here.step), tt);
+        chosen = subst (λ (r : Roses Node Op). ChooseAll (contents_of ts) (bare r) (frame_of t ∷ [])) (sym whole) ((map frame_of tables, below.chosen, here.step), tt);
         types =
             ap (λ (s : Columns). s ∷ []) (here.types ∙ ap (schema_by (op_at ex p)) below.types)
             ∙ sym (ap schemas whole);
@@ -61,7 +63,7 @@ module _ (lp : List IR) (ex : List AExpr) (n : Node) (p : IR) (h : IsPlan lp ex 
 -- the tables that valid plans give over contents that fit them have a value of each column's type in each row
 pub given-rows : (ts : List (SourceKey × Table)) (plans : Roses Node Op) (tables : List Table) → AllValid plans → FitsAll (contents_of ts) (bare plans) → GiveAll ts plans tables → AllByRecursion HasRows tables
 given-rows ts plans tables v f g =
-    let has : HaveSchemas (map frame_of tables) (schemas (bare plans)) = may_have_all (contents_of ts) (bare plans) (map frame_of tables) (valid-bare plans v) f g.may in
+    let has : HaveSchemas (map frame_of tables) (schemas (bare plans)) = may_have_all (contents_of ts) (bare plans) (map frame_of tables) (valid-bare plans v) f (all-may (contents_of ts) (bare plans) (map frame_of tables) g.chosen) in
     have-rows tables (subst (HaveSchemas (map frame_of tables)) (schemas-bare plans ∙ sym g.types) has)
 
 module _ (lp : List IR) (ex : List AExpr) (root : Node) (h : IsPlan lp ex root) where
@@ -80,11 +82,14 @@ module _ (lp : List IR) (ex : List AExpr) (root : Node) (h : IsPlan lp ex root) 
       subst (λ (r : Roses Node Op). AllValid r) (sym t.3) (bare-valid (more (rose t.0 t.1 t.2) no_roses) (w.0, w.1, tt))
 
   module _ (ts : List (SourceKey × Table)) (t : Table) (g : GiveAll ts (plans_at lp ex (root ∷ [])) (t ∷ [])) where
-    pub plan-may : May (contents_of ts) (plan_at lp ex root) (frame_of t)
-    plan-may =
+    pub plan-chooses : Chooses (contents_of ts) (plan_at lp ex root) (frame_of t)
+    plan-chooses =
         let k = one_stands lp ex root h in
-        let m : MayAll (contents_of ts) (bare (more (rose k.0 k.1 k.2) no_roses)) (frame_of t ∷ []) = subst (λ (r : Roses Node Op). MayAll (contents_of ts) (bare r) (frame_of t ∷ [])) k.3 g.may in
-        subst (λ (r : Roses Node Op). May (contents_of ts) (one_plan (bare r)) (frame_of t)) (sym k.3) m.0
+        let m : ChooseAll (contents_of ts) (bare (more (rose k.0 k.1 k.2) no_roses)) (frame_of t ∷ []) = subst (λ (r : Roses Node Op). ChooseAll (contents_of ts) (bare r) (frame_of t ∷ [])) k.3 g.chosen in
+        subst (λ (r : Roses Node Op). Chooses (contents_of ts) (one_plan (bare r)) (frame_of t)) (sym k.3) m.0
+
+    pub plan-may : May (contents_of ts) (plan_at lp ex root) (frame_of t)
+    plan-may = chosen-may (contents_of ts) (plan_at lp ex root) (frame_of t) plan-chooses
 
     pub plan-types : schema_of t ≡ schema (plan_at lp ex root)
     plan-types =

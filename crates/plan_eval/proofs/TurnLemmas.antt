@@ -3,7 +3,6 @@ use Rattle.std.proofs.Common.{◌≡◌, ◌∙◌, ◌++◌, ◌+◌, ℕ, zero
 use Rattle.std.specs.List.{AllByRecursion, IsDistinct, range_with_len}
 use Rattle.std.specs.Str.{bytes_eq}
 use Rattle.std.proofs.lemmas.List.FromFn.{length-range_with_len}
-use Rattle.std.proofs.lemmas.List.Sorted.{IsPermutation-refl}
 use Rattle.plan_core.specs.Columns.{Columns, HasDistinctNames, names_of}
 use Rattle.plan_core.proofs.ColumnLemmas.{flip_false}
 use Rattle.plan_options.specs.declared.union.UnionOptions.{UnionOptions}
@@ -125,13 +124,8 @@ gives ts valid options first tables t good rows d frame types =
     let s = schema_of first in
     let have = same-schemas s (first ∷ tables) (union_inputs valid (map schema_of (first ∷ tables)) good) rows in
     let whole = in_turn (map frame_of (first ∷ tables)) in
-    let all = range_with_len 0 whole.height in
     record {
-      step = (
-        all,
-        record { permutes = IsPermutation-refl all; in_order = λ e. refl },
-        frame ∙ stack-turn s (frame_of first) (map frame_of tables) d have ∙ sym (all-rows whole s (turn-has s (frame_of first) (map frame_of tables) have)),
-      );
+      step = frame ∙ stack-turn s (frame_of first) (map frame_of tables) d have ∙ sym (all-rows whole s (turn-has s (frame_of first) (map frame_of tables) have));
       types = types;
     }
 

@@ -10,11 +10,11 @@ use Rattle.plan_ir.specs.declared.ir.IR.{IR}
 use Rattle.plan_ir.specs.declared.ir.IR.TheVariants.{HConcat, Union}
 use Rattle.plan_ir.specs.Plans.{Op, bare}
 use Rattle.plan_meaning.specs.Typing.{schema_by, schemas}
-use Rattle.plan_meaning.specs.Steps.{Step, MayAll}
 use Rattle.plan_table.specs.declared.source_key.SourceKey.{SourceKey}
 use Rattle.plan_table.specs.declared.table.Table.{Table}
 use Rattle.plan_value.specs.Shown.{frame_of, schema_of}
 use Rattle.plan_fit.specs.Sources.{contents_of}
+use Rattle.plan_eval.specs.Choices.{Chosen, ChooseAll}
 
 -- the column of an expression, with the type that its name has among stored columns
 abbrev pub stored_column : Columns → ExprIR → List ℕ × DataType
@@ -26,12 +26,12 @@ names_many (Union inputs options) = true
 names_many (HConcat inputs schema options) = true
 names_many other = false
 
--- a node may give this table over tables of its inputs, and its columns have the node's types
+-- a node gives this table over tables of its inputs, and its columns have the node's types
 pub record Gives (ts : List (SourceKey × Table)) (op : Op) (inputs : List Table) (t : Table) : Type 0 where
-  pub step : Step (contents_of ts) op (map frame_of inputs) (frame_of t)
+  pub step : Chosen (contents_of ts) op (map frame_of inputs) (frame_of t)
   pub types : schema_of t ≡ schema_by op (map schema_of inputs)
 
--- plans may give these tables, one for one, and their columns have the plans' types
+-- plans give these tables, one for one, and their columns have the plans' types
 pub record GiveAll {N : Type 0} (ts : List (SourceKey × Table)) (plans : Roses N Op) (tables : List Table) : Type 0 where
-  pub may : MayAll (contents_of ts) (bare plans) (map frame_of tables)
+  pub chosen : ChooseAll (contents_of ts) (bare plans) (map frame_of tables)
   pub types : map schema_of tables ≡ schemas plans

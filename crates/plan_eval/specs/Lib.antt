@@ -1,4 +1,5 @@
 -- The definitions that contracts cite.
+pub mod Choices
 pub mod Given
 pub mod Stacks
 pub mod Distinct

@@ -1,6 +1,6 @@
 //! Distinct rows are those of the input, but that of rows that are the same in some columns the first is kept, or the last,
 //! or only one that is alone.
-ghost use Rattle.std.specs.Prelude.{◌≡◌, true, List, [], ◌∷◌, IfOk};
+ghost use Rattle.std.specs.Prelude.{◌≡◌, true, false, List, [], ◌∷◌, IfOk};
 ghost use Rattle.std.specs.List.Sorted.{IsPermutation, IsSorted};
 ghost use Rattle.std.specs.Ordering.{nat_cmp};
 ghost use Rattle.plan_ir.specs.Plans.{distinct as distinct_op};
@@ -98,6 +98,7 @@ fn rows_in_order(
 ) -> Result<Vec<usize>, AllocError>
     ensures same { IfOk result (λ rows. IsPermutation (kept options.now.keep_strategy parts.now) rows.items) }
     ensures in_order { IfOk result (λ rows. options.now.maintain_order ≡ true → IsSorted nat_cmp rows.items) }
+    ensures by_parts { IfOk result (λ rows. options.now.maintain_order ≡ false → rows.items ≡ kept options.now.keep_strategy parts.now) }
 {
     let mut rows = kept_rows(alloc, options.keep_strategy, parts)?;
     if options.maintain_order {

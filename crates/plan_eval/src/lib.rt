@@ -11,6 +11,7 @@ mod group_by;
 mod hconcat;
 mod hstack;
 mod join;
+pub mod laws;
 mod made;
 mod plan;
 mod projection;

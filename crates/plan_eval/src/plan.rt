@@ -11,6 +11,7 @@ ghost use Rattle.plan_meaning.specs.PlanAt.{plan_at};
 ghost use Rattle.plan_meaning.specs.Steps.{IsValid, May};
 ghost use Rattle.plan_meaning.specs.Typing.{AllHold, AllValid, checks, schema};
 ghost use Rattle.plan_table.specs.Tables.{HasRows};
+ghost use Rattle.plan_eval.specs.Choices.{Chooses};
 ghost use Rattle.plan_eval.specs.Given.{GiveAll, Gives, names_many};
 ghost use Rattle.plan_value.specs.Shown.{frame_of, schema_of};
 ghost use Rattle.plan_fit.specs.Sources.{contents_of};
@@ -191,8 +192,11 @@ fn plan_table(
     Ok(node_table(alloc, entry, given.as_slice(), ex, tables)?)
 }
 
-/// The table that the plan at `root` gives over tables that fit it: a frame that it may give, its columns of the plan's
-/// types. Refuses for want of memory alone.
+/// The table that the plan at `root` gives over tables that fit it, its columns of the plan's types: of the frames that it may
+/// give one, which is that of each plan equal to it but for rechunk marks. Rows that stand equal in a sort stand as they do in
+/// its input; groups stand by their first rows, and distinct rows whose order is free by those of their groups; of rows that are
+/// the same the first is kept where any may be. A union gives the rows of its inputs in turn, and a join its pairs by the left
+/// rows first, or by the right ones where those are asked first. Refuses for want of memory alone.
 pub fn evaluate(
     alloc: Global,
     root: Node,
@@ -204,6 +208,7 @@ pub fn evaluate(
     requires valid { IsValid (plan_at lp.now ex.now root) }
     requires fits { Fits (contents_of tables.now) (plan_at lp.now ex.now root) }
     ensures may { IfOk result (λ table. May (contents_of tables.now) (plan_at lp.now ex.now root) (frame_of table)) }
+    ensures choice { IfOk result (λ table. Chooses (contents_of tables.now) (plan_at lp.now ex.now root) (frame_of table)) }
     ensures types { IfOk result (λ table. schema_of table ≡ schema (plan_at lp.now ex.now root)) }
     ensures rows { IfOk result (λ table. HasRows table) }
 {

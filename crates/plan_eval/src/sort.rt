@@ -2,16 +2,16 @@
 ghost use Rattle.std.specs.Prelude.{◌≡◌, ℕ, ℤ, List, [], ◌∷◌, All, IfOk};
 ghost use Rattle.std.specs.Cmp.{IsTotalOrder};
 ghost use Rattle.std.specs.List.{range_with_len};
-ghost use Rattle.std.specs.Ordering.{nat_cmp, ordering_then};
 ghost use Rattle.std.specs.declared.option.Option.{Option as OptionType};
 ghost use Rattle.plan_expr.specs.Operands.{IsExpr};
 ghost use Rattle.plan_expr.specs.Exprs.{all_named_at};
 ghost use Rattle.plan_ir.specs.Plans.{sort as sort_op};
-ghost use Rattle.plan_frame.specs.Orders.{AreSorted, rows_cmp};
+ghost use Rattle.plan_frame.specs.Orders.{rows_cmp};
 ghost use Rattle.plan_meaning.specs.Typing.{AllHold, key_checks};
 ghost use Rattle.plan_table.specs.declared.source_key.SourceKey.{SourceKey};
 ghost use Rattle.plan_table.specs.declared.table.Table.{Table as TableType};
 ghost use Rattle.plan_table.specs.Tables.{HasRows};
+ghost use Rattle.plan_eval.specs.Choices.{AreRanked, by_place};
 ghost use Rattle.plan_eval.specs.Given.{Gives};
 ghost use Rattle.plan_value.specs.Cells.{cells_of};
 ghost use Rattle.plan_value.specs.Shown.{schema_of};
@@ -26,7 +26,7 @@ use std::cmp::Ordering;
 
 /// How two rows stand: by the first key that tells them apart, else by their places.
 fn ordering(keys: &[Values], options: &SortMultipleOptions, left: usize, right: usize) -> Ordering
-    ensures { result ≡ ordering_then (rows_cmp (cells_of keys.now) options.now.descending options.now.nulls_last left right) (nat_cmp left right) }
+    ensures { result ≡ by_place (rows_cmp (cells_of keys.now) options.now.descending options.now.nulls_last) left right }
 {
     let descending = options.descending.as_slice();
     let nulls_last = options.nulls_last.as_slice();
@@ -52,7 +52,7 @@ fn sorted_rows(
     height: usize,
 ) -> Result<Vec<usize>, AllocError>
     requires { IsTotalOrder (rows_cmp (cells_of keys.now) options.now.descending options.now.nulls_last) }
-    ensures { IfOk result (λ rows. AreSorted options.now.maintain_order (rows_cmp (cells_of keys.now) options.now.descending options.now.nulls_last) height rows.items) }
+    ensures { IfOk result (λ rows. AreRanked (rows_cmp (cells_of keys.now) options.now.descending options.now.nulls_last) height rows.items) }
 {
     let mut rows = row_numbers(alloc, height)?;
     rows.sort_unstable_by(|left, right| ordering(keys, options, *left, *right));

@@ -47,8 +47,8 @@ returns c ts ordered options =
     let cells : cells_of c.as_slice.result.now ≡ key_cells keys g = ap cells_of c.as_slice.ensures ∙ c.in_ok-values.ensures in
     let numbered = subst (λ (cs : List Cell). AreNumbered cs g.height groups.count groups.numbers) cells c.in_ok-groups.ensures in
     let first : rows ≡ kept First parts = c.in_ok-firsts.ensures ∙ ap (kept First) c.as_slice-parts.ensures.value in
-    let good = firsts-kept keys g groups.count groups.numbers parts numbered c.in_ok-parts.ensures.count c.in_ok-parts.ensures.rows ordered in
-    let whole = group-columns keys g groups.count groups.numbers parts numbered c.in_ok-parts.ensures.count c.in_ok-parts.ensures.rows aggs ordered in
+    let good = firsts-kept keys g groups.count groups.numbers parts numbered c.in_ok-parts.ensures.count c.in_ok-parts.ensures.rows in
+    let whole = group-columns keys g groups.count groups.numbers parts numbered c.in_ok-parts.ensures.count c.in_ok-parts.ensures.rows aggs in
     let columns : List ℕ → List Cell → List (List ℕ) → List Column = λ (rows : List ℕ) (cells : List Cell) (parts : List (List ℕ)).
     with_columns (with_columns [] (columns_in rows c.args.keys.now cells)) (map (group_column parts g) aggs) in
     let shown : columns_shown c.in_ok-with_aggregates.field-0 ≡ columns rows (key_cells keys g) parts =

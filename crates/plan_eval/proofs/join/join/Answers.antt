@@ -46,4 +46,4 @@ returns c ts schema =
     let right = c.right-item.result in
     let two = both-tables c.args.tables.now left right c.in-len2.len_at_least c.in-len2.len_below c.left-item.is c.right-item.is in
     subst (λ (tables : List Table). IfOk c.evaluate_join.result (Gives ts (join (all_named_at ex lefts) (all_named_at ex rights) schema (told_at ex o)) tables)) (sym two)
-    (join-gives ts ex lefts rights o schema left right c.evaluate_join.result (left-stand ex lefts rights o c.requires.stand) (right-stand ex lefts rights o c.requires.stand) c.evaluate_join.ensures.frame c.evaluate_join.ensures.types)
+    (join-gives ts ex lefts rights o schema left right c.evaluate_join.result (left-stand ex lefts rights o c.requires.stand) (right-stand ex lefts rights o c.requires.stand) c.evaluate_join.ensures.choice c.evaluate_join.ensures.types)

@@ -1,5 +1,5 @@
 use Rattle.plan_fit.specs.Sources.{contents_of}
-use Rattle.plan_eval.proofs.PlanLemmas.{plans-fit, plans-valid, plan-may, plan-types, plan-rows}
+use Rattle.plan_eval.proofs.PlanLemmas.{plan-chooses, plans-fit, plans-valid, plan-may, plan-types, plan-rows}
 use Rattle.plan_eval.proofs.plan.evaluate.Goals as goal
 
 pub plan_table-requires-clause-valid : goal.plan_table-requires-clause-valid
@@ -10,6 +10,9 @@ plan_table-requires-clause-fits c = plans-fit c.args.lp.now c.args.ex.now c.args
 
 pub returns-clause-may : goal.returns-clause-may
 returns-clause-may c = plan-may c.args.lp.now c.args.ex.now c.args.root c.requires.stands c.args.tables.now c.in_ok-plan_table.field-0 c.in_ok-plan_table.ensures
+
+pub returns-clause-choice : goal.returns-clause-choice
+returns-clause-choice c = plan-chooses c.args.lp.now c.args.ex.now c.args.root c.requires.stands c.args.tables.now c.in_ok-plan_table.field-0 c.in_ok-plan_table.ensures
 
 pub returns-clause-types : goal.returns-clause-types
 returns-clause-types c = plan-types c.args.lp.now c.args.ex.now c.args.root c.requires.stands c.args.tables.now c.in_ok-plan_table.field-0 c.in_ok-plan_table.ensures

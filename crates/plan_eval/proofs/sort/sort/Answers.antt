@@ -3,9 +3,10 @@ use Rattle.std.specs.Cmp.{IsTotalOrder}
 use Rattle.plan_expr.specs.Exprs.{all_named_at}
 use Rattle.plan_frame.specs.Frames.{rows_at}
 use Rattle.plan_frame.specs.Meaning.{Cell}
-use Rattle.plan_frame.specs.Orders.{AreSorted, rows_cmp}
+use Rattle.plan_frame.specs.Orders.{rows_cmp}
 use Rattle.plan_value.specs.Cells.{cells_of}
 use Rattle.plan_value.specs.Shown.{frame_of}
+use Rattle.plan_eval.specs.Choices.{AreRanked}
 use Rattle.plan_eval.proofs.SortLemmas.{keys-total}
 use Rattle.plan_eval.proofs.sort.sort.Goals as goal
 
@@ -20,8 +21,8 @@ returns c ts part =
     let options = c.args.options.now in
     let t = c.args.table.now in
     let rows = c.in_ok-rows.rows.items in
-    let sorted = subst (λ (cs : List Cell). AreSorted options.maintain_order (rows_cmp cs options.descending options.nulls_last) t.height rows) (ap cells_of c.as_slice.ensures ∙ c.in_ok-keys.ensures) c.in_ok-rows.ensures in
+    let ranked = subst (λ (cs : List Cell). AreRanked (rows_cmp cs options.descending options.nulls_last) t.height rows) (ap cells_of c.as_slice.ensures ∙ c.in_ok-keys.ensures) c.in_ok-rows.ensures in
     record {
-      step = (rows, sorted, c.in_ok-rows_at.ensures.frame ∙ ap (λ (l : List ℕ). rows_at l (frame_of t)) c.as_slice-2.ensures.value);
+      step = (rows, ranked, c.in_ok-rows_at.ensures.frame ∙ ap (λ (l : List ℕ). rows_at l (frame_of t)) c.as_slice-2.ensures.value);
       types = c.in_ok-rows_at.ensures.types;
     }
