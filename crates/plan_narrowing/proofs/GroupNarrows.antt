@@ -18,7 +18,7 @@ use Rattle.plan_meaning.specs.Typing.{checks, AllHold}
 use Rattle.plan_frame.specs.Frames.{Frame, Column, found, with_column, with_columns, rows_at, Agree}
 use Rattle.plan_frame.specs.Meaning.{Cell, are_alike}
 use Rattle.plan_frame.specs.Orders.{AreKept, key_cells}
-use Rattle.plan_meaning.specs.Relating.{Asked, all, names, cached, Holding, NarrowColumns}
+use Rattle.plan_meaning.specs.Relating.{Asked, all, names, Holding, NarrowColumns}
 use Rattle.plan_meaning.specs.Asked.{is_asked, set_of, kept_exprs, grouping_names, Fair}
 use Rattle.plan_frame.proofs.NameSets.{has_front, has_back, has_either, adds_names}
 use Rattle.plan_frame.proofs.FrameLemmas.{agree_fewer, agree_rows}
@@ -28,7 +28,7 @@ use Rattle.plan_frame.proofs.MadeColumns.{some-made}
 use Rattle.plan_meaning.proofs.KeptExprs.{all_append, all_where, all_kept_exprs, kept-all, kept_named, distinct_where, names-join, names-kept, kept-named}
 use Rattle.plan_frame.proofs.GroupLemmas.{all_front, all_back, gathered-names, group_reads, row_reads, leaves-join}
 use Rattle.plan_narrowing.specs.Pruned.{typed_names}
-use Rattle.plan_narrowing.proofs.NarrowLemmas.{Local, one_step, same_cached}
+use Rattle.plan_narrowing.proofs.NarrowLemmas.{Local, one_step}
 use Rattle.plan_narrowing.proofs.OrderNarrows.{same_keys}
 use Rattle.plan_narrowing.proofs.ProjectionNarrows.{some_is}
 use Rattle.plan_schema.proofs.StoredLemmas.{same_is}
@@ -208,9 +208,3 @@ module _ (keys aggs : List Named) (schema : Columns) (ordered : Bool) (options :
         alike f g rows ag =
             ap₂ (λ (n : ℕ) (cs : List Column). rows_at rows (record { height = n; columns = cs })) ag.height
             (subst (λ (es : List Named). with_columns [] (made_columns f.height f (row_exprs keys es)) ≡ with_columns [] (made_columns g.height g (row_exprs keys es))) (kept-all aggs) (same_rows all r same_all f g ag))
-
--- a grouping of which all is asked below a cache
-pub cached_grouped : (keys aggs : List Named) (schema : Columns) (ordered : Bool) (options : GroupbyOptions) (r s : Columns) → AllHold (checks (group_by keys aggs schema ordered options) (s ∷ [])) → r ≡ s → Local (group_by keys aggs schema ordered options) (group_by keys aggs schema ordered options) (cached ∷ []) cached (r ∷ []) (s ∷ [])
-cached_grouped keys aggs schema ordered options r s good h =
-    let op = group_by keys aggs schema ordered options in
-    subst (λ (x : Columns). Local op op (cached ∷ []) cached (x ∷ []) (s ∷ [])) (sym h) (same_cached op s good)

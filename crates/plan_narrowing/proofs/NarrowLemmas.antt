@@ -68,9 +68,6 @@ no_inputs op c [] (g0 ∷ gs) f ag st = absurd ag
 pub same_none : (op : Op) → AllHold (checks op []) → Local op op [] all [] []
 same_none op good = record { good = good; schema = refl; fits = λ c k. k; step = λ c fs gs f k hr has ag st. no_inputs op c fs gs f ag st }
 
-pub none_cached : (op : Op) → AllHold (checks op []) → Local op op [] cached [] []
-none_cached op good = record { good = good; schema = refl; fits = λ c k. k; step = λ c fs gs f k hr has ag st. no_inputs op c fs gs f ag st }
-
 -- filters
 
 filter_agrees : (e : Expr) (wanted : List Name) (f g : Frame) → Agree (with_names wanted (leaves e)) f g → Agree wanted (filtered e f) (filtered e g)

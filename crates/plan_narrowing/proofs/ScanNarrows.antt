@@ -1,5 +1,5 @@
 -- What is left of a scan that is asked names narrows it, under a projection of them and without it.
-use Rattle.std.proofs.Common.{◌≡◌, ℕ, suc, ◌&&◌, Bool, true, false, not, List, [], ◌∷◌, ◌++◌, length, replicate, Option, Some, None, unwrap_or, refl, sym, ap, ◌∙◌, subst, is_some, append-nil}
+use Rattle.std.proofs.Common.{◌≡◌, ℕ, suc, ◌&&◌, ◌||◌, Bool, true, false, not, List, [], ◌∷◌, ◌++◌, length, replicate, Option, Some, None, unwrap_or, refl, sym, ap, ◌∙◌, subst, is_some, append-nil}
 use Rattle.std.specs.List.{AllByRecursion}
 use Rattle.std.proofs.lemmas.Bool.{and_parts, false_from_ne_true}
 use Rattle.plan_core.specs.declared.data_type.DataType.{DataType}
@@ -18,8 +18,7 @@ use Rattle.plan_scan.specs.Sources.{sources_of}
 use Rattle.plan_scan.specs.Stats.{Stats}
 use Rattle.plan_scan.specs.declared.file_scan.FileScan.{FileScan}
 use Rattle.plan_scan.specs.declared.sources.ScanSources.{ScanSources}
-use Rattle.plan_files.specs.FileColumns.{hive_columns, plain_columns}
-use Rattle.plan_files.specs.FileReads.{is_read}
+use Rattle.plan_files.specs.FileColumns.{hive_columns, plain_columns, row_columns}
 use Rattle.plan_file_frames.specs.FileFrames.{parts_of, scan_frame}
 use Rattle.plan_ir.specs.declared.scan.FileInfo.{FileInfo}
 use Rattle.plan_ir.specs.Plans.{Op, scan, simple_projection}
@@ -28,11 +27,11 @@ use Rattle.plan_meaning.specs.Checks.{is_empty, is_known, is_column}
 use Rattle.plan_meaning.specs.Contents.{Contents, frames_of}
 use Rattle.plan_meaning.specs.Relating.{names, Holding}
 use Rattle.plan_meaning.specs.Steps.{Step}
-use Rattle.plan_meaning.specs.Typing.{columns_or, is_built_scan, put_out_checks, reader_columns, scan_columns, checks, AllHold}
+use Rattle.plan_meaning.specs.Typing.{columns_or, is_built_scan, is_number_or_read, put_out_checks, reader_columns, scan_columns, checks, AllHold}
 use Rattle.plan_meaning.proofs.AskedSets.{columns_good, has_some, known_some, some_name}
 use Rattle.plan_meaning.proofs.CheckParts.{each_pass, pass_each, is_same, pass_names, ScanGood, scan_good, good_scan}
 use Rattle.plan_meaning.proofs.JoinLemmas.{differ_distinct, distinct_differ}
-use Rattle.plan_file_narrowing.specs.Left.{AreNamed, columns_left, in_file_order, left_options, left_output, left_parts}
+use Rattle.plan_file_narrowing.specs.Left.{AreNamed, columns_left, in_file_order, left_options, left_output, left_parts, left_row}
 use Rattle.plan_file_narrowing.proofs.LeftFrames.{frames_agree}
 use Rattle.plan_file_narrowing.proofs.LeftOutput.{named_columns, output_named}
 use Rattle.plan_file_narrowing.proofs.ScanColumns.{alike-left, hive-left, hive_among, left_differ, left_types, one_each-left}
@@ -44,20 +43,20 @@ use Rattle.plan_narrowing.proofs.TypedNames.{all_typed, new_from, typed_named}
 
 -- the types of what a scan puts out are those of its files
 
-first_parts : (file : Columns) (told : Option (List Name)) (plain cs : Columns) → AllByRecursion (λ (c : Name × DataType). (is_column file c && is_read told plain c.0) ≡ true) cs → AllByRecursion (λ (c : Name × DataType). is_column file c ≡ true) cs
-first_parts file told plain [] h = tt
-first_parts file told plain (c ∷ cs) h = ((and_parts (is_column file c) (is_read told plain c.0) h.0).0, first_parts file told plain cs h.1)
+first_parts : (file : Columns) (told : Option (List Name)) (row plain cs : Columns) → AllByRecursion (λ (c : Name × DataType). (is_column file c && is_number_or_read row told plain c.0) ≡ true) cs → AllByRecursion (λ (c : Name × DataType). is_column file c ≡ true) cs
+first_parts file told row plain [] h = tt
+first_parts file told row plain (c ∷ cs) h = ((and_parts (is_column file c) (is_number_or_read row told plain c.0) h.0).0, first_parts file told row plain cs h.1)
 
-out_typed : (output : Option Columns) (told : Option (List Name)) (plain file : Columns) (a : Name) (t : DataType) → AllHold (put_out_checks output told plain file) → type_of (columns_or output file) a ≡ Some t → type_of file a ≡ Some t
+out_typed : (output : Option Columns) (told : Option (List Name)) (row plain file : Columns) (a : Name) (t : DataType) → AllHold (put_out_checks output told row plain file) → type_of (columns_or output file) a ≡ Some t → type_of file a ≡ Some t
 unfolding put_out_checks
-out_typed None told plain file a t h e = e
-out_typed (Some out) told plain file a t h e = all_typed file out a t (first_parts file told plain out (each_pass SchemaMismatch 1 (λ (c : Name × DataType). is_column file c && is_read told plain c.0) out h)) e
+out_typed None told row plain file a t h e = e
+out_typed (Some out) told row plain file a t h e = all_typed file out a t (first_parts file told row plain out (each_pass SchemaMismatch 1 (λ (c : Name × DataType). is_column file c && is_number_or_read row told plain c.0) out h)) e
 
 -- the checks on what is left
 
-left_put_out : (out : Columns) (reads : List Name) (plain file : Columns) → AllByRecursion (λ (c : Name × DataType). (is_column file c && is_read (Some reads) plain c.0) ≡ true) out → AllHold (put_out_checks (Some out) (Some reads) plain file)
+left_put_out : (out : Columns) (reads : List Name) (row plain file : Columns) → AllByRecursion (λ (c : Name × DataType). (is_column file c && is_number_or_read row (Some reads) plain c.0) ≡ true) out → AllHold (put_out_checks (Some out) (Some reads) row plain file)
 unfolding put_out_checks
-left_put_out out reads plain file h = pass_each SchemaMismatch 1 (λ (c : Name × DataType). is_column file c && is_read (Some reads) plain c.0) out h
+left_put_out out reads row plain file h = pass_each SchemaMismatch 1 (λ (c : Name × DataType). is_column file c && is_number_or_read row (Some reads) plain c.0) out h
 
 left_built : (sources : ℕ) (predicate : Option Named) (wanted : List Name) (info : FileInfo) (file : Columns) (hive : Option (List Stats)) (kind : FileScan) (options : FileScanOptions) → is_built_scan sources predicate info hive options ≡ true → is_built_scan sources predicate (record info { schema = file }) (left_parts wanted hive) (left_options wanted (reads_left wanted info hive kind options) options) ≡ true
 unfolding is_built_scan
@@ -67,6 +66,10 @@ left_built sources predicate wanted info file hive kind options h =
 both_true : (x y : Bool) → x ≡ true → y ≡ true → (x && y) ≡ true
 both_true true y e f = f
 both_true false y e f = cc
+
+or_true : (x : Bool) {y : Bool} → y ≡ true → (x || y) ≡ true
+or_true true e = refl
+or_true false e = e
 
 module _ (sources : ScanSources) (info : FileInfo) (hive : Option (List Stats)) (predicate : Option Named) (output : Option Columns) (kind : FileScan) (options : FileScanOptions) (wanted : List Name) where
   abbrev reader : Columns
@@ -80,6 +83,9 @@ module _ (sources : ScanSources) (info : FileInfo) (hive : Option (List Stats)) 
 
   abbrev few : Columns
   few = hive_columns (left_parts wanted hive)
+
+  abbrev row-left : Columns
+  row-left = row_columns (left_row wanted options.row_index)
 
   abbrev reads : List Name
   reads = reads_left wanted info hive kind options
@@ -104,7 +110,7 @@ module _ (sources : ScanSources) (info : FileInfo) (hive : Option (List Stats)) 
     typed : (a : Name) → has wanted a ≡ true → (t : DataType) × (type_of (columns_or output file) a ≡ Some t) × (type_of file a ≡ Some t)
     typed a i =
         let t = some_is (type_of (columns_or output file) a) (fair.known a i) in
-        (t.0, t.1, out_typed output options.with_columns (plain_columns reader (hive_columns hive)) file a t.0 parts.put_out t.1)
+        (t.0, t.1, out_typed output options.with_columns (row_columns options.row_index) (plain_columns reader (hive_columns hive)) file a t.0 parts.put_out t.1)
 
     known : (a : Name) → has wanted a ≡ true → is_some (type_of file a) ≡ true
     known a i = ap is_some (typed a i).2
@@ -157,10 +163,10 @@ module _ (sources : ScanSources) (info : FileInfo) (hive : Option (List Stats)) 
       known = weaker Asked (λ (c : Name × DataType). is_known left c.0 ≡ true) out (λ c h. known_some left c h.1) out-columns;
       told = pass_names (λ (a : Name). is_known reader a ≡ true) reads (λ a i. (found a i).0);
       alike = alike-left wanted hive parts.alike;
-      put_out = left_put_out out reads (plain_columns reader few) left
-          (weaker Asked (λ (c : Name × DataType). (is_column left c && is_read (Some reads) (plain_columns reader few) c.0) ≡ true) out (λ c h.
-          both_true (is_column left c) (is_read (Some reads) (plain_columns reader few) c.0) h.1
-          (left_reads wanted kind options.with_columns reader (hive_columns hive) options few (hive-left wanted hive) file-once c.0 h.0)) out-columns);
+      put_out = left_put_out out reads row-left (plain_columns reader few) left
+          (weaker Asked (λ (c : Name × DataType). (is_column left c && is_number_or_read row-left (Some reads) (plain_columns reader few) c.0) ≡ true) out (λ c h.
+          both_true (is_column left c) (is_number_or_read row-left (Some reads) (plain_columns reader few) c.0) h.1
+          (or_true (has (names_of row-left) c.0) (left_reads wanted kind options.with_columns reader (hive_columns hive) options few (hive-left wanted hive) file-once c.0 h.0))) out-columns);
       plain = pass_names (λ (a : Name). not (has (names_of few) a) ≡ true) reads (λ a i. (found a i).1);
       differ = distinct_differ (names_of out) out-named.once;
       once = new_from (suc (length out)) [] reads (λ a i. refl) (left_once wanted kind options.with_columns reader (hive_columns hive) options fair.once);
