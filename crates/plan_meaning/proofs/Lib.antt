@@ -20,3 +20,4 @@ pub mod AskedSets
 pub mod JoinFairness
 pub mod Fairness
 pub mod Keeping
+pub mod ReadNames

@@ -47,6 +47,12 @@ KeepScans [] [] = Unit {0}
 KeepScans (o ∷ os) (s ∷ ss) = SameScan o s × ((a : Name) → has (reads o) a ≡ true → has (reads s) a ≡ true) × KeepScans os ss
 KeepScans _ _ = ⊥
 
+-- lists of names stand one for one for scans, and each has the names of the columns that its scan reads
+abbrev pub NameReads : List (List Name) → List Op → Type 0
+NameReads [] [] = Unit {0}
+NameReads (names ∷ lists) (s ∷ ss) = ((a : Name) → has names a ≡ has (reads s) a) × NameReads lists ss
+NameReads _ _ = ⊥
+
 -- a plan keeps the scans of another
 abbrev pub Keeps : Plan → Plan → Type 0
 Keeps q p = KeepScans (scans q) (scans p)

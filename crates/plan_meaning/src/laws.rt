@@ -1,11 +1,15 @@
 //! Laws of what plans mean, as the contracts of functions that do nothing.
-ghost use Rattle.std.specs.Prelude.{◌≡◌, List, None, Ok};
+ghost use Rattle.std.specs.Prelude.{◌≡◌, ℕ, List, None, Ok};
 ghost use Rattle.plan_core.specs.declared.arena.Node.{Node};
 ghost use Rattle.plan_core.specs.Columns.{Columns, HasDistinctNames};
+ghost use Rattle.plan_core.specs.Names.{has};
 ghost use Rattle.plan_expr.specs.declared.aexpr.AExpr.{AExpr};
 ghost use Rattle.plan_ir.specs.declared.ir.IR.{IR};
+ghost use Rattle.plan_ir.specs.declared.copy.PlanCopy.{PlanCopy};
+ghost use Rattle.plan_ir.specs.Copies.{IsRenumbered};
 ghost use Rattle.plan_ir.specs.Parts.{IsPlan};
-ghost use Rattle.plan_ir.specs.Plans.{Plan};
+ghost use Rattle.plan_ir.specs.Plans.{Plan, op_at};
+ghost use Rattle.plan_ir.specs.Reads.{reads_of, scan_reads_of};
 ghost use Rattle.plan_meaning.specs.Typing.{schema};
 ghost use Rattle.plan_meaning.specs.TreeFaults.{tree_fault};
 ghost use Rattle.plan_meaning.specs.Typed.{typed};
@@ -14,8 +18,8 @@ ghost use Rattle.plan_frame.specs.Frames.{Frame, HasSchema};
 ghost use Rattle.plan_meaning.specs.Contents.{Contents, Fits};
 ghost use Rattle.plan_meaning.specs.Steps.{May, IsValid};
 ghost use Rattle.plan_meaning.specs.Relating.{Refines, Replaced};
-ghost use Rattle.plan_meaning.specs.Asked.{AllSites, SiteFair};
-ghost use Rattle.plan_meaning.specs.Scans.{Keeps};
+ghost use Rattle.plan_meaning.specs.Asked.{AllSites, SiteFair, reads};
+ghost use Rattle.plan_meaning.specs.Scans.{Keeps, NameReads, scans};
 
 /// A frame that a valid plan may give has the plan's columns.
 pub fn frames_have_their_schema()
@@ -45,6 +49,13 @@ pub fn refines_where_a_subplan_does()
 /// In a valid plan the names that a scan is asked are among its output names, and it reads what it may read for them.
 pub fn scans_are_asked_what_they_hold()
     ensures { (p : Plan) → IsValid p → AllSites SiteFair p }
+{}
+
+/// What is listed as read of a node are the names of what it reads; and of a plan on its own, numbered from 0 in walk order, those of what
+/// its scans read, from left to right, a list for each.
+pub fn scans_read_what_is_listed()
+    ensures node { (ex : List AExpr) (node : IR) (a : List ℕ) → has (reads_of node) a ≡ has (reads (op_at ex node)) a }
+    ensures plan { (lp : List IR) (ex : List AExpr) (root : Node) (copy : PlanCopy) → IsRenumbered lp ex root copy → NameReads (scan_reads_of copy.lp) (scans (plan_at lp ex root)) }
 {}
 
 /// A plan in two arenas is accepted, where its numbers are good, exactly if it is valid, and then with its columns.
