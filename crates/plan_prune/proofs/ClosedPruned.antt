@@ -23,7 +23,7 @@ use Rattle.plan_prune.specs.Prunes.{MarksAt, PrunesAt}
 use Rattle.plan_prune_parts.specs.Tops.{with_columns_on}
 use Rattle.plan_prune_parts.specs.Said.{columns_at}
 use Rattle.plan_prune_steps.specs.Steps.{step_of}
-use Rattle.plan_prune_parts.proofs.PlaceLemmas.{place_equal}
+use Rattle.plan_prune_parts.proofs.PlaceLemmas.{place_equal, place_same}
 use Rattle.plan_prune.proofs.PruneLemmas.{goes_under, under}
 
 -- what is left below a closed node is what was there
@@ -41,7 +41,7 @@ module _ (a b : List IR) (ex : List AExpr) (n : Node) (p d : IR) (e : slice_get 
       rw o.is (record {
         trees = more (rose n p o.kids) no_roses;
         rewrites = Rewrites-back plan_shape a b b n p p d o.kids o.kids (rw o.is at h) taken (Rewrites-refl plan_shape b (inputs_of p) o.kids under) refl valid;
-        exprs = λ before after x. x;
+        exprs = place_same ex (roots_in (more (rose n p o.kids) no_roses));
         pruned =
             ap (λ r. more r no_roses) (is kids)
             ∙ ap (λ (f : Roses (Unit {0}) Op). more (rebuilt top asked (op_at ex p) (stored_all kids) f) no_roses) (left_closed (op_at ex p) kids (pruned_all (top_below top (op_at ex p)) (asks_plans asked (op_at ex p) kids) kids) closed);

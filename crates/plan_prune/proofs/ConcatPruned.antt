@@ -11,7 +11,7 @@ use Rattle.plan_expr.specs.declared.aexpr.AExpr.{AExpr}
 use Rattle.plan_expr.specs.Leaves.{Name}
 use Rattle.plan_ir.specs.declared.ir.IR.{IR}
 use Rattle.plan_ir.specs.declared.ir.IR.TheVariants as nodes
-use Rattle.plan_ir.specs.Parts.{plan_shape, roots_in}
+use Rattle.plan_ir.specs.Parts.{plan_shape, roots_in, roots_of}
 use Rattle.plan_ir.specs.Plans.{Op, op_at, plans_of, bare, hconcat}
 use Rattle.plan_meaning.specs.Typing.{first_schema}
 use Rattle.plan_schema.specs.Stored.{stored_all}
@@ -21,6 +21,7 @@ use Rattle.plan_renamed.specs.Renamed.{IsLonger}
 use Rattle.plan_prune_parts.specs.Places.{StandExprs}
 use Rattle.plan_prune.specs.Prunes.{Prunes, PrunesEach, covered_by}
 use Rattle.plan_prune_parts.specs.Said.{columns_at}
+use Rattle.plan_prune_parts.proofs.PlaceLemmas.{place_same}
 use Rattle.plan_prune_steps.specs.Steps.{held_at}
 use Rattle.plan_prune.proofs.EachLemmas.{each_finish}
 
@@ -78,5 +79,5 @@ module _ (top low : Bool) (asked : List Name) (covers : Option (List Name)) (lis
 
   pub concat_pruned : (t : Trees IR) → StandsOnce plan_shape a (n ∷ []) t → StandExprs ex (roots_in t) → slice_get a n.0 ≡ Some (nodes.HConcat inputs schema options) → Prunes top asked a z ex grown n t
   concat_pruned t h s e =
-      each_finish top low asked covers lists a b c z ex grown n whole (nodes.HConcat inputs left options) d t longer h s e taken back refl refl (λ before after y. y) refl
+      each_finish top low asked covers lists a b c z ex grown n whole (nodes.HConcat inputs left options) d t longer h s e taken back refl refl (place_same ex (roots_of whole)) refl
       (λ kids under stand. let y = below kids under stand in (y, concat_built kids under y))

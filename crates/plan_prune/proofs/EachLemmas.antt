@@ -31,7 +31,7 @@ use Rattle.plan_prune_parts.specs.Tops.{covered_at, with_top}
 use Rattle.plan_prune_parts.specs.Said.{columns_at}
 use Rattle.plan_prune_steps.specs.Steps.{covering}
 use Rattle.plan_prune_parts.proofs.LongerLemmas.{below_exprs, exprs_longer, first_exprs, last_exprs, longer_same, longer_trans, op_longer, own_exprs, plan_trees, plans_longer}
-use Rattle.plan_prune_parts.proofs.PlaceLemmas.{place_alone, place_equal, place_both, place_before, place_trans}
+use Rattle.plan_prune_parts.proofs.PlaceLemmas.{place_alone, place_equal, place_both, place_before, place_same, place_trans}
 use Rattle.plan_prune.proofs.PruneLemmas.{goes_under, left_open, under}
 use Rattle.plan_prune.proofs.SidePlans.{or_assoc, plans-join, roots-join, meet-join, covered_by-join, lists_after, names_after, one_pruned, pruned-join, several_pruned}
 use Rattle.plan_prune_parts.proofs.CoverLemmas.{found}
@@ -51,7 +51,7 @@ each_none top covers lists a ex ns f =
     rw (front-none plan_shape f) (record {
       trees = no_roses;
       rewrites = Rewrites-refl plan_shape a [] no_roses (record { stands = tt; once = tt });
-      exprs = λ before after h. h;
+      exprs = place_same ex [];
       pruned = covered_by_nothing covers;
     })
 
@@ -198,7 +198,7 @@ module _ (top low : Bool) (asked : List Name) (covers : Option (List Name)) (lis
 
   pub union_pruned : (t : Trees IR) → StandsOnce plan_shape a (n ∷ []) t → StandExprs ex (roots_in t) → slice_get a n.0 ≡ Some (nodes.Union inputs options) → Prunes top asked a z ex grown n t
   union_pruned t h s e =
-      each_finish top low asked covers lists a b c z ex grown n whole whole d t longer h s e taken back refl refl (λ before after y. y) refl
+      each_finish top low asked covers lists a b c z ex grown n whole whole d t longer h s e taken back refl refl (place_same ex (roots_of whole)) refl
       (λ kids under stand. let y = below kids under stand in (y, union_built kids under y))
 
 -- the mark after a node over inputs, once these were marked: it is set where the node counts rows, and then where its inputs do, which aren't left out

@@ -1,5 +1,5 @@
 -- A join is pruned at its number, once its sides are.
-use Rattle.std.proofs.Common.{◌≡◌, ℕ, zero, suc, ◌<◌, Bool, true, false, cond, List, [], ◌∷◌, ◌++◌, length, Option, Some, None, unwrap_or, option_map, inl, inr, refl, sym, ap, ap₂, ◌∙◌, arith, length-set, subst, append-nil, append_assoc}
+use Rattle.std.proofs.Common.{◌≡◌, ℕ, zero, suc, ◌+◌, ◌<◌, ◌≤◌, ◌⊎◌, Bool, true, false, cond, List, [], ◌∷◌, ◌++◌, length, Option, Some, None, unwrap_or, option_map, inl, inr, refl, sym, ap, ap₂, ◌∙◌, arith, length-set, length-append, subst, append-nil, append_assoc}
 use Rattle.std.specs.List.{slice_get, slice_set}
 use Rattle.std.proofs.lemmas.Option.{slice_get_within}
 use Rattle.plan_core.specs.declared.arena.Node.{Node}
@@ -48,27 +48,39 @@ use Rattle.plan_prune.proofs.ConcatPruned.{columns_all}
 use Rattle.plan_prune.proofs.EachLemmas.{each_finish}
 use Rattle.plan_prune_parts.proofs.KeptLemmas.{numbers_append, numbers_of}
 use Rattle.plan_prune_parts.proofs.LongerLemmas.{below_exprs, join_longer, longer_trans, own_exprs, plans_longer, trees_longer}
-use Rattle.plan_prune_parts.proofs.PlaceLemmas.{place_alone, place_before, place_behind, place_equal, place_swapped, place_trans}
+use Rattle.plan_prune_parts.proofs.PlaceLemmas.{place_alone, place_before, place_behind, place_equal, place_same, place_swapped, place_trans}
 use Rattle.plan_prune.proofs.PruneLemmas.{goes_beneath, goes_under, under}
 
 -- what stands for numbers, and only reaches what these did and new entries, takes their place
 pub place_for : (ex grown : List AExpr) (new old : List Node) → IsLonger ex grown → StandFor ex grown new old → TakePlace ex grown new old
-place_for ex grown new old longer x before after h =
-    let s = StandsOnce-split expr_shape ex before (old ++ after) h.0 h.1 in
-    let r = StandsOnce-split expr_shape ex old after s.right s.second in
-    let made = x r.left r.first in
-    let first : StandsOnce expr_shape grown before s.left = trees_longer ex grown longer before s.left s.first in
-    let last : StandsOnce expr_shape grown after r.right = trees_longer ex grown longer after r.right r.second in
-    let beside : Apart made.0 r.right = λ k u v. elim (made.2 k u) as (λ _. ⊥) [ inl w ↦ r.apart k w v | inr w ↦ (let within = Reaches-within expr_shape ex after r.right k r.second.stands v in omega (arith, w, within)) ] in
-    let inner = StandsOnce-join expr_shape grown new after made.0 r.right made.1 last beside in
-    let apart : Apart s.left (join made.0 r.right) = λ k u v. elim (Reaches-join expr_shape made.0 r.right k v) as (λ _. ⊥) [
-      | inl w ↦ elim (made.2 k w) as (λ _. ⊥) [
-        | inl y ↦ s.apart k u (subst (λ (t : Trees AExpr). Reaches t k) (sym r.is) (join-left expr_shape r.left r.right k y))
-        | inr y ↦ (let within = Reaches-within expr_shape ex before s.left k s.first.stands u in omega (arith, y, within))
-      ]
-      | inr w ↦ s.apart k u (subst (λ (t : Trees AExpr). Reaches t k) (sym r.is) (join-right expr_shape r.left r.right k w))
-    ] in
-    (join s.left (join made.0 r.right), StandsOnce-join expr_shape grown before (new ++ after) s.left (join made.0 r.right) first inner apart)
+place_for ex grown new old longer x =
+    let long : length grown ≡ length ex + length longer.0 = ap length longer.1 ∙ length-append ex longer.0 in
+    record { grows = omega (arith, long); stand = among }
+  where
+    among : (before after : List Node) → StandFor ex grown (before ++ (new ++ after)) (before ++ (old ++ after))
+    among before after f h =
+        let s = StandsOnce-split expr_shape ex before (old ++ after) f h in
+        let r = StandsOnce-split expr_shape ex old after s.right s.second in
+        let made = x r.left r.first in
+        let first : StandsOnce expr_shape grown before s.left = trees_longer ex grown longer before s.left s.first in
+        let last : StandsOnce expr_shape grown after r.right = trees_longer ex grown longer after r.right r.second in
+        let behind : (k : ℕ) → Reaches (join r.left r.right) k → Reaches s.right k = λ k u. subst (λ (t : Trees AExpr). Reaches t k) (sym r.is) u in
+        let beside : Apart made.0 r.right = λ k u v. elim (made.2 k u) as (λ _. ⊥) [ inl w ↦ r.apart k w v | inr w ↦ (let within = Reaches-within expr_shape ex after r.right k r.second.stands v in omega (arith, w, within)) ] in
+        let inner = StandsOnce-join expr_shape grown new after made.0 r.right made.1 last beside in
+        -- what is reached behind was reached there, or is new
+        let reached : (k : ℕ) → Reaches (join made.0 r.right) k → Reaches s.right k ⊎ (length ex ≤ k) = λ k v. elim (Reaches-join expr_shape made.0 r.right k v) as (λ _. Reaches s.right k ⊎ (length ex ≤ k)) [
+          | inl w ↦ elim (made.2 k w) as (λ _. Reaches s.right k ⊎ (length ex ≤ k)) [ inl y ↦ inl (behind k (join-left expr_shape r.left r.right k y)) | inr y ↦ inr y ]
+          | inr w ↦ inl (behind k (join-right expr_shape r.left r.right k w))
+        ] in
+        let apart : Apart s.left (join made.0 r.right) = λ k u v. elim (reached k v) as (λ _. ⊥) [ inl w ↦ s.apart k u w | inr w ↦ (let within = Reaches-within expr_shape ex before s.left k s.first.stands u in omega (arith, w, within)) ] in
+        let whole : (k : ℕ) → Reaches (join s.left s.right) k → Reaches f k = λ k u. subst (λ (t : Trees AExpr). Reaches t k) (sym s.is) u in (
+          join s.left (join made.0 r.right),
+          StandsOnce-join expr_shape grown before (new ++ after) s.left (join made.0 r.right) first inner apart,
+          λ k u. elim (Reaches-join expr_shape s.left (join made.0 r.right) k u) as (λ _. Reaches f k ⊎ (length ex ≤ k)) [
+            | inl w ↦ inl (whole k (join-left expr_shape s.left s.right k w))
+            | inr w ↦ elim (reached k w) as (λ _. Reaches f k ⊎ (length ex ≤ k)) [ inl y ↦ inl (whole k (join-right expr_shape s.left s.right k y)) | inr y ↦ inr y ]
+          ],
+        )
 
 -- an arena in which an entry was changed and changed back
 restored : (c : List IR) (k : ℕ) (q : IR) → k < length c → c ≡ slice_set (slice_set c k q) k (unwrap_or (slice_get c k) nodes.Invalid)
@@ -221,7 +233,7 @@ module _ (top low : Bool) (covers : Option (List Name)) (a b c z : List IR) (ex 
   join_pruned [] lists kept lists_are below keeps back u h st e =
       let y : ((es : List AExpr) → z ≡ slice_set c n.0 p) × (grown ≡ mid) = subst (λ (o : Option Kept). IsPutBack false o c z mid grown n p) keeps back in
       subst (λ (es : List AExpr). Prunes top [] a z ex es n u) (sym y.1)
-      (each_finish top low [] covers lists a b c z ex mid n p p d u longer h st e taken (y.0 mid) refl refl (λ before after w. w) refl
+      (each_finish top low [] covers lists a b c z ex mid n p p d u longer h st e taken (y.0 mid) refl refl (place_same ex (roots_of p)) refl
       (λ kids under stand. let x = below kids under stand in (x, ap (λ (f : Roses (Unit {0}) Op). rose tt (op_at ex p) f) (sides_pruned [] lists kids lists_are under x))))
   join_pruned (f ∷ asked) lists kept lists_are below keeps back u h st e =
       let names : List Name = f ∷ asked in

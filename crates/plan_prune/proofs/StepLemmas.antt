@@ -33,6 +33,7 @@ use Rattle.plan_prune_parts.specs.Said.{columns_at, stand_in_at}
 use Rattle.plan_prune.proofs.PruneLemmas.{finish, one_list, stays, stands_taken, stands_after}
 use Rattle.plan_prune.proofs.ScanPruned.{plain_top, scan_pruned}
 use Rattle.plan_prune_parts.proofs.LongerLemmas.{below_exprs, exprs_longer, own_exprs, plan_trees}
+use Rattle.plan_prune_parts.proofs.PlaceLemmas.{place_same}
 use Rattle.plan_prune_parts.proofs.KeptLemmas.{selected_named, selected_place, select_built, hstack_asks}
 use Rattle.plan_prune.proofs.HStackPruned.{hstack_pruned, found as there}
 use Rattle.plan_prune.proofs.GroupPruned.{grouped_asks, grouped_built, grouped_place}
@@ -88,11 +89,11 @@ module _ (top low : Bool) (asked names : List Name) (a b c z : List IR) (ex grow
 
   pub over_pruned : (p : IR) → slice_get a n.0 ≡ Some p → low ≡ top_below top (op_at ex p) → Over i names q ≡ step_of b ex asked p → Prunes top asked a z ex grown n t
   over_pruned (Slice j offset len) e low_is is =
-      rw (put_over _ _ _ is) (finish top low asked names a b c ex grown n i (Slice j offset len) (Slice j offset len) d t longer h s e taken (one _ _ _ is) refl refl (λ before after x. x) refl low_is (one_list (named _ _ _ is)) refl below)
+      rw (put_over _ _ _ is) (finish top low asked names a b c ex grown n i (Slice j offset len) (Slice j offset len) d t longer h s e taken (one _ _ _ is) refl refl (place_same ex _) refl low_is (one_list (named _ _ _ is)) refl below)
   over_pruned (Filter j predicate) e low_is is =
-      rw (put_over _ _ _ is) (finish top low asked names a b c ex grown n i (Filter j predicate) (Filter j predicate) d t longer h s e taken (one _ _ _ is) refl refl (λ before after x. x) refl low_is (one_list (named _ _ _ is)) refl below)
+      rw (put_over _ _ _ is) (finish top low asked names a b c ex grown n i (Filter j predicate) (Filter j predicate) d t longer h s e taken (one _ _ _ is) refl refl (place_same ex _) refl low_is (one_list (named _ _ _ is)) refl below)
   over_pruned (SimpleProjection j columns) e low_is is =
-      rw (put_over _ _ _ is) (finish top low asked names a b c ex grown n i (SimpleProjection j columns) (SimpleProjection j (kept asked columns)) d t longer h s e taken (one _ _ _ is) refl refl (λ before after x. x) refl low_is (one_list (named _ _ _ is)) refl below)
+      rw (put_over _ _ _ is) (finish top low asked names a b c ex grown n i (SimpleProjection j columns) (SimpleProjection j (kept asked columns)) d t longer h s e taken (one _ _ _ is) refl refl (place_same ex _) refl low_is (one_list (named _ _ _ is)) refl below)
   over_pruned (Select j es schema options) e low_is is =
       let ks = selected_at ex asked es in
       let cs = stored_after (is_some_name asked) [] (names_at ks) schema in
@@ -111,7 +112,7 @@ module _ (top low : Bool) (asked names : List Name) (a b c z : List IR) (ex grow
       (subst (λ (k : Node). PrunesAt low names b c ex grown k) x.0 below)
       (is_some_name asked) (stacked_at asked es) z refl refl (put_over _ _ _ is)
   over_pruned (Sort j keys part options) e low_is is =
-      rw (put_over _ _ _ is) (finish top low asked names a b c ex grown n i (Sort j keys part options) (Sort j keys part options) d t longer h s e taken (one _ _ _ is) refl refl (λ before after x. x) refl low_is (one_list (named _ _ _ is)) refl below)
+      rw (put_over _ _ _ is) (finish top low asked names a b c ex grown n i (Sort j keys part options) (Sort j keys part options) d t longer h s e taken (one _ _ _ is) refl refl (place_same ex _) refl low_is (one_list (named _ _ _ is)) refl below)
   over_pruned (GroupBy j keys aggs schema ordered options) e low_is is =
       let ks = stacked_at asked aggs in
       let cs = stored_after (is_some_name asked) [] (names_at (keys ++ ks)) schema in
@@ -124,13 +125,13 @@ module _ (top low : Bool) (asked names : List Name) (a b c z : List IR) (ex grow
       (grouped_built ex asked keys aggs ks schema cs ordered options (bare (plans_at c grown (i ∷ []))) refl refl)
       below)
   over_pruned (Distinct j options) e low_is is =
-      rw (put_over _ _ _ is) (finish top low asked names a b c ex grown n i (Distinct j options) (Distinct j options) d t longer h s e taken (one _ _ _ is) refl refl (λ before after x. x) refl low_is
+      rw (put_over _ _ _ is) (finish top low asked names a b c ex grown n i (Distinct j options) (Distinct j options) d t longer h s e taken (one _ _ _ is) refl refl (place_same ex _) refl low_is
       (one_list (named _ _ _ is ∙ ap (λ (k : Node). asked_with asked (names_or options.subset (names_of (columns_at b ex k)))) (sym (over_parts i j names _ q _ is).0))) refl below)
   over_pruned (MapFunction j function) e low_is is =
-      rw (put_over _ _ _ is) (finish top low asked names a b c ex grown n i (MapFunction j function) (MapFunction j function) d t longer h s e taken (one _ _ _ is) refl refl (λ before after x. x) refl low_is
+      rw (put_over _ _ _ is) (finish top low asked names a b c ex grown n i (MapFunction j function) (MapFunction j function) d t longer h s e taken (one _ _ _ is) refl refl (place_same ex _) refl low_is
       (one_list (named _ _ _ is ∙ ap (λ (k : Node). mapped_names asked function (columns_at b ex k)) (sym (over_parts i j names _ q _ is).0))) refl below)
   over_pruned (Sink j payload) e low_is is =
-      rw (put_over _ _ _ is) (finish top low asked names a b c ex grown n i (Sink j payload) (Sink j payload) d t longer h s e taken (one _ _ _ is) refl refl (λ before after x. x) refl low_is (one_list (named _ _ _ is)) refl below)
+      rw (put_over _ _ _ is) (finish top low asked names a b c ex grown n i (Sink j payload) (Sink j payload) d t longer h s e taken (one _ _ _ is) refl refl (place_same ex _) refl low_is (one_list (named _ _ _ is)) refl below)
   over_pruned (Join left right schema left_on right_on options) e low_is is = cc
   over_pruned (Scan sources info hive predicate output kind options) e low_is is = cc
   over_pruned (Union inputs options) e low_is is = cc

@@ -119,9 +119,8 @@ module _ (ex : List AExpr) where
           place_behind ex ex (e.node ∷ []) (numbers_of (ks ++ many_at ex es)) (numbers_of es) (f rest)
       go true false is k f = absurd (none (subst (λ (b : Bool). (b && all_scalar (all_named_at ex ks)) ≡ true) is k))
       go false true is k f = place_trans ex ex ex (numbers_of (ks ++ many_at ex es)) (numbers_of es) (e.node ∷ numbers_of es) (f k) drop
-      go false false is k f = λ before after x.
-          let y = place_behind ex ex (e.node ∷ []) (numbers_of ks) (numbers_of es) (asked_place asked es) before after x in
-          rw (numbers_append ks (e ∷ [])) (place_swapped ex (e.node ∷ []) (numbers_of ks) before after y)
+      go false false is k f =
+          rw (numbers_append ks (e ∷ [])) (place_trans ex ex ex (numbers_of ks ++ e.node ∷ []) (e.node ∷ numbers_of ks) (e.node ∷ numbers_of es) (place_swapped ex (e.node ∷ []) (numbers_of ks)) (place_behind ex ex (e.node ∷ []) (numbers_of ks) (numbers_of es) (asked_place asked es)))
 
   pub selected_place : (asked : List Name) (es : List ExprIR) → TakePlace ex ex (numbers_of (selected_at ex asked es)) (numbers_of es)
   selected_place [] es = place_same ex (numbers_of es)
