@@ -1,5 +1,5 @@
 -- What is listed for a document.
-use Rattle.std.specs.Prelude.{◌≡◌, ◌≤◌, ◌+◌, ℕ, true, false, List, [], ◌∷◌, Option, if◌then◌else◌}
+use Rattle.std.specs.Prelude.{◌≡◌, ◌≤◌, ◌+◌, ◌^◌, ℕ, true, false, List, [], ◌∷◌, length, Option, if◌then◌else◌}
 use Rattle.plan_core.specs.declared.arena.Node.{Node}
 use Rattle.plan_core.specs.declared.flags.OptFlags.{OptFlags}
 use Rattle.plan_core.specs.Flags.{bits_of, has_bits}
@@ -38,10 +38,12 @@ pub record IsAnswer (flags : OptFlags) (answer given : Plan) : Type 0 where
   pub nodes : has_bits (bits_of flags) pushdown_bit ≡ true → nodes answer ≤ nodes given + tops given all
   pub same : has_bits (bits_of flags) pushdown_bit ≡ false → answer ≡ given
 
--- the text lists the plan at a number, numbered from 0, what its scans read, and these rows
+-- the text lists the plan at a number, numbered from 0, with no more nodes and expressions than a document can lead to, what its scans read, and these rows
 pub record IsListOf (lp : List IR) (ex : List AExpr) (root : Node) (rows : Option Table) (text : List ℕ) : Type 0 where
   pub plan : PlanCopy
   pub renumbered : IsRenumbered lp ex root plan
+  pub few_nodes : length plan.lp ≤ 2 ^ 32
+  pub few_exprs : length plan.ex ≤ 2 ^ 32
   pub is : text ≡ listing_text plan.lp plan.ex plan.root (scan_reads_of plan.lp) rows
 
 -- the text lists the optimised plan of a document, and the rows of a frame that this plan, and so the given one, may give over the document's tables

@@ -56,6 +56,8 @@ fn list(
     ensures { IfOk result (λ text. IsListOf lp ex root (option_copied rows.entry) (string_bytes text)) }
 {
     let plan = into_renumbered(alloc, root, lp, ex)?;
+    // An arena has few enough entries for the links of a document.
+    let _ = (plan.lp.len(), plan.ex.len());
     let reads = scan_reads(alloc, &plan)?;
     Ok(write_listing(alloc, &plan, reads.as_slice(), rows)?)
 }
