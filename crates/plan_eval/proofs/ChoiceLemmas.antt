@@ -20,9 +20,10 @@ use Rattle.plan_join_eval.proofs.JoinLemmas.{own-joins}
 use Rattle.plan_pairs.specs.declared.pairs.RowPair.{RowPair}
 use Rattle.plan_ir.specs.Plans.{Op, Plan, slice, filter, scan, frame_scan, simple_projection, select, hstack, sort, group_by, join, distinct, map_function, sink, union, hconcat, cache, invalid}
 use Rattle.plan_meaning.specs.Contents.{Contents}
+use Rattle.plan_meaning.specs.Marks.{unmarked, unmarked_op}
 use Rattle.plan_meaning.specs.Mapped.{mapped}
 use Rattle.plan_meaning.specs.Steps.{May, MayAll, OnOne, Step}
-use Rattle.plan_eval.specs.Choices.{AreRanked, ChooseAll, Chooses, Chosen, by_place, settled, unmarked, unmarked_op}
+use Rattle.plan_eval.specs.Choices.{AreRanked, ChooseAll, Chooses, Chosen, by_place, settled}
 use Rattle.plan_eval.proofs.KeptLemmas.{one-choice}
 use Rattle.plan_eval.proofs.OrderLemmas.{near-sorted, one-pairing, one-ranking}
 

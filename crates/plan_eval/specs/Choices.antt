@@ -4,7 +4,7 @@ use Rattle.std.specs.List.{IsDistinct, range_with_len}
 use Rattle.std.specs.List.Sorted.{IsPermutation, IsSorted}
 use Rattle.std.specs.Ordering.{is_lt, nat_cmp, ordering_then}
 use Rattle.std.specs.declared.cmp.Ordering.{Ordering}
-use Rattle.plan_tree.specs.Rose.{Roses, map_roses, rose, no_roses, more}
+use Rattle.plan_tree.specs.Rose.{Roses, rose, no_roses, more}
 use Rattle.plan_options.specs.declared.distinct.UniqueKeepStrategy.{UniqueKeepStrategy}
 use Rattle.plan_options.specs.declared.distinct.UniqueKeepStrategy.TheVariants as keeps
 use Rattle.plan_frame.specs.Frames.{Frame, in_turn, rows_at}
@@ -13,7 +13,7 @@ use Rattle.plan_frame.specs.Meaning.{are_alike, places_from}
 use Rattle.plan_frame.specs.Orders.{AreKept, key_cells, rows_cmp, told_columns}
 use Rattle.plan_joined.specs.Matching.{Joins}
 use Rattle.plan_join_eval.specs.Chosen.{own_told}
-use Rattle.plan_ir.specs.Plans.{Op, Plan, distinct, group_by, join, scan, sort, union}
+use Rattle.plan_ir.specs.Plans.{Op, Plan, distinct, group_by, join, sort, union}
 use Rattle.plan_meaning.specs.Contents.{Contents}
 use Rattle.plan_meaning.specs.Steps.{OnOne, OnTwo, Step}
 
@@ -63,15 +63,3 @@ ChooseAll c (more (rose n op ts) rest) (f ∷ fs) = ((gs : List Frame) × Choose
 -- a plan gives this frame
 abbrev pub Chooses : Contents → Plan → Frame → Type 0
 Chooses c (rose n op ts) f = (gs : List Frame) × ChooseAll c ts gs × Chosen c op gs f
-
--- Plans that are alike
-
--- a node without its rechunk mark
-abbrev pub unmarked_op : Op → Op
-unmarked_op (scan sources info hive predicate output kind options) = scan sources info hive predicate output kind (record options { rechunk = false })
-unmarked_op (union options) = union (record options { rechunk = false })
-unmarked_op op = op
-
--- a plan without its rechunk marks: plans that are equal but for these are equal here
-abbrev pub unmarked : Plan → Plan
-unmarked (rose n op ts) = rose n (unmarked_op op) (map_roses (λ m. m) unmarked_op ts)

@@ -3,8 +3,9 @@ ghost use Rattle.std.specs.Prelude.{◌≡◌};
 ghost use Rattle.plan_frame.specs.Frames.{Frame};
 ghost use Rattle.plan_ir.specs.Plans.{Plan};
 ghost use Rattle.plan_meaning.specs.Contents.{Contents};
+ghost use Rattle.plan_meaning.specs.Marks.{unmarked};
 ghost use Rattle.plan_meaning.specs.Steps.{May};
-ghost use Rattle.plan_eval.specs.Choices.{unmarked, Chooses};
+ghost use Rattle.plan_eval.specs.Choices.{Chooses};
 
 /// Plans that are alike, which are equal but for their rechunk marks, give one frame over the same contents.
 pub fn choices_are_one()

@@ -15,3 +15,4 @@ pub mod JoinAsked
 pub mod Asked
 pub mod Work
 pub mod Scans
+pub mod Marks

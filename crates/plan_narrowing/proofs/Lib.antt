@@ -29,3 +29,4 @@ pub mod PrunedWork
 mod Example
 mod KeptExample
 mod FileExample
+mod AlikePruned

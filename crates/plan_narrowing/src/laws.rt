@@ -1,6 +1,7 @@
 //! Laws of pruning, as the contracts of functions that do nothing.
 ghost use Rattle.std.specs.Prelude.{◌≡◌, ◌≤◌, ◌+◌, Bool, List, []};
 ghost use Rattle.plan_ir.specs.Plans.{Plan};
+ghost use Rattle.plan_meaning.specs.Marks.{unmarked};
 ghost use Rattle.plan_meaning.specs.Typing.{schema};
 ghost use Rattle.plan_meaning.specs.Steps.{IsValid};
 ghost use Rattle.plan_meaning.specs.Relating.{all, Narrows, Refines};
@@ -40,4 +41,9 @@ pub fn pruned_plans_have_few_nodes_more()
 /// A pruned plan makes at most the columns that its nodes are asked.
 pub fn pruned_plans_make_what_is_asked()
     ensures { (top : Bool) (p : Plan) → IsValid p → made (pruned top [] p) ≤ kept p }
+{}
+
+/// Plans that are alike, which are equal but for their rechunk marks, are alike when they are pruned.
+pub fn alike_plans_are_pruned_alike()
+    ensures { (top : Bool) (asked : List Name) (p q : Plan) → unmarked p ≡ unmarked q → unmarked (pruned top asked p) ≡ unmarked (pruned top asked q) }
 {}
