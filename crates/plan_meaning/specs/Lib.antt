@@ -16,3 +16,4 @@ pub mod Asked
 pub mod Work
 pub mod Scans
 pub mod Marks
+pub mod Caches

@@ -1,6 +1,7 @@
 //! Laws of pruning, as the contracts of functions that do nothing.
 ghost use Rattle.std.specs.Prelude.{◌≡◌, ◌≤◌, ◌+◌, Bool, List, []};
 ghost use Rattle.plan_ir.specs.Plans.{Plan};
+ghost use Rattle.plan_meaning.specs.Caches.{AreShared, CacheOf, IsCacheOf, caches};
 ghost use Rattle.plan_meaning.specs.Marks.{unmarked};
 ghost use Rattle.plan_meaning.specs.Typing.{schema};
 ghost use Rattle.plan_meaning.specs.Steps.{IsValid};
@@ -46,4 +47,10 @@ pub fn pruned_plans_make_what_is_asked()
 /// Plans that are alike, which are equal but for their rechunk marks, are alike when they are pruned.
 pub fn alike_plans_are_pruned_alike()
     ensures { (top : Bool) (asked : List Name) (p q : Plan) → unmarked p ≡ unmarked q → unmarked (pruned top asked p) ≡ unmarked (pruned top asked q) }
+{}
+
+/// Each cache of a pruned plan is one of the plan, over the same plan; so where caches of one number stood over alike plans, they do.
+pub fn pruned_plans_keep_what_is_cached()
+    ensures kept { (top : Bool) (asked : List Name) (p : Plan) (c : CacheOf) → IsCacheOf c (caches (pruned top asked p)) → IsCacheOf c (caches p) }
+    ensures shared { (top : Bool) (asked : List Name) (p : Plan) → AreShared p → AreShared (pruned top asked p) }
 {}
