@@ -86,8 +86,8 @@ impl ProjectionPushDown {
     /// several inputs of a union that is. A projection, or a selection where some columns are called otherwise over the pruned
     /// sides, goes on top of each join that is asked names, puts out columns of its right side, and then has other columns than
     /// the asked ones. What is below a cache stays as it is. The expressions in `ex` stay as they are; others may be added behind
-    /// them. Refuses for want of memory alone, and then nothing is known of what stands at `root`, and of the mark only that it
-    /// isn't set back.
+    /// them. Then `root` reaches only nodes and expressions that it reached, or that were added. Refuses for want of memory alone,
+    /// and then nothing is known of what stands at `root`, and of the mark only that it isn't set back.
     pub fn optimize(
         &mut self,
         alloc: Global,
