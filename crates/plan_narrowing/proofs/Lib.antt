@@ -30,4 +30,4 @@ mod Example
 mod KeptExample
 mod FileExample
 mod AlikePruned
-mod CachesPruned
+pub mod CachesPruned

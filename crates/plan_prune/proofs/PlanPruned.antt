@@ -11,12 +11,14 @@ use Rattle.plan_ir.specs.Plans.{Op, Plan, bare, plans_of}
 use Rattle.plan_meaning.specs.Steps.{IsValid}
 use Rattle.plan_meaning.specs.Relating.{all, Refines}
 use Rattle.plan_meaning.specs.Asked.{sites_of}
+use Rattle.plan_meaning.specs.Caches.{AreShared}
 use Rattle.plan_meaning.specs.PlanAt.{one_plan, plan_at}
 use Rattle.plan_meaning.specs.Counting.{meet_count, meets_count}
 use Rattle.plan_narrowing.specs.Pruned.{pruned, pruned_all}
 use Rattle.plan_meaning.specs.Scans.{scans, nodes}
 use Rattle.plan_meaning.specs.Work.{made, kept}
 use Rattle.plan_narrowing.specs.Reads.{ReadWithin, tops}
+use Rattle.plan_narrowing.proofs.CachesPruned.{shared_pruned}
 use Rattle.plan_narrowing.proofs.PrunedNarrows.{pruned_refines}
 use Rattle.plan_narrowing.proofs.PrunedReads.{pruned_reads, pruned_nodes}
 use Rattle.plan_narrowing.proofs.PrunedWork.{pruned_made}
@@ -45,6 +47,14 @@ module _ (top : Bool) (old new : Roses (Unit {0}) Op) (is : new ≡ pruned_all t
 
   pub work_at : made (one_plan new) ≤ kept (one_plan old)
   work_at = subst (λ (x : Plan). made x ≤ kept (one_plan old)) (sym here) (pruned_made top (one_plan old) v)
+
+-- caches of one number stand over alike plans where they did
+pub shared_at : (top : Bool) (old new : Roses (Unit {0}) Op) → new ≡ pruned_all top [] old → AreShared (one_plan old) → AreShared (one_plan new)
+shared_at top old new is s = subst AreShared (sym (ap one_plan is ∙ one_pruned old)) (shared_pruned top [] (one_plan old) s)
+  where
+    one_pruned : (ts : Roses (Unit {0}) Op) → one_plan (pruned_all top [] ts) ≡ pruned top [] (one_plan ts)
+    one_pruned no_roses = refl
+    one_pruned (more p rest) = refl
 
 -- whether the plan at a number counts rows
 pub meets_at : (lp : List IR) (ex : List AExpr) (n : Node) (h : IsPlan lp ex n) → meet_count (bare (plans_of ex h.nodes)) ≡ meets_count (plan_at lp ex n)

@@ -4,6 +4,7 @@
 ghost use Rattle.std.specs.Prelude.{◌≡◌, ◌<◌, ◌≤◌, ◌+◌, [], ◌∷◌, Err, IfOk, OnOk, ◌||◌, false, length, not, slice_set, true};
 ghost use Rattle.plan_ir.specs.Parts.{IsPlan};
 ghost use Rattle.plan_ir.specs.Plans.{bare, plans_at};
+ghost use Rattle.plan_meaning.specs.Caches.{AreShared};
 ghost use Rattle.plan_meaning.specs.PlanAt.{plan_at};
 ghost use Rattle.plan_meaning.specs.Steps.{IsValid};
 ghost use Rattle.plan_meaning.specs.Relating.{all, Refines};
@@ -85,9 +86,10 @@ impl ProjectionPushDown {
     /// each narrowed scan, and on none from the first count of rows on; and on top of each cache that is asked names, and each of
     /// several inputs of a union that is. A projection, or a selection where some columns are called otherwise over the pruned
     /// sides, goes on top of each join that is asked names, puts out columns of its right side, and then has other columns than
-    /// the asked ones. What is below a cache stays as it is. The expressions in `ex` stay as they are; others may be added behind
-    /// them. Then `root` reaches only nodes and expressions that it reached, or that were added. Refuses for want of memory alone,
-    /// and then nothing is known of what stands at `root`, and of the mark only that it isn't set back.
+    /// the asked ones. What is below a cache stays as it is, so that caches of one number stand over alike plans where they did.
+    /// The expressions in `ex` stay as they are; others may be added behind them. Then `root` reaches only nodes and expressions
+    /// that it reached, or that were added. Refuses for want of memory alone, and then nothing is known of what stands at `root`,
+    /// and of the mark only that it isn't set back.
     pub fn optimize(
         &mut self,
         alloc: Global,
@@ -105,6 +107,7 @@ impl ProjectionPushDown {
         ensures reads { OnOk result (IsValid (plan_at lp.old ex.old root) → ReadWithin (scans (plan_at lp.new ex.new root)) (sites_of (plan_at lp.old ex.old root))) }
         ensures nodes { OnOk result (IsValid (plan_at lp.old ex.old root) → nodes (plan_at lp.new ex.new root) ≤ nodes (plan_at lp.old ex.old root) + tops (plan_at lp.old ex.old root) all) }
         ensures work { OnOk result (IsValid (plan_at lp.old ex.old root) → made (plan_at lp.new ex.new root) ≤ kept (plan_at lp.old ex.old root)) }
+        ensures cached { OnOk result (AreShared (plan_at lp.old ex.old root) → AreShared (plan_at lp.new ex.new root)) }
         ensures grows { length lp.old ≤ length lp.new }
         ensures longer { IsLonger ex.old ex.new }
         ensures marks { OnOk result (self.new.is_count_star ≡ (self.old.is_count_star || meets_count (plan_at lp.old ex.old root))) }

@@ -3,7 +3,7 @@ use Rattle.plan_ir.specs.Plans.{bare, plans_at}
 use Rattle.plan_expr.specs.Leaves.{Name}
 use Rattle.plan_prune.specs.Prunes.{Prunes}
 use Rattle.plan_prune.proofs.PruneLemmas.{pruned_is, pruned_stands}
-use Rattle.plan_prune.proofs.PlanPruned.{all_asked, meets_at, refines_at, reads_at, nodes_at, work_at}
+use Rattle.plan_prune.proofs.PlanPruned.{all_asked, meets_at, refines_at, reads_at, nodes_at, shared_at, work_at}
 use Rattle.plan_prune.proofs.push_down.ProjectionPushDown.optimize.Goals as goal
 
 pub returns-clause-pruned : goal.returns-clause-pruned
@@ -30,6 +30,9 @@ returns-clause-nodes c = λ v. nodes_at (not c.args.self.now.is_count_star) (bar
 
 pub returns-clause-work : goal.returns-clause-work
 returns-clause-work c = λ v. work_at (not c.args.self.now.is_count_star) (bare (plans_at c.args.lp.now c.args.ex.now (c.args.root ∷ []))) (bare (plans_at c.push_down.new.lp c.push_down.new.ex (c.args.root ∷ []))) (returns-clause-pruned c) v
+
+pub returns-clause-cached : goal.returns-clause-cached
+returns-clause-cached c = λ s. shared_at (not c.args.self.now.is_count_star) (bare (plans_at c.args.lp.now c.args.ex.now (c.args.root ∷ []))) (bare (plans_at c.push_down.new.lp c.push_down.new.ex (c.args.root ∷ []))) (returns-clause-pruned c) s
 
 pub returns-clause-marks : goal.returns-clause-marks
 returns-clause-marks c = c.in_ok-push_down.ensures.marks c.requires.nodes c.requires.stands.nodes
