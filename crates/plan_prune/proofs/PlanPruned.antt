@@ -28,13 +28,17 @@ pub all_asked : (top : Bool) (ts : Roses (Unit {0}) Op) → pruned_all top ([] �
 all_asked top no_roses = refl
 all_asked top (more p rest) = refl
 
-module _ (top : Bool) (old new : Roses (Unit {0}) Op) (is : new ≡ pruned_all top [] old) (v : IsValid (one_plan old)) where
-  pruned_at : (ts : Roses (Unit {0}) Op) → IsValid (one_plan ts) → one_plan (pruned_all top [] ts) ≡ pruned top [] (one_plan ts)
-  pruned_at no_roses w = cc
-  pruned_at (more p rest) w = refl
+one_pruned : (top : Bool) (ts : Roses (Unit {0}) Op) → one_plan (pruned_all top [] ts) ≡ pruned top [] (one_plan ts)
+one_pruned top no_roses = refl
+one_pruned top (more p rest) = refl
 
+-- caches of one number stand over alike plans where they did
+pub shared_at : (top : Bool) (old new : Roses (Unit {0}) Op) → new ≡ pruned_all top [] old → AreShared (one_plan old) → AreShared (one_plan new)
+shared_at top old new is s = subst AreShared (sym (ap one_plan is ∙ one_pruned top old)) (shared_pruned top [] (one_plan old) s)
+
+module _ (top : Bool) (old new : Roses (Unit {0}) Op) (is : new ≡ pruned_all top [] old) (v : IsValid (one_plan old)) where
   here : one_plan new ≡ pruned top [] (one_plan old)
-  here = ap one_plan is ∙ pruned_at old v
+  here = ap one_plan is ∙ one_pruned top old
 
   pub refines_at : Refines (one_plan new) (one_plan old)
   refines_at = subst (λ (x : Plan). Refines x (one_plan old)) (sym here) (pruned_refines top (one_plan old) v)
@@ -47,14 +51,6 @@ module _ (top : Bool) (old new : Roses (Unit {0}) Op) (is : new ≡ pruned_all t
 
   pub work_at : made (one_plan new) ≤ kept (one_plan old)
   work_at = subst (λ (x : Plan). made x ≤ kept (one_plan old)) (sym here) (pruned_made top (one_plan old) v)
-
--- caches of one number stand over alike plans where they did
-pub shared_at : (top : Bool) (old new : Roses (Unit {0}) Op) → new ≡ pruned_all top [] old → AreShared (one_plan old) → AreShared (one_plan new)
-shared_at top old new is s = subst AreShared (sym (ap one_plan is ∙ one_pruned old)) (shared_pruned top [] (one_plan old) s)
-  where
-    one_pruned : (ts : Roses (Unit {0}) Op) → one_plan (pruned_all top [] ts) ≡ pruned top [] (one_plan ts)
-    one_pruned no_roses = refl
-    one_pruned (more p rest) = refl
 
 -- whether the plan at a number counts rows
 pub meets_at : (lp : List IR) (ex : List AExpr) (n : Node) (h : IsPlan lp ex n) → meet_count (bare (plans_of ex h.nodes)) ≡ meets_count (plan_at lp ex n)
