@@ -1,26 +1,14 @@
-//! Worked values of each public call.
+//! Worked values of the calls of plan_options.
 use plan_core::{At, DataType, Items, PlSmallStr, PolarsError, Schema, TryClone};
+use plan_made::{marks, names, schema};
 use plan_options::*;
 use std::alloc::{AllocError, Global};
 use std::test::Fail;
 
-fn text(alloc: Global, name: &str) -> Result<PlSmallStr, AllocError> {
-    PlSmallStr::new(alloc, name)
-}
-
-// The schema of whole numbers with these names.
-fn schema(alloc: Global, names: &[&str]) -> Result<Schema, AllocError> {
-    let mut schema = Schema::new(alloc);
-    for name in names {
-        schema.with_column(text(alloc, name)?, DataType::Int64)?;
-    }
-    Ok(schema)
-}
-
-fn joined(how: JoinType, coalesce: JoinCoalesce, suffix: Option<PlSmallStr>) -> JoinArgs {
+fn joined(how: JoinType, suffix: Option<PlSmallStr>) -> JoinArgs {
     JoinArgs {
         how,
-        coalesce,
+        coalesce: JoinCoalesce::JoinSpecific,
         suffix,
         join_nulls: false,
         maintain_order: MaintainOrderJoin::default(),
@@ -31,135 +19,143 @@ fn joined(how: JoinType, coalesce: JoinCoalesce, suffix: Option<PlSmallStr>) -> 
 #[test]
 fn function_flags_have_their_numbers(rt: HostRuntime) {
     let scalar = FunctionFlags::RETURNS_SCALAR | FunctionFlags::ALLOW_EMPTY_INPUTS;
-    let values = [
-        (FunctionFlags::default(), 1),
-        (FunctionFlags::all(), 255),
-        (FunctionFlags::empty(), 0),
-        (scalar, 160),
-        (FunctionFlags::from_bits_truncate(130), 130),
-        (!scalar & FunctionFlags::from_bits_truncate(130), 2),
+    let bits = [
+        FunctionFlags::default().bits(),
+        FunctionFlags::all().bits(),
+        FunctionFlags::empty().bits(),
+        scalar.bits(),
+        FunctionFlags::from_bits_truncate(130).bits(),
+        (!scalar & FunctionFlags::from_bits_truncate(130)).bits(),
     ];
-    for (flags, want) in values {
-        assert_eq!(rt; flags.bits(), want);
-    }
-    assert!(rt;
-        FunctionFlags::from_bits(160) == Some(scalar) && !scalar.contains(FunctionFlags::default())
-    );
+    assert_eq!(rt; bits, [1, 255, 0, 160, 130, 2]);
+    let read = FunctionFlags::from_bits(160) == Some(scalar);
+    assert!(rt; read && !scalar.contains(FunctionFlags::default()));
+}
+
+/// Whether a function of these options checks lengths and works row by row, as it is by default, then by its rows, and then as one
+/// that returns one value.
+fn by_rows() -> [bool; 4] {
+    let mut options = FunctionOptions::default();
+    let lengths = options.check_lengths();
+    let usual = options.is_elementwise();
+    options.collect_groups = ApplyOptions::ElementWise;
+    options.cast_options = Some(CastingRules::cast_to_supertypes());
+    let by_rows = options.is_elementwise();
+    options.flags = FunctionFlags::RETURNS_SCALAR;
+    [lengths, usual, by_rows, options.is_elementwise()]
 }
 
 #[test]
 fn functions_work_row_by_row_where_they_say_so(rt: HostRuntime) {
-    let mut options = FunctionOptions::default();
-    assert!(rt; options.check_lengths() && !options.is_elementwise());
-    options.collect_groups = ApplyOptions::ElementWise;
-    options.cast_options = Some(CastingRules::cast_to_supertypes());
-    assert!(rt; options.is_elementwise());
-    options.flags = FunctionFlags::RETURNS_SCALAR;
-    assert!(rt; !options.is_elementwise() && options.cast_options == Some(CastingRules::Supertype));
+    assert_eq!(rt; by_rows(), [true, false, true, false]);
+    assert!(rt; CastingRules::cast_to_supertypes() == CastingRules::Supertype);
 }
 
 #[test]
 fn options_have_their_defaults(rt: HostRuntime) {
     let union = UnionOptions::from(UnionArgs::default());
-    assert!(rt; union.parallel && union.maintain_order && union != UnionOptions::default());
-    assert!(rt; !HConcatOptions::default().parallel && GroupbyOptions::default().slice.is_none());
-    assert!(rt; UniqueKeepStrategy::default() == DistinctOptionsDSL::default().keep_strategy);
-    assert_eq!(rt; JoinCoalesce::default(), JoinCoalesce::JoinSpecific);
-    assert_eq!(rt;
-        UnsafeBool::default(),
-        FunctionOptions::default().check_lengths
-    );
+    let marks = [
+        union.parallel,
+        union.maintain_order,
+        union == UnionOptions::default(),
+        HConcatOptions::default().parallel,
+        GroupbyOptions::default().slice.is_some(),
+    ];
+    assert_eq!(rt; marks, [true, true, false, false, false]);
+    let keep = UniqueKeepStrategy::default() == DistinctOptionsDSL::default().keep_strategy;
+    let lengths = UnsafeBool::default() == FunctionOptions::default().check_lengths;
+    let coalesce = JoinCoalesce::default() == JoinCoalesce::JoinSpecific;
+    assert_eq!(rt; [keep, lengths, coalesce], [true; 3]);
+}
+
+/// Whether a value is its copy.
+fn is_copied<T: TryClone + PartialEq + Drop>(alloc: Global, value: &T) -> Result<bool, AllocError> {
+    Ok(value.try_clone(alloc)? == *value)
 }
 
 #[test]
 fn joins_have_a_suffix_and_coalesce(rt: HostRuntime) -> Result<(), Fail> {
-    let left = joined(JoinType::Left, JoinCoalesce::JoinSpecific, None);
-    let full = joined(
-        JoinType::Full,
-        JoinCoalesce::JoinSpecific,
-        Some(text(rt.alloc(), "_r")?),
-    );
-    assert_eq!(rt; (left.suffix(), full.suffix()), ("_right", "_r"));
-    assert_eq!(rt;
-        (left.should_coalesce(), full.should_coalesce()),
-        (true, false)
-    );
-    assert!(rt; full.try_clone(rt.alloc())? == full && left != full);
+    let left = joined(JoinType::Left, None);
+    assert!(rt; left.suffix() == "_right" && left.should_coalesce());
+    let full = joined(JoinType::Full, Some(PlSmallStr::new(rt.alloc(), "_r")?));
+    assert!(rt; full.suffix() == "_r" && !full.should_coalesce());
+    assert!(rt; is_copied(rt.alloc(), &full)?);
     Ok(())
+}
+
+/// The options of distinct rows by the column a, as they are asked.
+fn asked(alloc: Global) -> Result<DistinctOptionsDSL, AllocError> {
+    let mut subset = Items::new(alloc);
+    subset.push(Selector(PlSmallStr::new(alloc, "a")?))?;
+    let mut asked = DistinctOptionsDSL::default();
+    asked.subset = Some(subset);
+    Ok(asked)
+}
+
+/// The same as a node has them.
+fn distinct(alloc: Global) -> Result<DistinctOptionsIR, AllocError> {
+    Ok(DistinctOptionsIR {
+        subset: Some(names(alloc, &["a"])?),
+        maintain_order: true,
+        keep_strategy: UniqueKeepStrategy::First,
+        slice: None,
+    })
+}
+
+/// The options of a sort by one key.
+fn sort(alloc: Global) -> Result<SortMultipleOptions, AllocError> {
+    Ok(SortMultipleOptions {
+        descending: marks(alloc, &[true])?,
+        nulls_last: Items::new(alloc),
+        multithreaded: true,
+        maintain_order: false,
+        limit: Some(3),
+    })
 }
 
 #[test]
 fn options_are_copied(rt: HostRuntime) -> Result<(), Fail> {
-    let mut names = Items::new(rt.alloc());
-    names.push(Selector(text(rt.alloc(), "a")?))?;
-    let mut asked = DistinctOptionsDSL::default();
-    asked.subset = Some(names);
-    assert!(rt; asked.try_clone(rt.alloc())? == asked && asked != DistinctOptionsDSL::default());
-    let mut subset = Items::new(rt.alloc());
-    subset.push(text(rt.alloc(), "a")?)?;
-    let distinct = DistinctOptionsIR {
-        subset: Some(subset),
-        maintain_order: true,
-        keep_strategy: UniqueKeepStrategy::First,
-        slice: None,
-    };
-    assert!(rt; distinct.try_clone(rt.alloc())? == distinct);
+    assert!(rt; is_copied(rt.alloc(), &asked(rt.alloc())?)?);
+    assert!(rt; is_copied(rt.alloc(), &distinct(rt.alloc())?)?);
+    assert!(rt; is_copied(rt.alloc(), &sort(rt.alloc())?)?);
     Ok(())
 }
 
-#[test]
-fn sorts_are_copied(rt: HostRuntime) -> Result<(), Fail> {
-    let mut descending = Items::new(rt.alloc());
-    descending.push(true)?;
-    let sort = SortMultipleOptions {
-        descending,
-        nulls_last: Items::new(rt.alloc()),
-        multithreaded: true,
-        maintain_order: false,
-        limit: Some(3),
-    };
-    assert!(rt; sort.try_clone(rt.alloc())? == sort);
-    Ok(())
+/// Two names, no text and one text between brackets, behind a name each.
+fn texts(alloc: Global) -> Result<String, AllocError> {
+    let none: [String; 0] = [];
+    let one = [String::from_str(alloc, "a")?];
+    let text = String::from_str(alloc, "x")?;
+    let text = comma_delimited(alloc, text, names(alloc, &["a", "b"])?.as_slice())?;
+    let text = comma_delimited(alloc, text, &none)?;
+    comma_delimited(alloc, text, &one)
 }
 
 #[test]
 fn texts_stand_between_brackets(rt: HostRuntime) -> Result<(), Fail> {
-    let names = [text(rt.alloc(), "a")?, text(rt.alloc(), "b")?];
-    let none: [String; 0] = [];
-    let owned = [String::from_str(rt.alloc(), "a")?];
-    let both = comma_delimited(rt.alloc(), String::new(rt.alloc()), &names)?;
-    let nothing = comma_delimited(rt.alloc(), String::new(rt.alloc()), &none)?;
-    let one = comma_delimited(rt.alloc(), String::from_str(rt.alloc(), "x")?, &owned)?;
-    assert_eq!(rt;
-        (both.as_str(), nothing.as_str(), one.as_str()),
-        ("(a, b)", "()", "x(a)")
-    );
+    assert_eq!(rt; texts(rt.alloc())?.as_str(), "x(a, b)()(a)");
     Ok(())
+}
+
+/// The merged columns of two schemas.
+fn merged(
+    alloc: Global,
+    first: &[(&str, DataType)],
+    second: &[(&str, DataType)],
+) -> Result<Schema, PolarsError> {
+    let schemas = [schema(alloc, first)?, schema(alloc, second)?];
+    merge_schemas(alloc, &schemas)
 }
 
 #[test]
 fn schemas_are_merged(rt: HostRuntime) -> Result<(), Fail> {
-    let a = schema(rt.alloc(), &["a"])?;
-    let b = schema(rt.alloc(), &["b", "c"])?;
-    let merged = merge_schemas(rt.alloc(), &[a, b])?;
-    assert!(rt; merged == schema(rt.alloc(), &["a", "b", "c"])?);
-    Ok(())
-}
-
-#[test]
-fn a_name_that_comes_twice_is_refused(rt: HostRuntime) -> Result<(), Fail> {
-    let a = schema(rt.alloc(), &["a"])?;
-    let again = schema(rt.alloc(), &["b", "a"])?;
+    let (a, b) = (("a", DataType::Int64), ("b", DataType::String));
+    assert!(rt; merged(rt.alloc(), &[a], &[b])? == schema(rt.alloc(), &[a, b])?);
     let at = At {
         node: None,
         place: 1,
     };
-    match merge_schemas(rt.alloc(), &[a, again]) {
-        Err(PolarsError::Duplicate(found)) => assert_eq!(rt; found, at),
-        other => {
-            let _ = other?;
-            assert!(rt; false);
-        }
-    }
+    let refused = merged(rt.alloc(), &[a], &[b, a]).err();
+    assert_eq!(rt; refused, Some(PolarsError::Duplicate(at)));
     Ok(())
 }

@@ -13,7 +13,7 @@ use Rattle.plan_expr.specs.declared.aexpr.AExpr.{AExpr}
 use Rattle.plan_expr.specs.declared.expr_ir.ExprIR.{ExprIR}
 use Rattle.plan_expr.specs.Operands.{IsExpr}
 use Rattle.plan_expr.specs.Exprs.{Named, named_at, all_named_at, expr_at}
-use Rattle.plan_ir.proofs.MovedLemmas.{map_twice}
+use Rattle.plan_ir.proofs.PlanLemmas.{map_twice}
 use Rattle.plan_expr.specs.Forms.{has_form}
 use Rattle.plan_expr.specs.Naming.{name_of}
 use Rattle.plan_frame.specs.Exprs.{expr_type}

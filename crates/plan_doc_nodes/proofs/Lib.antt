@@ -1,2 +1,4 @@
 -- The lemmas of this crate.
 pub mod HiveLemmas
+pub mod NoneLemmas
+pub mod ScanLemmas

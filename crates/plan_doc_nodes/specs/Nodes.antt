@@ -1,5 +1,5 @@
 -- The nodes that the entries of a document stand for.
-use Rattle.std.specs.Prelude.{[], ◌∷◌, Option, Some, None, if◌then◌else◌, codes, bytes_eq}
+use Rattle.std.specs.Prelude.{ℕ, List, [], ◌∷◌, Option, Some, None, if◌then◌else◌, codes, bytes_eq}
 use Rattle.serde_json.specs.Data.{Data}
 use Rattle.serde_json.specs.Find.{get}
 use Rattle.plan_ir.specs.declared.ir.IR.{IR}
@@ -44,6 +44,18 @@ unfoldable pub invalid_of : Data → Option IR
 invalid_of d = do
   o ← object_of (codes "op" ∷ []) d
   Some nodes.Invalid
+
+-- the node of an entry whose op is none of the first nine
+unfoldable pub other_node_of : List ℕ → Data → Option IR
+other_node_of s d =
+    if bytes_eq s (codes "Join") then join_of d else (
+    if bytes_eq s (codes "Distinct") then distinct_of d else (
+    if bytes_eq s (codes "MapFunction") then map_function_of d else (
+    if bytes_eq s (codes "Sink") then sink_of d else (
+    if bytes_eq s (codes "Union") then union_of d else (
+    if bytes_eq s (codes "HConcat") then hconcat_of d else (
+    if bytes_eq s (codes "Cache") then cache_of d else (
+    if bytes_eq s (codes "Invalid") then invalid_of d else None)))))))
 
 -- the node of an entry
 unfoldable pub node_of : Data → Option IR

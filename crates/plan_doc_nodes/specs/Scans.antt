@@ -2,9 +2,12 @@
 use Rattle.std.specs.Prelude.{ℕ, List, [], ◌∷◌, Option, Some, None, is_some, if◌then◌else◌, codes, bytes_eq}
 use Rattle.serde_json.specs.Data.{Data}
 use Rattle.serde_json.specs.Find.{get}
+use Rattle.plan_core.specs.Columns.{Columns}
 use Rattle.plan_core.specs.Options.{default_scan}
 use Rattle.plan_core.specs.declared.options.FileScanOptions.{FileScanOptions}
 use Rattle.plan_core.specs.declared.options.RowIndex.{RowIndex}
+use Rattle.plan_expr.specs.declared.expr_ir.ExprIR.{ExprIR}
+use Rattle.plan_scan.specs.Stats.{Stats}
 use Rattle.plan_scan.specs.declared.file_scan.FileScan.{FileScan}
 use Rattle.plan_scan.specs.declared.file_scan.FileScan.TheVariants as kinds
 use Rattle.plan_scan.specs.declared.sources.ScanSources.{ScanSources}
@@ -82,6 +85,27 @@ file_options_of o = do
   s ← at (codes "slice") (nullable slice_of) o
   b ← beside_of o
   Some (record default_scan { slice = s; with_columns = c; row_index = b.0; rechunk = r; include_file_paths = b.1 })
+
+-- where the rows are, the format of the files, and the hive columns of each source
+unfoldable pub read_of : Data → Option ((ScanSources × FileScan) × Option (List Stats))
+read_of o = do
+  files ← files_of o
+  hive ← at (codes "hive") (nullable hive_parts_of) o
+  Some (files, hive)
+
+-- the columns that are given, where they are named, and which rows
+unfoldable pub given_of : Data → Option (Option Columns × Option ExprIR)
+given_of o = do
+  out ← at (codes "output") (nullable columns_of) o
+  p ← at (codes "predicate") (nullable output_of) o
+  Some (out, p)
+
+-- what the files hold, and what is read of them
+unfoldable pub held_of : Data → Option (FileInfo × FileScanOptions)
+held_of o = do
+  info ← file_info_of o
+  options ← file_options_of o
+  Some (info, options)
 
 -- the keys of a scan
 unfoldable pub scan_keys : List (List ℕ)

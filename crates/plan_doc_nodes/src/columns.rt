@@ -4,6 +4,7 @@ ghost use Rattle.plan_doc_parts.specs.Gives.{Gives, Shows};
 ghost use Rattle.plan_doc_parts.specs.Members.{object_of};
 ghost use Rattle.plan_doc_nodes.specs.Columns.{simple_projection_of, made_keys, made_of, select_of, hstack_of, group_by_keys, grouped_of, group_by_of};
 
+use crate::reading::read;
 use plan_core::{Items, ProjectionOptions, Schema};
 use plan_doc_parts::{
     Fault, columns_at, link_at, object, optional_slice_at, options_at, outputs_at, truth_at,
@@ -15,13 +16,13 @@ use serde_json::Value;
 use std::alloc::Global;
 
 /// The projection of an entry.
-#[tactic(auto, unfolding(crate::specs::Columns::simple_projection_of))]
+#[tactic(auto, using(crate::proofs::NoneLemmas::bind_none), unfolding(crate::specs::Columns::simple_projection_of))]
 pub fn simple_projection(alloc: Global, value: &Value) -> Result<IR, Fault>
     ensures { Gives result (simple_projection_of (view value.now)) }
 {
-    let object = object(value, &["columns", "input", "op"])?;
-    let columns = columns_at(alloc, object, "columns")?;
-    let input = link_at(object, "input")?;
+    let object = read!(object(value, &["columns", "input", "op"]));
+    let input = read!(link_at(object, "input"));
+    let columns = read!(columns_at(alloc, object, "columns"));
     Ok(IR::SimpleProjection { input, columns })
 }
 
@@ -34,13 +35,13 @@ fn made_object(value: &Value) -> Result<&Value, Fault>
 }
 
 /// The columns that a node makes.
-#[tactic(auto, unfolding(crate::specs::Columns::made_of))]
+#[tactic(auto, using(crate::proofs::NoneLemmas::bind_none), unfolding(crate::specs::Columns::made_of))]
 fn made(alloc: Global, object: &Value) -> Result<(Items<ExprIR>, Schema, ProjectionOptions), Fault>
     ensures { Gives result (made_of (view object.now)) }
 {
-    let exprs = outputs_at(alloc, object, "exprs")?;
-    let schema = columns_at(alloc, object, "schema")?;
-    let options = options_at(object, "options")?;
+    let options = read!(options_at(object, "options"));
+    let exprs = read!(outputs_at(alloc, object, "exprs"));
+    let schema = read!(columns_at(alloc, object, "schema"));
     Ok((exprs, schema, options))
 }
 
@@ -49,9 +50,9 @@ fn made(alloc: Global, object: &Value) -> Result<(Items<ExprIR>, Schema, Project
 pub fn select(alloc: Global, value: &Value) -> Result<IR, Fault>
     ensures { Gives result (select_of (view value.now)) }
 {
-    let object = made_object(value)?;
-    let input = link_at(object, "input")?;
-    let (expr, schema, options) = made(alloc, object)?;
+    let object = read!(made_object(value));
+    let input = read!(link_at(object, "input"));
+    let (expr, schema, options) = read!(made(alloc, object));
     Ok(IR::Select {
         input,
         expr,
@@ -65,9 +66,9 @@ pub fn select(alloc: Global, value: &Value) -> Result<IR, Fault>
 pub fn hstack(alloc: Global, value: &Value) -> Result<IR, Fault>
     ensures { Gives result (hstack_of (view value.now)) }
 {
-    let object = made_object(value)?;
-    let input = link_at(object, "input")?;
-    let (exprs, schema, options) = made(alloc, object)?;
+    let object = read!(made_object(value));
+    let input = read!(link_at(object, "input"));
+    let (exprs, schema, options) = read!(made(alloc, object));
     Ok(IR::HStack {
         input,
         exprs,
@@ -100,22 +101,22 @@ fn group_by_object(value: &Value) -> Result<&Value, Fault>
 fn grouped(alloc: Global, object: &Value) -> Result<(Items<ExprIR>, Items<ExprIR>, Schema), Fault>
     ensures { Gives result (grouped_of (view object.now)) }
 {
-    let keys = outputs_at(alloc, object, "keys")?;
-    let aggs = outputs_at(alloc, object, "aggs")?;
-    let schema = columns_at(alloc, object, "schema")?;
+    let keys = read!(outputs_at(alloc, object, "keys"));
+    let aggs = read!(outputs_at(alloc, object, "aggs"));
+    let schema = read!(columns_at(alloc, object, "schema"));
     Ok((keys, aggs, schema))
 }
 
 /// The grouping of an entry.
-#[tactic(auto, unfolding(crate::specs::Columns::group_by_of))]
+#[tactic(auto, using(crate::proofs::NoneLemmas::bind_none), unfolding(crate::specs::Columns::group_by_of))]
 pub fn group_by(alloc: Global, value: &Value) -> Result<IR, Fault>
     ensures { Gives result (group_by_of (view value.now)) }
 {
-    let object = group_by_object(value)?;
-    let input = link_at(object, "input")?;
-    let (keys, aggs, schema) = grouped(alloc, object)?;
-    let maintain_order = truth_at(object, "maintain_order")?;
-    let slice = optional_slice_at(object, "slice")?;
+    let object = read!(group_by_object(value));
+    let input = read!(link_at(object, "input"));
+    let maintain_order = read!(truth_at(object, "maintain_order"));
+    let slice = read!(optional_slice_at(object, "slice"));
+    let (keys, aggs, schema) = read!(grouped(alloc, object));
     Ok(IR::GroupBy {
         input,
         keys,

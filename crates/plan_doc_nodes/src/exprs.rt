@@ -4,6 +4,7 @@ ghost use Rattle.plan_doc_parts.specs.Gives.{Gives, Shows};
 ghost use Rattle.plan_doc_parts.specs.Members.{object_of};
 ghost use Rattle.plan_doc_nodes.specs.Exprs.{operator_of, column_expr_of, value_of, value_or_null, literal_of, alias_of, binary_of, ternary_keys, ternary_of, agg_kind_of, agg_of, function_name_of, function_of, window_of, len_of, expr_of};
 
+use crate::reading::read;
 use plan_core::{Node, PlainType};
 use plan_doc_parts::{
     Fault, field, integer, link_at, links_at, name, name_at, object, plain_type, text, truth,
@@ -17,7 +18,7 @@ use std::alloc::Global;
 fn operator(value: &Value) -> Result<Operator, Fault>
     ensures { Gives result (operator_of (view value.now)) }
 {
-    match text(value)? {
+    match read!(text(value)) {
         "Eq" => Ok(Operator::Eq),
         "NotEq" => Ok(Operator::NotEq),
         "Lt" => Ok(Operator::Lt),
@@ -41,8 +42,8 @@ fn operator(value: &Value) -> Result<Operator, Fault>
 fn column_expr(alloc: Global, value: &Value) -> Result<AExpr, Fault>
     ensures { Gives result (column_expr_of (view value.now)) }
 {
-    let object = object(value, &["name", "op"])?;
-    let name = name_at(alloc, object, "name")?;
+    let object = read!(object(value, &["name", "op"]));
+    let name = read!(name_at(alloc, object, "name"));
     Ok(AExpr::Column(name))
 }
 
@@ -51,9 +52,9 @@ fn plain_value(alloc: Global, plain: PlainType, value: &Value) -> Result<Literal
     ensures { Gives result (value_of plain (view value.now)) }
 {
     match plain {
-        PlainType::Int64 => Ok(LiteralValue::Int64(integer(value)?)),
-        PlainType::String => Ok(LiteralValue::String(name(alloc, value)?)),
-        PlainType::Boolean => Ok(LiteralValue::Boolean(truth(value)?)),
+        PlainType::Int64 => Ok(LiteralValue::Int64(read!(integer(value)))),
+        PlainType::String => Ok(LiteralValue::String(read!(name(alloc, value)))),
+        PlainType::Boolean => Ok(LiteralValue::Boolean(read!(truth(value)))),
     }
 }
 
@@ -72,9 +73,9 @@ fn literal_value(alloc: Global, plain: PlainType, value: &Value) -> Result<Liter
 fn literal(alloc: Global, value: &Value) -> Result<AExpr, Fault>
     ensures { Gives result (literal_of (view value.now)) }
 {
-    let object = object(value, &["op", "type", "value"])?;
-    let plain = plain_type(field(object, "type")?)?;
-    let value = literal_value(alloc, plain, field(object, "value")?)?;
+    let object = read!(object(value, &["op", "type", "value"]));
+    let plain = read!(plain_type(read!(field(object, "type"))));
+    let value = read!(literal_value(alloc, plain, read!(field(object, "value"))));
     Ok(AExpr::Literal(value))
 }
 
@@ -83,9 +84,9 @@ fn literal(alloc: Global, value: &Value) -> Result<AExpr, Fault>
 fn alias(alloc: Global, value: &Value) -> Result<AExpr, Fault>
     ensures { Gives result (alias_of (view value.now)) }
 {
-    let object = object(value, &["input", "name", "op"])?;
-    let input = link_at(object, "input")?;
-    let name = name_at(alloc, object, "name")?;
+    let object = read!(object(value, &["input", "name", "op"]));
+    let input = read!(link_at(object, "input"));
+    let name = read!(name_at(alloc, object, "name"));
     Ok(AExpr::Alias(input, name))
 }
 
@@ -94,10 +95,10 @@ fn alias(alloc: Global, value: &Value) -> Result<AExpr, Fault>
 fn binary(value: &Value) -> Result<AExpr, Fault>
     ensures { Gives result (binary_of (view value.now)) }
 {
-    let object = object(value, &["left", "op", "operator", "right"])?;
-    let left = link_at(object, "left")?;
-    let op = operator(field(object, "operator")?)?;
-    let right = link_at(object, "right")?;
+    let object = read!(object(value, &["left", "op", "operator", "right"]));
+    let left = read!(link_at(object, "left"));
+    let op = read!(operator(read!(field(object, "operator"))));
+    let right = read!(link_at(object, "right"));
     Ok(AExpr::BinaryExpr { left, op, right })
 }
 
@@ -114,10 +115,10 @@ fn ternary_object(value: &Value) -> Result<&Value, Fault>
 fn ternary(value: &Value) -> Result<AExpr, Fault>
     ensures { Gives result (ternary_of (view value.now)) }
 {
-    let object = ternary_object(value)?;
-    let predicate = link_at(object, "predicate")?;
-    let truthy = link_at(object, "truthy")?;
-    let falsy = link_at(object, "falsy")?;
+    let object = read!(ternary_object(value));
+    let predicate = read!(link_at(object, "predicate"));
+    let truthy = read!(link_at(object, "truthy"));
+    let falsy = read!(link_at(object, "falsy"));
     Ok(AExpr::Ternary {
         predicate,
         truthy,
@@ -130,7 +131,7 @@ fn ternary(value: &Value) -> Result<AExpr, Fault>
 fn agg_kind(input: Node, value: &Value) -> Result<IRAggExpr, Fault>
     ensures { Gives result (agg_kind_of input (view value.now)) }
 {
-    match text(value)? {
+    match read!(text(value)) {
         "Min" => Ok(IRAggExpr::Min(input)),
         "Max" => Ok(IRAggExpr::Max(input)),
         "Sum" => Ok(IRAggExpr::Sum(input)),
@@ -149,9 +150,9 @@ fn agg_kind(input: Node, value: &Value) -> Result<IRAggExpr, Fault>
 fn agg(value: &Value) -> Result<AExpr, Fault>
     ensures { Gives result (agg_of (view value.now)) }
 {
-    let object = object(value, &["input", "kind", "op"])?;
-    let input = link_at(object, "input")?;
-    let agg = agg_kind(input, field(object, "kind")?)?;
+    let object = read!(object(value, &["input", "kind", "op"]));
+    let input = read!(link_at(object, "input"));
+    let agg = read!(agg_kind(input, read!(field(object, "kind"))));
     Ok(AExpr::Agg(agg))
 }
 
@@ -160,7 +161,7 @@ fn agg(value: &Value) -> Result<AExpr, Fault>
 fn function_name(value: &Value) -> Result<FunctionExpr, Fault>
     ensures { Gives result (function_name_of (view value.now)) }
 {
-    match text(value)? {
+    match read!(text(value)) {
         "Not" => Ok(FunctionExpr::Not),
         "IsNull" => Ok(FunctionExpr::IsNull),
         "IsNotNull" => Ok(FunctionExpr::IsNotNull),
@@ -172,13 +173,13 @@ fn function_name(value: &Value) -> Result<FunctionExpr, Fault>
 }
 
 /// The function over inputs of an entry, however many they are, with the options that are its own.
-#[tactic(auto, unfolding(crate::specs::Exprs::function_of))]
+#[tactic(auto, using(crate::proofs::NoneLemmas::bind_none), unfolding(crate::specs::Exprs::function_of))]
 fn function(alloc: Global, value: &Value) -> Result<AExpr, Fault>
     ensures { Gives result (function_of (view value.now)) }
 {
-    let object = object(value, &["inputs", "name", "op"])?;
-    let input = links_at(alloc, object, "inputs")?;
-    let function = function_name(field(object, "name")?)?;
+    let object = read!(object(value, &["inputs", "name", "op"]));
+    let function = read!(function_name(read!(field(object, "name"))));
+    let input = read!(links_at(alloc, object, "inputs"));
     Ok(AExpr::Function {
         input,
         function,
@@ -191,9 +192,9 @@ fn function(alloc: Global, value: &Value) -> Result<AExpr, Fault>
 fn window(alloc: Global, value: &Value) -> Result<AExpr, Fault>
     ensures { Gives result (window_of (view value.now)) }
 {
-    let object = object(value, &["function", "op", "partition_by"])?;
-    let function = link_at(object, "function")?;
-    let partition_by = links_at(alloc, object, "partition_by")?;
+    let object = read!(object(value, &["function", "op", "partition_by"]));
+    let function = read!(link_at(object, "function"));
+    let partition_by = read!(links_at(alloc, object, "partition_by"));
     Ok(AExpr::Window {
         function,
         partition_by,
@@ -205,7 +206,7 @@ fn window(alloc: Global, value: &Value) -> Result<AExpr, Fault>
 fn len(value: &Value) -> Result<AExpr, Fault>
     ensures { Gives result (len_of (view value.now)) }
 {
-    let _ = object(value, &["op"])?;
+    let _ = read!(object(value, &["op"]));
     Ok(AExpr::Len)
 }
 
@@ -215,7 +216,7 @@ fn len(value: &Value) -> Result<AExpr, Fault>
 pub fn expr(alloc: Global, value: &Value) -> Result<AExpr, Fault>
     ensures { Gives result (expr_of (view value.now)) }
 {
-    match text(field(value, "op")?)? {
+    match read!(text(read!(field(value, "op")))) {
         "Column" => column_expr(alloc, value),
         "Literal" => literal(alloc, value),
         "Alias" => alias(alloc, value),

@@ -3,6 +3,7 @@ ghost use Rattle.serde_json.specs.View.{view};
 ghost use Rattle.plan_doc_parts.specs.Gives.{Gives};
 ghost use Rattle.plan_doc_nodes.specs.Functions.{count_of, rename_of, numbering_of, unpivot_args_of, unpivot_of, explode_of, frame_function_of};
 
+use crate::reading::read;
 use crate::scans::files;
 use plan_doc_parts::{
     Fault, name_at, names_at, object, only, optional_name_at, optional_number_at, truth_at,
@@ -12,14 +13,14 @@ use serde_json::Value;
 use std::alloc::Global;
 
 /// The renaming of an object.
-#[tactic(auto, unfolding(crate::specs::Functions::rename_of))]
+#[tactic(auto, using(crate::proofs::NoneLemmas::bind_none), unfolding(crate::specs::Functions::rename_of))]
 fn rename(alloc: Global, value: &Value) -> Result<FunctionIR, Fault>
     ensures { Gives result (rename_of (view value.now)) }
 {
-    let object = object(value, &["existing", "new", "swapping"])?;
-    let existing = names_at(alloc, object, "existing")?;
-    let new = names_at(alloc, object, "new")?;
-    let swapping = truth_at(object, "swapping")?;
+    let object = read!(object(value, &["existing", "new", "swapping"]));
+    let swapping = read!(truth_at(object, "swapping"));
+    let existing = read!(names_at(alloc, object, "existing"));
+    let new = read!(names_at(alloc, object, "new"));
     Ok(FunctionIR::Rename {
         existing,
         new,
@@ -28,13 +29,13 @@ fn rename(alloc: Global, value: &Value) -> Result<FunctionIR, Fault>
 }
 
 /// The numbering of rows of an object.
-#[tactic(auto, unfolding(crate::specs::Functions::numbering_of))]
+#[tactic(auto, using(crate::proofs::NoneLemmas::bind_none), unfolding(crate::specs::Functions::numbering_of))]
 fn numbering(alloc: Global, value: &Value) -> Result<FunctionIR, Fault>
     ensures { Gives result (numbering_of (view value.now)) }
 {
-    let object = object(value, &["name", "offset"])?;
-    let name = name_at(alloc, object, "name")?;
-    let offset = optional_number_at(object, "offset")?;
+    let object = read!(object(value, &["name", "offset"]));
+    let offset = read!(optional_number_at(object, "offset"));
+    let name = read!(name_at(alloc, object, "name"));
     Ok(FunctionIR::RowIndex { name, offset })
 }
 
@@ -60,8 +61,8 @@ fn unpivot_args(alloc: Global, object: &Value) -> Result<UnpivotArgsIR, Fault>
 fn unpivot(alloc: Global, value: &Value) -> Result<FunctionIR, Fault>
     ensures { Gives result (unpivot_of (view value.now)) }
 {
-    let object = object(value, &["index", "on", "value_name", "variable_name"])?;
-    let args = unpivot_args(alloc, object)?;
+    let object = read!(object(value, &["index", "on", "value_name", "variable_name"]));
+    let args = read!(unpivot_args(alloc, object));
     Ok(FunctionIR::Unpivot { args })
 }
 
@@ -70,8 +71,8 @@ fn unpivot(alloc: Global, value: &Value) -> Result<FunctionIR, Fault>
 fn explode(alloc: Global, value: &Value) -> Result<FunctionIR, Fault>
     ensures { Gives result (explode_of (view value.now)) }
 {
-    let object = object(value, &["columns"])?;
-    let columns = names_at(alloc, object, "columns")?;
+    let object = read!(object(value, &["columns"]));
+    let columns = read!(names_at(alloc, object, "columns"));
     Ok(FunctionIR::Explode { columns })
 }
 
@@ -80,9 +81,9 @@ fn explode(alloc: Global, value: &Value) -> Result<FunctionIR, Fault>
 fn count(alloc: Global, value: &Value) -> Result<FunctionIR, Fault>
     ensures { Gives result (count_of (view value.now)) }
 {
-    let object = object(value, &["alias", "kind", "sources"])?;
-    let alias = optional_name_at(alloc, object, "alias")?;
-    let (sources, scan_type) = files(alloc, object)?;
+    let object = read!(object(value, &["alias", "kind", "sources"]));
+    let alias = read!(optional_name_at(alloc, object, "alias"));
+    let (sources, scan_type) = read!(files(alloc, object));
     Ok(FunctionIR::FastCount {
         sources,
         scan_type,
@@ -95,19 +96,19 @@ pub fn frame_function(alloc: Global, value: &Value) -> Result<FunctionIR, Fault>
     ensures { Gives result (frame_function_of (view value.now)) }
 {
     if value.get("Rename").is_some() {
-        return rename(alloc, only(value, "Rename")?);
+        return rename(alloc, read!(only(value, "Rename")));
     }
     if value.get("RowIndex").is_some() {
-        return numbering(alloc, only(value, "RowIndex")?);
+        return numbering(alloc, read!(only(value, "RowIndex")));
     }
     if value.get("Unpivot").is_some() {
-        return unpivot(alloc, only(value, "Unpivot")?);
+        return unpivot(alloc, read!(only(value, "Unpivot")));
     }
     if value.get("Explode").is_some() {
-        return explode(alloc, only(value, "Explode")?);
+        return explode(alloc, read!(only(value, "Explode")));
     }
     if value.get("FastCount").is_some() {
-        return count(alloc, only(value, "FastCount")?);
+        return count(alloc, read!(only(value, "FastCount")));
     }
     Err(Fault::Form)
 }

@@ -5,6 +5,7 @@ ghost use Rattle.plan_doc_parts.specs.Members.{at};
 ghost use Rattle.plan_doc_parts.specs.Parts.{nullable};
 ghost use Rattle.plan_doc_nodes.specs.Hive.{hive_column_of, hive_part_of, hive_parts_of};
 
+use crate::reading::read;
 use plan_core::{Items, Schema};
 use plan_doc_parts::{Fault, any_value, data_type, each, entries, field, name, three};
 use plan_scan::{ColumnStats, Field, HivePartitions};
@@ -12,14 +13,14 @@ use serde_json::Value;
 use std::alloc::Global;
 
 /// The name, the type and the value of an array of three; the value is null or of the type.
-#[tactic(auto, unfolding(crate::specs::Hive::hive_column_of))]
+#[tactic(auto, using(crate::proofs::NoneLemmas::bind_none), unfolding(crate::specs::Hive::hive_column_of))]
 fn hive_column(alloc: Global, value: &Value) -> Result<ColumnStats, Fault>
     ensures { Gives result (hive_column_of (view value.now)) }
 {
-    let (name_value, type_value, value) = three(value)?;
-    let name = name(alloc, name_value)?;
-    let dtype = data_type(type_value)?;
-    let value = any_value(alloc, dtype, value)?;
+    let (name_value, type_value, value) = read!(three(value));
+    let dtype = read!(data_type(type_value));
+    let name = read!(name(alloc, name_value));
+    let value = read!(any_value(alloc, dtype, value));
     Ok(ColumnStats {
         field: Field { name, dtype },
         value,
@@ -63,9 +64,9 @@ pub fn optional_hive_parts_at(
 ) -> Result<Option<Items<HivePartitions>>, Fault>
     ensures { Gives result (at key.now (nullable hive_parts_of) (view object.now)) }
 {
-    let value = field(object, key)?;
+    let value = read!(field(object, key));
     if value.is_null() {
         return Ok(None);
     }
-    Ok(Some(hive_parts(alloc, value)?))
+    Ok(Some(read!(hive_parts(alloc, value))))
 }

@@ -5,6 +5,7 @@ ghost use Rattle.plan_doc_parts.specs.Members.{object_of, at};
 ghost use Rattle.plan_doc_parts.specs.Parts.{nullable};
 ghost use Rattle.plan_doc_nodes.specs.Joins.{how_of, coalesce_of, order_of, inequality_of, inequalities_of, condition_of, kind_options_of, parallel_of, naming_of, join_args_of, join_options_of, join_keys, key_pairs_of, join_of};
 
+use crate::reading::read;
 use plan_core::{Items, PlSmallStr};
 use plan_doc_parts::{
     Fault, columns_at, entries, field, link_at, object, only, optional_name_at, optional_slice_at,
@@ -24,7 +25,7 @@ use std::alloc::Global;
 fn how(value: &Value) -> Result<JoinType, Fault>
     ensures { Gives result (how_of (view value.now)) }
 {
-    match text(value)? {
+    match read!(text(value)) {
         "Inner" => Ok(JoinType::Inner),
         "Left" => Ok(JoinType::Left),
         "Right" => Ok(JoinType::Right),
@@ -42,7 +43,7 @@ fn how(value: &Value) -> Result<JoinType, Fault>
 fn coalesce(value: &Value) -> Result<JoinCoalesce, Fault>
     ensures { Gives result (coalesce_of (view value.now)) }
 {
-    match text(value)? {
+    match read!(text(value)) {
         "JoinSpecific" => Ok(JoinCoalesce::JoinSpecific),
         "CoalesceColumns" => Ok(JoinCoalesce::CoalesceColumns),
         "KeepColumns" => Ok(JoinCoalesce::KeepColumns),
@@ -55,7 +56,7 @@ fn coalesce(value: &Value) -> Result<JoinCoalesce, Fault>
 fn order(value: &Value) -> Result<MaintainOrderJoin, Fault>
     ensures { Gives result (order_of (view value.now)) }
 {
-    match text(value)? {
+    match read!(text(value)) {
         "None" => Ok(MaintainOrderJoin::None),
         "Left" => Ok(MaintainOrderJoin::Left),
         "Right" => Ok(MaintainOrderJoin::Right),
@@ -70,7 +71,7 @@ fn order(value: &Value) -> Result<MaintainOrderJoin, Fault>
 fn inequality(value: &Value) -> Result<InequalityOperator, Fault>
     ensures { Gives result (inequality_of (view value.now)) }
 {
-    match text(value)? {
+    match read!(text(value)) {
         "Lt" => Ok(InequalityOperator::Lt),
         "LtEq" => Ok(InequalityOperator::LtEq),
         "Gt" => Ok(InequalityOperator::Gt),
@@ -84,14 +85,14 @@ fn inequality(value: &Value) -> Result<InequalityOperator, Fault>
 fn inequalities(value: &Value) -> Result<JoinTypeOptionsIR, Fault>
     ensures { Gives result (inequalities_of (view value.now)) }
 {
-    match entries(value)? {
+    match read!(entries(value)) {
         [first] => Ok(JoinTypeOptionsIR::IEJoin(IEJoinOptions {
-            operator1: inequality(first)?,
+            operator1: read!(inequality(first)),
             operator2: None,
         })),
         [first, second] => Ok(JoinTypeOptionsIR::IEJoin(IEJoinOptions {
-            operator1: inequality(first)?,
-            operator2: Some(inequality(second)?),
+            operator1: read!(inequality(first)),
+            operator2: Some(read!(inequality(second))),
         })),
         _ => Err(Fault::Form),
     }
@@ -102,7 +103,7 @@ fn inequalities(value: &Value) -> Result<JoinTypeOptionsIR, Fault>
 fn condition(alloc: Global, value: &Value) -> Result<JoinTypeOptionsIR, Fault>
     ensures { Gives result (condition_of (view value.now)) }
 {
-    let predicate = output(alloc, value)?;
+    let predicate = read!(output(alloc, value));
     Ok(JoinTypeOptionsIR::Cross { predicate })
 }
 
@@ -111,10 +112,10 @@ fn kind_options(alloc: Global, value: &Value) -> Result<JoinTypeOptionsIR, Fault
     ensures { Gives result (kind_options_of (view value.now)) }
 {
     if value.get("cross").is_some() {
-        return condition(alloc, only(value, "cross")?);
+        return condition(alloc, read!(only(value, "cross")));
     }
     if value.get("ie").is_some() {
-        return inequalities(only(value, "ie")?);
+        return inequalities(read!(only(value, "ie")));
     }
     Err(Fault::Form)
 }
@@ -128,11 +129,11 @@ fn optional_kind_options_at(
 ) -> Result<Option<JoinTypeOptionsIR>, Fault>
     ensures { Gives result (at key.now (nullable kind_options_of) (view object.now)) }
 {
-    let value = field(object, key)?;
+    let value = read!(field(object, key));
     if value.is_null() {
         return Ok(None);
     }
-    Ok(Some(kind_options(alloc, value)?))
+    Ok(Some(read!(kind_options(alloc, value))))
 }
 
 /// Whether the sides of a join may be computed at once, and whether they are.
@@ -140,9 +141,9 @@ fn optional_kind_options_at(
 fn parallel(value: &Value) -> Result<(bool, bool), Fault>
     ensures { Gives result (parallel_of (view value.now)) }
 {
-    let (allow_value, force_value) = two(value)?;
-    let allow_parallel = truth(allow_value)?;
-    let force_parallel = truth(force_value)?;
+    let (allow_value, force_value) = read!(two(value));
+    let allow_parallel = read!(truth(allow_value));
+    let force_parallel = read!(truth(force_value));
     Ok((allow_parallel, force_parallel))
 }
 
@@ -151,21 +152,21 @@ fn parallel(value: &Value) -> Result<(bool, bool), Fault>
 fn naming(alloc: Global, object: &Value) -> Result<(JoinCoalesce, Option<PlSmallStr>), Fault>
     ensures { Gives result (naming_of (view object.now)) }
 {
-    let coalesce = coalesce(field(object, "coalesce")?)?;
-    let suffix = optional_name_at(alloc, object, "suffix")?;
+    let coalesce = read!(coalesce(read!(field(object, "coalesce"))));
+    let suffix = read!(optional_name_at(alloc, object, "suffix"));
     Ok((coalesce, suffix))
 }
 
 /// Which rows a join gives, in which order, and how it names its columns, from the object of the join.
-#[tactic(auto, unfolding(crate::specs::Joins::join_args_of))]
+#[tactic(auto, using(crate::proofs::NoneLemmas::bind_none), unfolding(crate::specs::Joins::join_args_of))]
 fn join_args(alloc: Global, object: &Value) -> Result<JoinArgs, Fault>
     ensures { Gives result (join_args_of (view object.now)) }
 {
-    let how = how(field(object, "how")?)?;
-    let (coalesce, suffix) = naming(alloc, object)?;
-    let join_nulls = truth_at(object, "join_nulls")?;
-    let maintain_order = order(field(object, "maintain_order")?)?;
-    let slice = optional_slice_at(object, "slice")?;
+    let how = read!(how(read!(field(object, "how"))));
+    let join_nulls = read!(truth_at(object, "join_nulls"));
+    let maintain_order = read!(order(read!(field(object, "maintain_order"))));
+    let slice = read!(optional_slice_at(object, "slice"));
+    let (coalesce, suffix) = read!(naming(alloc, object));
     Ok(JoinArgs {
         how,
         coalesce,
@@ -181,9 +182,9 @@ fn join_args(alloc: Global, object: &Value) -> Result<JoinArgs, Fault>
 fn join_options(alloc: Global, object: &Value) -> Result<JoinOptions, Fault>
     ensures { Gives result (join_options_of (view object.now)) }
 {
-    let (allow_parallel, force_parallel) = parallel(field(object, "parallel")?)?;
-    let args = join_args(alloc, object)?;
-    let options = optional_kind_options_at(alloc, object, "options")?;
+    let (allow_parallel, force_parallel) = read!(parallel(read!(field(object, "parallel"))));
+    let args = read!(join_args(alloc, object));
+    let options = read!(optional_kind_options_at(alloc, object, "options"));
     Ok(JoinOptions {
         allow_parallel,
         force_parallel,
@@ -223,8 +224,8 @@ fn join_object(value: &Value) -> Result<&Value, Fault>
 fn key_pairs(alloc: Global, object: &Value) -> Result<(Items<ExprIR>, Items<ExprIR>), Fault>
     ensures { Gives result (key_pairs_of (view object.now)) }
 {
-    let left_on = outputs_at(alloc, object, "left_on")?;
-    let right_on = outputs_at(alloc, object, "right_on")?;
+    let left_on = read!(outputs_at(alloc, object, "left_on"));
+    let right_on = read!(outputs_at(alloc, object, "right_on"));
     Ok((left_on, right_on))
 }
 
@@ -233,12 +234,13 @@ fn key_pairs(alloc: Global, object: &Value) -> Result<(Items<ExprIR>, Items<Expr
 pub fn join(alloc: Global, value: &Value) -> Result<IR, Fault>
     ensures { Gives result (join_of (view value.now)) }
 {
-    let object = join_object(value)?;
-    let input_left = link_at(object, "left")?;
-    let input_right = link_at(object, "right")?;
-    let schema = columns_at(alloc, object, "schema")?;
-    let (left_on, right_on) = key_pairs(alloc, object)?;
-    let options = join_options(alloc, object)?;
+    let object = read!(join_object(value));
+    let input_left = read!(link_at(object, "left"));
+    let input_right = read!(link_at(object, "right"));
+    let schema = read!(columns_at(alloc, object, "schema"));
+    let keys = read!(key_pairs(alloc, object));
+    let options = read!(join_options(alloc, object));
+    let (left_on, right_on) = keys;
     Ok(IR::Join {
         input_left,
         input_right,

@@ -7,6 +7,7 @@ mod functions;
 mod hive;
 mod joins;
 mod nodes;
+mod reading;
 mod rows;
 mod scans;
 mod several;

@@ -4,6 +4,7 @@ ghost use Rattle.plan_doc_parts.specs.Gives.{Gives, Shows};
 ghost use Rattle.plan_doc_parts.specs.Members.{object_of};
 ghost use Rattle.plan_doc_nodes.specs.Rows.{slice_node_of, filter_of, sort_keys, sort_options_of, sort_of, keep_of, distinct_keys, distinct_options_of, distinct_of};
 
+use crate::reading::read;
 use plan_doc_parts::{
     Fault, field, integer_at, link_at, number_at, object, optional_names_at, optional_slice_at,
     output_at, outputs_at, text, truth_at, truths_at,
@@ -18,10 +19,10 @@ use std::alloc::Global;
 pub fn slice_node(value: &Value) -> Result<IR, Fault>
     ensures { Gives result (slice_node_of (view value.now)) }
 {
-    let object = object(value, &["input", "len", "offset", "op"])?;
-    let input = link_at(object, "input")?;
-    let offset = integer_at(object, "offset")?;
-    let len = number_at(object, "len")?;
+    let object = read!(object(value, &["input", "len", "offset", "op"]));
+    let input = read!(link_at(object, "input"));
+    let offset = read!(integer_at(object, "offset"));
+    let len = read!(number_at(object, "len"));
     Ok(IR::Slice { input, offset, len })
 }
 
@@ -30,9 +31,9 @@ pub fn slice_node(value: &Value) -> Result<IR, Fault>
 pub fn filter(alloc: Global, value: &Value) -> Result<IR, Fault>
     ensures { Gives result (filter_of (view value.now)) }
 {
-    let object = object(value, &["input", "op", "predicate"])?;
-    let input = link_at(object, "input")?;
-    let predicate = output_at(alloc, object, "predicate")?;
+    let object = read!(object(value, &["input", "op", "predicate"]));
+    let input = read!(link_at(object, "input"));
+    let predicate = read!(output_at(alloc, object, "predicate"));
     Ok(IR::Filter { input, predicate })
 }
 
@@ -56,13 +57,13 @@ fn sort_object(value: &Value) -> Result<&Value, Fault>
 }
 
 /// How rows are sorted, from the object of a sort: several threads may sort, and all rows are put out.
-#[tactic(auto, unfolding(crate::specs::Rows::sort_options_of))]
+#[tactic(auto, using(crate::proofs::NoneLemmas::bind_none), unfolding(crate::specs::Rows::sort_options_of))]
 fn sort_options(alloc: Global, object: &Value) -> Result<SortMultipleOptions, Fault>
     ensures { Gives result (sort_options_of (view object.now)) }
 {
-    let descending = truths_at(alloc, object, "descending")?;
-    let nulls_last = truths_at(alloc, object, "nulls_last")?;
-    let maintain_order = truth_at(object, "maintain_order")?;
+    let maintain_order = read!(truth_at(object, "maintain_order"));
+    let descending = read!(truths_at(alloc, object, "descending"));
+    let nulls_last = read!(truths_at(alloc, object, "nulls_last"));
     Ok(SortMultipleOptions {
         descending,
         nulls_last,
@@ -73,15 +74,15 @@ fn sort_options(alloc: Global, object: &Value) -> Result<SortMultipleOptions, Fa
 }
 
 /// The sort of an entry.
-#[tactic(auto, unfolding(crate::specs::Rows::sort_of))]
+#[tactic(auto, using(crate::proofs::NoneLemmas::bind_none), unfolding(crate::specs::Rows::sort_of))]
 pub fn sort(alloc: Global, value: &Value) -> Result<IR, Fault>
     ensures { Gives result (sort_of (view value.now)) }
 {
-    let object = sort_object(value)?;
-    let input = link_at(object, "input")?;
-    let by_column = outputs_at(alloc, object, "by")?;
-    let slice = optional_slice_at(object, "slice")?;
-    let sort_options = sort_options(alloc, object)?;
+    let object = read!(sort_object(value));
+    let input = read!(link_at(object, "input"));
+    let slice = read!(optional_slice_at(object, "slice"));
+    let by_column = read!(outputs_at(alloc, object, "by"));
+    let sort_options = read!(sort_options(alloc, object));
     Ok(IR::Sort {
         input,
         by_column,
@@ -95,7 +96,7 @@ pub fn sort(alloc: Global, value: &Value) -> Result<IR, Fault>
 fn keep(value: &Value) -> Result<UniqueKeepStrategy, Fault>
     ensures { Gives result (keep_of (view value.now)) }
 {
-    match text(value)? {
+    match read!(text(value)) {
         "First" => Ok(UniqueKeepStrategy::First),
         "Last" => Ok(UniqueKeepStrategy::Last),
         "Any" => Ok(UniqueKeepStrategy::Any),
@@ -116,14 +117,14 @@ fn distinct_object(value: &Value) -> Result<&Value, Fault>
 }
 
 /// Which rows are distinct, and which of them are kept, from the object of distinct rows.
-#[tactic(auto, unfolding(crate::specs::Rows::distinct_options_of))]
+#[tactic(auto, using(crate::proofs::NoneLemmas::bind_none), unfolding(crate::specs::Rows::distinct_options_of))]
 fn distinct_options(alloc: Global, object: &Value) -> Result<DistinctOptionsIR, Fault>
     ensures { Gives result (distinct_options_of (view object.now)) }
 {
-    let subset = optional_names_at(alloc, object, "subset")?;
-    let maintain_order = truth_at(object, "maintain_order")?;
-    let keep_strategy = keep(field(object, "keep")?)?;
-    let slice = optional_slice_at(object, "slice")?;
+    let maintain_order = read!(truth_at(object, "maintain_order"));
+    let keep_strategy = read!(keep(read!(field(object, "keep"))));
+    let slice = read!(optional_slice_at(object, "slice"));
+    let subset = read!(optional_names_at(alloc, object, "subset"));
     Ok(DistinctOptionsIR {
         subset,
         maintain_order,
@@ -137,8 +138,8 @@ fn distinct_options(alloc: Global, object: &Value) -> Result<DistinctOptionsIR, 
 pub fn distinct(alloc: Global, value: &Value) -> Result<IR, Fault>
     ensures { Gives result (distinct_of (view value.now)) }
 {
-    let object = distinct_object(value)?;
-    let input = link_at(object, "input")?;
-    let options = distinct_options(alloc, object)?;
+    let object = read!(distinct_object(value));
+    let input = read!(link_at(object, "input"));
+    let options = read!(distinct_options(alloc, object));
     Ok(IR::Distinct { input, options })
 }

@@ -3,16 +3,19 @@ ghost use Rattle.serde_json.specs.View.{view};
 ghost use Rattle.plan_doc_parts.specs.Gives.{Gives, Shows};
 ghost use Rattle.plan_doc_parts.specs.Members.{at, object_of};
 ghost use Rattle.plan_doc_parts.specs.Parts.{nullable};
-ghost use Rattle.plan_doc_nodes.specs.Scans.{kind_of, paths_of, buffers_of, sources_of, files_of, file_info_of, row_index_of, beside_of, file_options_of, scan_keys, scan_of, frame_scan_of};
+ghost use Rattle.plan_doc_nodes.specs.Scans.{kind_of, paths_of, buffers_of, sources_of, files_of, file_info_of, row_index_of, beside_of, file_options_of, read_of, given_of, held_of, scan_keys, scan_of, frame_scan_of};
 
 use crate::hive::optional_hive_parts_at;
-use plan_core::{FileScanOptions, PlSmallStr, RowIndex};
+use crate::reading::read;
+use plan_core::{FileScanOptions, Items, PlSmallStr, RowIndex, Schema};
 use plan_doc_parts::{
     Fault, columns_at, field, name, names_at, number, numbers_at, object, optional_columns_at,
     optional_name_at, optional_names_at, optional_number_at, optional_output_at, optional_slice_at,
     text, truth_at, two,
 };
+use plan_expr::ExprIR;
 use plan_ir::{FileInfo, FileScan, IR, ScanSources};
+use plan_scan::HivePartitions;
 use serde_json::Value;
 use std::alloc::Global;
 
@@ -21,7 +24,7 @@ use std::alloc::Global;
 fn kind(value: &Value) -> Result<FileScan, Fault>
     ensures { Gives result (kind_of (view value.now)) }
 {
-    match text(value)? {
+    match read!(text(value)) {
         "Csv" => Ok(FileScan::Csv),
         "NDJson" => Ok(FileScan::NDJson),
         "Parquet" => Ok(FileScan::Parquet),
@@ -35,8 +38,8 @@ fn kind(value: &Value) -> Result<FileScan, Fault>
 fn paths(alloc: Global, value: &Value) -> Result<ScanSources, Fault>
     ensures { Gives result (paths_of (view value.now)) }
 {
-    let object = object(value, &["paths"])?;
-    let paths = names_at(alloc, object, "paths")?;
+    let object = read!(object(value, &["paths"]));
+    let paths = read!(names_at(alloc, object, "paths"));
     Ok(ScanSources::Paths(paths))
 }
 
@@ -45,8 +48,8 @@ fn paths(alloc: Global, value: &Value) -> Result<ScanSources, Fault>
 fn buffers(alloc: Global, value: &Value) -> Result<ScanSources, Fault>
     ensures { Gives result (buffers_of (view value.now)) }
 {
-    let object = object(value, &["buffers"])?;
-    let numbers = numbers_at(alloc, object, "buffers")?;
+    let object = read!(object(value, &["buffers"]));
+    let numbers = read!(numbers_at(alloc, object, "buffers"));
     Ok(ScanSources::Buffers(numbers))
 }
 
@@ -65,8 +68,8 @@ fn sources(alloc: Global, value: &Value) -> Result<ScanSources, Fault>
 pub fn files(alloc: Global, object: &Value) -> Result<(ScanSources, FileScan), Fault>
     ensures { Gives result (files_of (view object.now)) }
 {
-    let kind = kind(field(object, "kind")?)?;
-    let sources = sources(alloc, field(object, "sources")?)?;
+    let kind = read!(kind(read!(field(object, "kind"))));
+    let sources = read!(sources(alloc, read!(field(object, "sources"))));
     Ok((sources, kind))
 }
 
@@ -75,8 +78,8 @@ pub fn files(alloc: Global, object: &Value) -> Result<(ScanSources, FileScan), F
 fn file_info(alloc: Global, object: &Value) -> Result<FileInfo, Fault>
     ensures { Gives result (file_info_of (view object.now)) }
 {
-    let schema = columns_at(alloc, object, "schema")?;
-    let reader_schema = optional_columns_at(alloc, object, "reader")?;
+    let schema = read!(columns_at(alloc, object, "schema"));
+    let reader_schema = read!(optional_columns_at(alloc, object, "reader"));
     Ok(FileInfo {
         schema,
         reader_schema,
@@ -84,13 +87,13 @@ fn file_info(alloc: Global, object: &Value) -> Result<FileInfo, Fault>
 }
 
 /// The name of the column that numbers the rows, and the number of the first row.
-#[tactic(auto, unfolding(crate::specs::Scans::row_index_of))]
+#[tactic(auto, using(crate::proofs::NoneLemmas::bind_none), unfolding(crate::specs::Scans::row_index_of))]
 fn row_index(alloc: Global, value: &Value) -> Result<RowIndex, Fault>
     ensures { Gives result (row_index_of (view value.now)) }
 {
-    let (name_value, offset_value) = two(value)?;
-    let name = name(alloc, name_value)?;
-    let offset = number(offset_value)?;
+    let (name_value, offset_value) = read!(two(value));
+    let offset = read!(number(offset_value));
+    let name = read!(name(alloc, name_value));
     Ok(RowIndex { name, offset })
 }
 
@@ -103,11 +106,11 @@ fn optional_row_index_at(
 ) -> Result<Option<RowIndex>, Fault>
     ensures { Gives result (at key.now (nullable row_index_of) (view object.now)) }
 {
-    let value = field(object, key)?;
+    let value = read!(field(object, key));
     if value.is_null() {
         return Ok(None);
     }
-    Ok(Some(row_index(alloc, value)?))
+    Ok(Some(read!(row_index(alloc, value))))
 }
 
 /// What a scan puts beside the columns of its files: the column that numbers the rows, and the name of one with the path of
@@ -116,20 +119,20 @@ fn optional_row_index_at(
 fn beside(alloc: Global, object: &Value) -> Result<(Option<RowIndex>, Option<PlSmallStr>), Fault>
     ensures { Gives result (beside_of (view object.now)) }
 {
-    let row_index = optional_row_index_at(alloc, object, "row_index")?;
-    let path_column = optional_name_at(alloc, object, "path_column")?;
+    let row_index = read!(optional_row_index_at(alloc, object, "row_index"));
+    let path_column = read!(optional_name_at(alloc, object, "path_column"));
     Ok((row_index, path_column))
 }
 
 /// The options of a scan, from the object of the scan; those that a document can't say are the default ones.
-#[tactic(auto, unfolding(crate::specs::Scans::file_options_of))]
+#[tactic(auto, using(crate::proofs::NoneLemmas::bind_none), unfolding(crate::specs::Scans::file_options_of))]
 fn file_options(alloc: Global, object: &Value) -> Result<FileScanOptions, Fault>
     ensures { Gives result (file_options_of (view object.now)) }
 {
-    let with_columns = optional_names_at(alloc, object, "columns")?;
-    let rechunk = truth_at(object, "rechunk")?;
-    let slice = optional_slice_at(object, "slice")?;
-    let (row_index, include_file_paths) = beside(alloc, object)?;
+    let rechunk = read!(truth_at(object, "rechunk"));
+    let slice = read!(optional_slice_at(object, "slice"));
+    let with_columns = read!(optional_names_at(alloc, object, "columns"));
+    let (row_index, include_file_paths) = read!(beside(alloc, object));
     Ok(FileScanOptions {
         slice,
         with_columns,
@@ -165,18 +168,50 @@ fn scan_object(value: &Value) -> Result<&Value, Fault>
     )
 }
 
+/// What a scan reads: where the rows are, the format of the files, and the hive columns of each source.
+#[tactic(auto, unfolding(crate::specs::Scans::read_of))]
+fn read_from(
+    alloc: Global,
+    object: &Value,
+) -> Result<((ScanSources, FileScan), Option<Items<HivePartitions>>), Fault>
+    ensures { Gives result (read_of (view object.now)) }
+{
+    let files = read!(files(alloc, object));
+    let hive_parts = read!(optional_hive_parts_at(alloc, object, "hive"));
+    Ok((files, hive_parts))
+}
+
+/// What a scan gives: its columns where they are named, and which rows.
+#[tactic(auto, unfolding(crate::specs::Scans::given_of))]
+fn given(alloc: Global, object: &Value) -> Result<(Option<Schema>, Option<ExprIR>), Fault>
+    ensures { Gives result (given_of (view object.now)) }
+{
+    let output_schema = read!(optional_columns_at(alloc, object, "output"));
+    let predicate = read!(optional_output_at(alloc, object, "predicate"));
+    Ok((output_schema, predicate))
+}
+
+/// What the files hold, and what is read of them.
+#[tactic(auto, unfolding(crate::specs::Scans::held_of))]
+fn held(alloc: Global, object: &Value) -> Result<(FileInfo, FileScanOptions), Fault>
+    ensures { Gives result (held_of (view object.now)) }
+{
+    let file_info = read!(file_info(alloc, object));
+    let file_options = read!(file_options(alloc, object));
+    Ok((file_info, file_options))
+}
+
 /// The scan of an entry.
-#[tactic(auto, unfolding(crate::specs::Scans::scan_of))]
+#[tactic(auto, using(crate::proofs::ScanLemmas::scan_by))]
 pub fn scan(alloc: Global, value: &Value) -> Result<IR, Fault>
     ensures { Gives result (scan_of (view value.now)) }
 {
-    let object = scan_object(value)?;
-    let (sources, scan_type) = files(alloc, object)?;
-    let hive_parts = optional_hive_parts_at(alloc, object, "hive")?;
-    let output_schema = optional_columns_at(alloc, object, "output")?;
-    let predicate = optional_output_at(alloc, object, "predicate")?;
-    let file_info = file_info(alloc, object)?;
-    let file_options = file_options(alloc, object)?;
+    let object = read!(scan_object(value));
+    let read_from = read!(read_from(alloc, object));
+    let given = read!(given(alloc, object));
+    let (file_info, file_options) = read!(held(alloc, object));
+    let ((sources, scan_type), hive_parts) = read_from;
+    let (output_schema, predicate) = given;
     Ok(IR::Scan {
         sources,
         file_info,
@@ -193,10 +228,10 @@ pub fn scan(alloc: Global, value: &Value) -> Result<IR, Fault>
 pub fn frame_scan(alloc: Global, value: &Value) -> Result<IR, Fault>
     ensures { Gives result (frame_scan_of (view value.now)) }
 {
-    let object = object(value, &["frame", "op", "output", "schema"])?;
-    let df = optional_number_at(object, "frame")?;
-    let schema = columns_at(alloc, object, "schema")?;
-    let output_schema = optional_columns_at(alloc, object, "output")?;
+    let object = read!(object(value, &["frame", "op", "output", "schema"]));
+    let df = read!(optional_number_at(object, "frame"));
+    let schema = read!(columns_at(alloc, object, "schema"));
+    let output_schema = read!(optional_columns_at(alloc, object, "output"));
     Ok(IR::DataFrameScan {
         df,
         schema,

@@ -4,6 +4,7 @@ ghost use Rattle.plan_doc_parts.specs.Gives.{Gives, Shows};
 ghost use Rattle.plan_doc_parts.specs.Members.{object_of};
 ghost use Rattle.plan_doc_nodes.specs.Several.{union_keys, union_options_of, union_of, hconcat_of};
 
+use crate::reading::read;
 use plan_doc_parts::{Fault, columns_at, links_at, object, optional_slice_at, truth_at};
 use plan_ir::IR;
 use plan_options::{HConcatOptions, UnionOptions};
@@ -34,11 +35,11 @@ fn union_object(value: &Value) -> Result<&Value, Fault>
 fn union_options(object: &Value) -> Result<UnionOptions, Fault>
     ensures { Gives result (union_options_of (view object.now)) }
 {
-    let slice = optional_slice_at(object, "slice")?;
-    let parallel = truth_at(object, "parallel")?;
-    let flattened_by_opt = truth_at(object, "flattened")?;
-    let rechunk = truth_at(object, "rechunk")?;
-    let maintain_order = truth_at(object, "maintain_order")?;
+    let slice = read!(optional_slice_at(object, "slice"));
+    let parallel = read!(truth_at(object, "parallel"));
+    let flattened_by_opt = read!(truth_at(object, "flattened"));
+    let rechunk = read!(truth_at(object, "rechunk"));
+    let maintain_order = read!(truth_at(object, "maintain_order"));
     Ok(UnionOptions {
         slice,
         parallel,
@@ -50,25 +51,25 @@ fn union_options(object: &Value) -> Result<UnionOptions, Fault>
 }
 
 /// The union of an entry, however many its inputs are.
-#[tactic(auto, unfolding(crate::specs::Several::union_of))]
+#[tactic(auto, using(crate::proofs::NoneLemmas::bind_none), unfolding(crate::specs::Several::union_of))]
 pub fn union(alloc: Global, value: &Value) -> Result<IR, Fault>
     ensures { Gives result (union_of (view value.now)) }
 {
-    let object = union_object(value)?;
-    let inputs = links_at(alloc, object, "inputs")?;
-    let options = union_options(object)?;
+    let object = read!(union_object(value));
+    let options = read!(union_options(object));
+    let inputs = read!(links_at(alloc, object, "inputs"));
     Ok(IR::Union { inputs, options })
 }
 
 /// The concatenation side by side of an entry, however many its inputs are.
-#[tactic(auto, unfolding(crate::specs::Several::hconcat_of))]
+#[tactic(auto, using(crate::proofs::NoneLemmas::bind_none), unfolding(crate::specs::Several::hconcat_of))]
 pub fn hconcat(alloc: Global, value: &Value) -> Result<IR, Fault>
     ensures { Gives result (hconcat_of (view value.now)) }
 {
-    let object = object(value, &["inputs", "op", "parallel", "schema"])?;
-    let inputs = links_at(alloc, object, "inputs")?;
-    let schema = columns_at(alloc, object, "schema")?;
-    let parallel = truth_at(object, "parallel")?;
+    let object = read!(object(value, &["inputs", "op", "parallel", "schema"]));
+    let parallel = read!(truth_at(object, "parallel"));
+    let inputs = read!(links_at(alloc, object, "inputs"));
+    let schema = read!(columns_at(alloc, object, "schema"));
     Ok(IR::HConcat {
         inputs,
         schema,

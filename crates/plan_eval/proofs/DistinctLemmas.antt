@@ -16,30 +16,14 @@ use Rattle.plan_options.specs.declared.distinct.UniqueKeepStrategy.{UniqueKeepSt
 use Rattle.plan_options.specs.declared.distinct.UniqueKeepStrategy.TheVariants as keeps
 use Rattle.plan_frame.specs.Meaning.{Cell, are_alike, places_from, rows_alike}
 use Rattle.plan_frame.specs.Orders.{AreKept, has_earlier, has_later, may_be_kept, must_be_kept}
-use Rattle.plan_frame.proofs.KeptRows.{alike_equivalence}
+use Rattle.plan_frame.proofs.KeptRows.{alike_equivalence, none_pass, or_first, or_second}
 use Rattle.plan_value.specs.Groups.{AreNumbered, rows_numbered}
 use Rattle.plan_value.proofs.WindowLemmas.{places-same}
-use Rattle.plan_eval.specs.Choices.{AreChosen, first_same, settled}
+use Rattle.plan_choices.specs.Choices.{AreChosen, first_same, settled}
 use Rattle.plan_eval.specs.Distinct.{kept, kept_of}
-use Rattle.plan_eval.proofs.OrderLemmas.{near-sorted}
-use Rattle.plan_eval.proofs.PartLemmas.{NoneWithin, Passes, first-passes, first-there, last-passes, last-there, later-number, only-passes, only-there}
-
-or-first : (a b : Bool) → a ≡ true → (a || b) ≡ true
-or-first true b e = refl
-or-first false b e = cc
-
-or-second : (a b : Bool) → b ≡ true → (a || b) ≡ true
-or-second true b e = refl
-or-second false b e = e
-
-both-false : (a b : Bool) → (a || b) ≡ false → (a ≡ false) × (b ≡ false)
-both-false true b e = cc
-both-false false b e = (refl, e)
-
-pub neither : (a b : Bool) → not (a || b) ≡ true → (a ≡ false) × (b ≡ false)
-neither true b e = cc
-neither false true e = cc
-neither false false e = (refl, refl)
+use Rattle.plan_choices.proofs.FarApart.{near-sorted}
+use Rattle.plan_choices.proofs.FirstPassing.{NoneWithin, Passes, first-passes, first-there, later-number, neither}
+use Rattle.plan_eval.proofs.PartLemmas.{last-passes, last-there, only-passes, only-there}
 
 -- What is chosen of each of so many parts
 
@@ -71,11 +55,11 @@ module _ (chosen : ℕ → Option ℕ) where
     where
       with-head : (o : Option ℕ) → list_any test (gathered (a + 1) n) ≡ true → list_any test (cons_option o (gathered (a + 1) n)) ≡ true
       with-head None r = r
-      with-head (Some k) r = or-second (test k) (list_any test (gathered (a + 1) n)) r
+      with-head (Some k) r = or_second (test k) (list_any test (gathered (a + 1) n)) r
 
       at : (b : Bool) → nat_eq a g ≡ b → (suc a ≤ g → list_any test (gathered (a + 1) n) ≡ true) → list_any test (gathered a (suc n)) ≡ true
       at true q rest =
-          subst (λ (o : Option ℕ). list_any test (cons_option o (gathered (a + 1) n)) ≡ true) (sym (ap chosen (eqb-true a g q) ∙ e)) (or-first (test i) (list_any test (gathered (a + 1) n)) f)
+          subst (λ (o : Option ℕ). list_any test (cons_option o (gathered (a + 1) n)) ≡ true) (sym (ap chosen (eqb-true a g q) ∙ e)) (or_first (test i) (list_any test (gathered (a + 1) n)) f)
       at false q rest = with-head (chosen a) (rest (later-number a g from q))
 
 pub kept-parts : (keep : UniqueKeepStrategy) (part : ℕ → List ℕ) (gs : List ℕ) → kept keep (map part gs) ≡ filter_map (λ g. kept_of keep (part g)) gs
@@ -87,16 +71,6 @@ kept-parts keep part (g ∷ gs) = ap (cons_option (kept_of keep (part g))) (kept
 none-any : (test : ℕ → Bool) (a n : ℕ) → NoneWithin test a (a + n) → list_any test (range_with_len a n) ≡ false
 none-any test a zero h = refl
 none-any test a (suc n) h = ap₂ (λ (b c : Bool). b || c) (h a (omega arith) (omega arith)) (none-any test (a + 1) n (λ j from below. h j (omega (arith, from)) (omega (arith, below))))
-
-pub any-none : (test : ℕ → Bool) (a n : ℕ) → list_any test (range_with_len a n) ≡ false → NoneWithin test a (a + n)
-any-none test a zero e j from below = absurd (omega (arith, from, below))
-any-none test a (suc n) e j from below =
-    let p = both-false (test a) (list_any test (range_with_len (a + 1) n)) e in
-    at p.0 (nat_eq a j) refl (λ later. any-none test (a + 1) n p.1 j (omega (arith, later)) (omega (arith, below)))
-  where
-    at : test a ≡ false → (b : Bool) → nat_eq a j ≡ b → (suc a ≤ j → test j ≡ false) → test j ≡ false
-    at none true q rest = subst (λ (k : ℕ). test k ≡ false) (eqb-true a j q) none
-    at none false q rest = rest (later-number a j from q)
 
 below-differ : (g k : ℕ) → g < k → nat_eq g k ≡ false
 below-differ g k lt = at (nat_eq g k) refl
@@ -163,8 +137,8 @@ module _ (same : ℕ → ℕ → Bool) (h count : ℕ) (number : ℕ → ℕ) (w
       let n = neither (has_earlier same i) (has_later same h i) e in (
         i,
         only-there (λ j. nat_eq (number i) (number j)) h i lt (own i)
-            (λ j from below. is i j lt (omega (arith, lt, below)) ∙ any-none (same i) 0 i n.0 j from (omega (arith, below)))
-            (λ j from below. is i j lt below ∙ any-none (same i) (suc i) (h - suc i) n.1 j from (omega (arith, lt, below))),
+            (λ j from below. is i j lt (omega (arith, lt, below)) ∙ none_pass (same i) 0 i j n.0 from (omega (arith, below)))
+            (λ j from below. is i j lt below ∙ none_pass (same i) (suc i) (h - suc i) j n.1 from (omega (arith, lt, below))),
       )
 
   module _ (keep : UniqueKeepStrategy) where

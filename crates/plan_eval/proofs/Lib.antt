@@ -3,9 +3,6 @@ mod StackLemmas
 mod ScanLemmas
 mod ColumnLemmas
 mod MadeLemmas
-mod OrderLemmas
-mod KeptLemmas
-mod ChoiceLemmas
 mod GivenLemmas
 mod TurnLemmas
 mod PlanLemmas

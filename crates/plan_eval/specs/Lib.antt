@@ -1,5 +1,4 @@
 -- The definitions that contracts cite.
-pub mod Choices
 pub mod Given
 pub mod Stacks
 pub mod Distinct

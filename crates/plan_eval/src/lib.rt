@@ -11,7 +11,6 @@ mod group_by;
 mod hconcat;
 mod hstack;
 mod join;
-pub mod laws;
 mod made;
 mod plan;
 mod projection;
@@ -25,3 +24,4 @@ mod union;
 mod unpivot;
 
 pub use plan::evaluate;
+pub use plan_choices::laws;

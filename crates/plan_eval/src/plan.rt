@@ -11,7 +11,7 @@ ghost use Rattle.plan_meaning.specs.PlanAt.{plan_at};
 ghost use Rattle.plan_meaning.specs.Steps.{IsValid, May};
 ghost use Rattle.plan_meaning.specs.Typing.{AllHold, AllValid, checks, schema};
 ghost use Rattle.plan_table.specs.Tables.{HasRows};
-ghost use Rattle.plan_eval.specs.Choices.{Chooses};
+ghost use Rattle.plan_choices.specs.Choices.{Chooses};
 ghost use Rattle.plan_eval.specs.Given.{GiveAll, Gives, names_many};
 ghost use Rattle.plan_value.specs.Shown.{frame_of, schema_of};
 ghost use Rattle.plan_fit.specs.Sources.{contents_of};

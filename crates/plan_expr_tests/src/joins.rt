@@ -4,18 +4,23 @@ ghost use Rattle.std.specs.Prelude.{◌≡◌, length, IfOk};
 use plan_core::{Arena, DataType, Node, PlSmallStr, PolarsError, Schema};
 use plan_expr::{AExpr, ExprIR, OutputName};
 use plan_join::{JoinOptions, Side, join_origin, join_schema};
+use plan_made::schema;
 use plan_options::{JoinArgs, JoinCoalesce, JoinType, MaintainOrderJoin};
 use std::alloc::{AllocError, Global};
 use std::test::Fail;
 
-// The schema of whole numbers with these names.
-fn schema(alloc: Global, names: &[&str]) -> Result<Schema, AllocError> {
-    let mut schema = Schema::new(alloc);
-    for name in names {
-        schema.with_column(PlSmallStr::new(alloc, name)?, DataType::Int64)?;
-    }
-    Ok(schema)
-}
+/// Columns that are written here.
+type Typed = &'static [(&'static str, DataType)];
+
+const A: (&str, DataType) = ("a", DataType::Int64);
+
+const B: (&str, DataType) = ("b", DataType::Int64);
+
+const C: (&str, DataType) = ("c", DataType::Int64);
+
+const B_RIGHT: (&str, DataType) = ("b_right", DataType::Int64);
+
+const C_RIGHT: (&str, DataType) = ("c_right", DataType::Int64);
 
 fn told(how: JoinType) -> JoinOptions {
     JoinOptions {
@@ -33,49 +38,51 @@ fn told(how: JoinType) -> JoinOptions {
     }
 }
 
-fn column(alloc: Global, name: &str) -> Result<Arena<AExpr>, AllocError>
+/// The column a alone.
+fn key(alloc: Global) -> Result<Arena<AExpr>, AllocError>
     ensures { IfOk result (λ ex. length ex ≡ 1) }
 {
     let mut ex = Arena::new(alloc);
-    ex.add(AExpr::Column(PlSmallStr::new(alloc, name)?))?;
+    let name = PlSmallStr::new(alloc, "a")?;
+    ex.add(AExpr::Column(name))?;
     Ok(ex)
 }
 
+/// Where a column of a join of columns a and b with others on a is from.
 fn origin(
     alloc: Global,
-    left: &[&str],
-    right: &[&str],
-    key: &str,
-    options: &JoinOptions,
+    right: Typed,
+    how: JoinType,
     name: &str,
 ) -> Result<Option<(Side, usize)>, AllocError> {
-    let ex = column(alloc, key)?;
+    let ex = key(alloc)?;
     let keys = [ExprIR::new(Node(0), OutputName::None)];
-    let left = schema(alloc, left)?;
+    let left = schema(alloc, &[A, B])?;
     let right = schema(alloc, right)?;
-    Ok(join_origin(&left, &right, &keys, &keys, options, &ex, name))
+    Ok(join_origin(&left, &right, &keys, &keys, &told(how), &ex, name))
 }
 
 #[test]
 fn columns_have_their_origins(rt: HostRuntime) -> Result<(), Fail> {
-    let alloc = rt.alloc();
-    let inner = told(JoinType::Inner);
-    let right = told(JoinType::Right);
-    let sides = ["a", "b"];
-    assert!(rt; origin(alloc, &sides, &sides, "a", &inner, "b")? == Some((Side::Left, 1)));
-    assert!(rt; origin(alloc, &sides, &sides, "a", &inner, "b_right")? == Some((Side::Right, 1)));
-    assert!(rt; origin(alloc, &sides, &sides, "a", &inner, "a_right")? == None);
-    assert!(rt; origin(alloc, &sides, &sides, "a", &right, "a")? == Some((Side::Right, 0)));
-    let twice = ["b_right", "b"];
-    assert!(rt; origin(alloc, &sides, &twice, "a", &inner, "b_right")? == Some((Side::Right, 0)));
+    let sides: Typed = &[A, B];
+    let twice: Typed = &[B_RIGHT, B];
+    for (right, how, name, wanted) in [
+        (sides, JoinType::Inner, "b", Some((Side::Left, 1))),
+        (sides, JoinType::Inner, "b_right", Some((Side::Right, 1))),
+        (sides, JoinType::Inner, "a_right", None),
+        (sides, JoinType::Right, "a", Some((Side::Right, 0))),
+        (twice, JoinType::Inner, "b_right", Some((Side::Right, 0))),
+    ] {
+        assert!(rt; origin(rt.alloc(), right, how, name)? == wanted, "{name}");
+    }
     Ok(())
 }
 
-// The columns that an inner join of two sides with the columns a, b and c puts out, with a as the key of both.
+/// The columns that an inner join of two sides with the columns a, b and c puts out, with a as the key of both.
 fn joined(alloc: Global) -> Result<Schema, PolarsError> {
-    let ex = column(alloc, "a")?;
+    let ex = key(alloc)?;
     let keys = [ExprIR::new(Node(0), OutputName::None)];
-    let side = schema(alloc, &["a", "b", "c"])?;
+    let side = schema(alloc, &[A, B, C])?;
     join_schema(
         alloc,
         &side,
@@ -89,8 +96,7 @@ fn joined(alloc: Global) -> Result<Schema, PolarsError> {
 
 #[test]
 fn sides_are_put_out_in_order(rt: HostRuntime) -> Result<(), Fail> {
-    let alloc = rt.alloc();
-    let wanted = schema(alloc, &["a", "b", "c", "b_right", "c_right"])?;
-    assert!(rt; joined(alloc) == Ok(wanted));
+    let wanted = schema(rt.alloc(), &[A, B, C, B_RIGHT, C_RIGHT])?;
+    assert!(rt; joined(rt.alloc())? == wanted);
     Ok(())
 }

@@ -54,26 +54,26 @@ alike_equivalence cs = record { refl = alike_refl cs; symm = alike_symm cs; cong
 
 -- tests over numbers from one on
 
-any_cons : (a b : Bool) → (a || b) ≡ true → (a ≡ true) ⊎ (b ≡ true)
+pub any_cons : (a b : Bool) → (a || b) ≡ true → (a ≡ true) ⊎ (b ≡ true)
 any_cons true b e = inl refl
 any_cons false b e = inr e
 
-or_second : (a b : Bool) → b ≡ true → (a || b) ≡ true
+pub or_second : (a b : Bool) → b ≡ true → (a || b) ≡ true
 or_second true b e = refl
 or_second false b e = e
 
-or_first : (a b : Bool) → a ≡ true → (a || b) ≡ true
+pub or_first : (a b : Bool) → a ≡ true → (a || b) ≡ true
 or_first true b e = refl
 or_first false b e = cc
 
 -- a number that passes, where one does
-record Passes (p : ℕ → Bool) (a n : ℕ) : Type 0 where
-  number : ℕ
-  from : a ≤ number
-  below : number < a + n
-  passes : p number ≡ true
+pub record Passes (p : ℕ → Bool) (a n : ℕ) : Type 0 where
+  pub number : ℕ
+  pub from : a ≤ number
+  pub below : number < a + n
+  pub passes : p number ≡ true
 
-passing : (p : ℕ → Bool) (a n : ℕ) → list_any p (range_with_len a n) ≡ true → Passes p a n
+pub passing : (p : ℕ → Bool) (a n : ℕ) → list_any p (range_with_len a n) ≡ true → Passes p a n
 passing p a zero e = cc
 passing p a (suc n) e = elim (any_cons (p a) (list_any p (range_with_len (a + 1) n)) e) as (λ _. Passes p a (suc n)) [
   | inl f ↦ record { number = a; from = omega arith; below = omega arith; passes = f }
@@ -81,7 +81,7 @@ passing p a (suc n) e = elim (any_cons (p a) (list_any p (range_with_len (a + 1)
 ]
 
 -- a number from a first one on is that or comes after it
-first_or_later : (a i : ℕ) → a ≤ i → (a ≡ i) ⊎ (suc a ≤ i)
+pub first_or_later : (a i : ℕ) → a ≤ i → (a ≡ i) ⊎ (suc a ≤ i)
 first_or_later zero zero h = inl refl
 first_or_later zero (suc i) h = inr (omega arith)
 first_or_later (suc a) zero h = absurd (omega (arith, h))
@@ -90,7 +90,7 @@ first_or_later (suc a) (suc i) h = elim (first_or_later a i (omega (arith, h))) 
   | inr l ↦ inr (omega (arith, l))
 ]
 
-passed : (p : ℕ → Bool) (a n i : ℕ) → a ≤ i → i < a + n → p i ≡ true → list_any p (range_with_len a n) ≡ true
+pub passed : (p : ℕ → Bool) (a n i : ℕ) → a ≤ i → i < a + n → p i ≡ true → list_any p (range_with_len a n) ≡ true
 passed p a zero i from below e = absurd (omega (arith, from, below))
 passed p a (suc n) i from below e = elim (first_or_later a i from) as (λ _. (p a || list_any p (range_with_len (a + 1) n)) ≡ true) [
   | inl q ↦ or_first (p a) (list_any p (range_with_len (a + 1) n)) (ap p q ∙ e)
@@ -98,7 +98,7 @@ passed p a (suc n) i from below e = elim (first_or_later a i from) as (λ _. (p 
 ]
 
 -- none passes
-none_pass : (p : ℕ → Bool) (a n i : ℕ) → list_any p (range_with_len a n) ≡ false → a ≤ i → i < a + n → p i ≡ false
+pub none_pass : (p : ℕ → Bool) (a n i : ℕ) → list_any p (range_with_len a n) ≡ false → a ≤ i → i < a + n → p i ≡ false
 none_pass p a n i e from below = at (p i) refl
   where
     at : (b : Bool) → p i ≡ b → b ≡ false

@@ -155,15 +155,15 @@ sorted_ties cmp rows h = λ k d low high. less_then (cmp (slice_index_or rows (k
 -- rows in the order, where there is one
 
 module _ (cmp : ℕ → ℕ → Ordering) (o : IsTotalOrder cmp) where
-  abbrev inserted : ℕ → List ℕ → List ℕ
+  abbrev pub inserted : ℕ → List ℕ → List ℕ
   inserted x [] = x ∷ []
   inserted x (y ∷ ys) = cond (is_lt (cmp y x)) (y ∷ inserted x ys) (x ∷ y ∷ ys)
 
-  abbrev in_order : List ℕ → List ℕ
+  abbrev pub in_order : List ℕ → List ℕ
   in_order [] = []
   in_order (x ∷ xs) = inserted x (in_order xs)
 
-  abbrev Ascends : List ℕ → Type 0
+  abbrev pub Ascends : List ℕ → Type 0
   Ascends [] = Unit {0}
   Ascends (x ∷ []) = Unit {0}
   Ascends (x ∷ y ∷ ys) = (is_lt (cmp y x) ≡ false) × Ascends (y ∷ ys)
@@ -196,7 +196,7 @@ module _ (cmp : ℕ → ℕ → Ordering) (o : IsTotalOrder cmp) where
       at by true e = below ys h e (by (rest ys h))
       at by false e = (e, h)
 
-  in_order_ascends : (xs : List ℕ) → Ascends (in_order xs)
+  pub in_order_ascends : (xs : List ℕ) → Ascends (in_order xs)
   in_order_ascends [] = tt
   in_order_ascends (x ∷ xs) = inserted_ascends x (in_order xs) (in_order_ascends xs)
 
@@ -208,11 +208,11 @@ module _ (cmp : ℕ → ℕ → Ordering) (o : IsTotalOrder cmp) where
       at by true = IsPermutation-trans (x ∷ y ∷ ys) (y ∷ x ∷ ys) (y ∷ inserted x ys) (IsPermutation-middle (x ∷ []) y ys) (IsPermutation-cons y (x ∷ ys) (inserted x ys) by)
       at by false = IsPermutation-refl (x ∷ y ∷ ys)
 
-  in_order_permutes : (xs : List ℕ) → IsPermutation xs (in_order xs)
+  pub in_order_permutes : (xs : List ℕ) → IsPermutation xs (in_order xs)
   in_order_permutes [] = IsPermutation-refl []
   in_order_permutes (x ∷ xs) = IsPermutation-trans (x ∷ xs) (x ∷ in_order xs) (inserted x (in_order xs)) (IsPermutation-cons x xs (in_order xs) (in_order_permutes xs)) (inserted_permutes x (in_order xs))
 
-  ascends_sorted : (xs : List ℕ) → Ascends xs → IsSorted cmp xs
+  pub ascends_sorted : (xs : List ℕ) → Ascends xs → IsSorted cmp xs
   ascends_sorted [] h = λ k d low high. absurd (omega (arith, high))
   ascends_sorted (x ∷ []) h = λ k d low high. absurd (omega (arith, high))
   ascends_sorted (x ∷ y ∷ ys) h = go (ascends_sorted (y ∷ ys) h.1)

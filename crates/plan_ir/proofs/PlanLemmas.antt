@@ -1,8 +1,9 @@
 -- What stands at the number of a plan node, at those of its inputs, and over those of its expressions.
-use Rattle.std.proofs.Common.{◌≡◌, ℕ, zero, suc, ◌<◌, List, [], ◌∷◌, ◌++◌, refl, sym, ap, ◌∙◌, Some, append-nil, append_assoc, subst}
-use Rattle.std.specs.List.{slice_get}
+use Rattle.std.proofs.Common.{◌≡◌, ℕ, zero, suc, ◌<◌, List, [], ◌∷◌, ◌++◌, map, refl, sym, ap, ap₂, ◌∙◌, Some, append-nil, append_assoc, subst}
+use Rattle.std.specs.List.{flat_map, slice_get}
+use Rattle.std.proofs.lemmas.Grind.{flat_map-append}
 use Rattle.plan_core.specs.declared.arena.Node.{Node}
-use Rattle.plan_tree.specs.Rose.{rose, no_roses, more}
+use Rattle.plan_tree.specs.Rose.{rose, no_roses, more, items}
 use Rattle.plan_tree.specs.Stands.{Trees, StandsOnce}
 use Rattle.plan_tree.specs.Read.{trees_at}
 use Rattle.plan_tree.proofs.ReadLemmas.{trees_at-is}
@@ -82,3 +83,14 @@ module _ (lp : List IR) (ex : List AExpr) (n : Node) (p : IR) (h : IsPlan lp ex 
       let here : trees_at plan_shape lp (n ∷ []) ≡ more (rose n p o.kids) no_roses = trees_at-is plan_shape lp (n ∷ []) h.nodes h.stands.nodes ∙ o.is in
       let below : o.kids ≡ trees_at plan_shape lp (inputs_of p) = sym (trees_at-is plan_shape lp (inputs_of p) o.kids o.inputs) in
       ap (plans_of ex) (here ∙ ap (λ (t : Trees IR). more (rose n p t) no_roses) below)
+
+-- the expressions of the nodes of trees, node by node
+pub roots-items : (t : Trees IR) → flat_map roots_of (items t) ≡ roots_in t
+roots-items no_roses = refl
+roots-items (more (rose n p kids) rest) =
+    ap (λ (l : List Node). roots_of p ++ l) (flat_map-append roots_of (items kids) (items rest) ∙ ap₂ (λ (x y : List Node). x ++ y) (roots-items kids) (roots-items rest))
+
+-- one function after another
+pub map_twice : {A B C : Type 0} (f : B → C) (g : A → B) (xs : List A) → map (λ x. f (g x)) xs ≡ map f (map g xs)
+map_twice f g [] = refl
+map_twice f g (x ∷ xs) = ap (λ l. f (g x) ∷ l) (map_twice f g xs)

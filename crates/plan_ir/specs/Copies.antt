@@ -4,7 +4,6 @@ use Rattle.std.specs.List.{range_with_len}
 use Rattle.plan_core.specs.declared.arena.Node.{Node}
 use Rattle.plan_tree.specs.Rose.{labels}
 use Rattle.plan_tree.specs.Stands.{Trees, numbers}
-use Rattle.plan_ir.specs.declared.copy.Listed.{Listed}
 use Rattle.plan_ir.specs.declared.copy.PlanCopy.{PlanCopy}
 use Rattle.plan_expr.specs.declared.aexpr.AExpr.{AExpr}
 use Rattle.plan_ir.specs.declared.ir.IR.{IR}
@@ -20,11 +19,3 @@ pub record IsRenumbered (lp : List IR) (ex : List AExpr) (root : Node) (copy : P
   pub first : copy.root.0 ≡ 0
   pub nodes_in_order : numbers (labels nodes) ≡ range_with_len 0 (length copy.lp)
   pub exprs_in_order : numbers (labels exprs) ≡ range_with_len 0 (length copy.ex)
-
--- numbers listed in walk order: those of the nodes of a plan, and those of the expressions of its nodes
-pub record Lists (lp : List IR) (ex : List AExpr) (root : Node) (listed : Listed) : Type 0 where
-  pub nodes : Trees IR
-  pub exprs : Trees AExpr
-  pub stands : StandsPlan lp ex root nodes exprs
-  pub nodes_in_order : listed.nodes ≡ labels nodes
-  pub exprs_in_order : listed.exprs ≡ labels exprs

@@ -37,6 +37,12 @@ inputs_of (HConcat inputs schema options) = inputs
 inputs_of (Cache input id cache_hits) = input ∷ []
 inputs_of Invalid = []
 
+-- the first input of a node; none where it has none, or lists its inputs
+abbrev pub first_input : IR → Option Node
+first_input (Union inputs options) = None
+first_input (HConcat inputs schema options) = None
+first_input p = slice_get (inputs_of p) 0
+
 -- what only a kind of joins is told: its condition, if it has one
 abbrev pub condition_in : Option JoinTypeOptionsIR → Option ExprIR
 condition_in None = None

@@ -1,12 +1,13 @@
 //! The functions of whole frames.
 ghost use Rattle.std.specs.Prelude.{◌≡◌, IfOk};
 
+use crate::pairs::copy_both;
 use plan_core::{Items, PlSmallStr, TryClone};
 use plan_scan::{FileScan, ScanSources};
 use std::alloc::{AllocError, Global};
 
 /// Which columns an unpivot makes one of, and how what it gives is named.
-#[derive(Drop, PartialEq, Eq, Debug)]
+#[derive(Drop)]
 pub struct UnpivotArgsIR {
     /// The columns whose values come one after another, in order; where there are none, all columns outside `index`.
     pub on: Items<PlSmallStr>,
@@ -22,17 +23,19 @@ impl TryClone for UnpivotArgsIR {
     fn try_clone(&self, alloc: Global) -> Result<Self, AllocError>
         ensures { IfOk result (λ r. r ≡ self.now) }
     {
+        let (on, index) = copy_both(alloc, &self.on, &self.index)?;
+        let (variable_name, value_name) = copy_both(alloc, &self.variable_name, &self.value_name)?;
         Ok(UnpivotArgsIR {
-            on: self.on.try_clone(alloc)?,
-            index: self.index.try_clone(alloc)?,
-            variable_name: self.variable_name.try_clone(alloc)?,
-            value_name: self.value_name.try_clone(alloc)?,
+            on,
+            index,
+            variable_name,
+            value_name,
         })
     }
 }
 
 /// What a node makes of the whole frame of its input.
-#[derive(Drop, PartialEq, Eq, Debug)]
+#[derive(Drop)]
 pub enum FunctionIR {
     /// The columns under other names, all renamed at once. A name that no column has renames nothing.
     Rename {
@@ -80,11 +83,14 @@ impl TryClone for FunctionIR {
                 existing,
                 new,
                 swapping,
-            } => Ok(FunctionIR::Rename {
-                existing: existing.try_clone(alloc)?,
-                new: new.try_clone(alloc)?,
-                swapping: *swapping,
-            }),
+            } => {
+                let (existing, new) = copy_both(alloc, existing, new)?;
+                Ok(FunctionIR::Rename {
+                    existing,
+                    new,
+                    swapping: *swapping,
+                })
+            }
             FunctionIR::RowIndex { name, offset } => Ok(FunctionIR::RowIndex {
                 name: name.try_clone(alloc)?,
                 offset: *offset,
@@ -96,11 +102,14 @@ impl TryClone for FunctionIR {
                 sources,
                 scan_type,
                 alias,
-            } => Ok(FunctionIR::FastCount {
-                sources: sources.try_clone(alloc)?,
-                scan_type: *scan_type,
-                alias: alias.try_clone(alloc)?,
-            }),
+            } => {
+                let (sources, alias) = copy_both(alloc, sources, alias)?;
+                Ok(FunctionIR::FastCount {
+                    sources,
+                    scan_type: *scan_type,
+                    alias,
+                })
+            }
             FunctionIR::Explode { columns } => Ok(FunctionIR::Explode {
                 columns: columns.try_clone(alloc)?,
             }),

@@ -13,7 +13,7 @@ use plan_scan::{FileScan, HivePartitions, ScanSources};
 use std::alloc::{AllocError, Global};
 
 /// A node of a plan; it names its inputs and its expressions by their numbers.
-#[derive(Drop, PartialEq, Eq, Debug)]
+#[derive(Drop)]
 pub enum IR {
     /// The rows from a first one on, as many as there are up to `len`. An offset below zero counts from the end.
     Slice {
@@ -191,6 +191,17 @@ impl Default for IR {
 
     fn default() -> Self {
         IR::Invalid
+    }
+}
+
+impl IR {
+    ghost use Rattle.plan_ir.specs.Reads.{is_scan};
+
+    /// Whether the node is a scan, of files or of a frame that is handed in.
+    pub fn is_scan(&self) -> bool
+        ensures { result ≡ is_scan self.now }
+    {
+        matches!(self, IR::Scan { .. } | IR::DataFrameScan { .. })
     }
 }
 

@@ -1,5 +1,5 @@
 //! The nodes that a number of an arena reaches, one after another. Contracts see a walk as what is left of it.
-ghost use Rattle.std.specs.Prelude.{◌≡◌, [], ◌∷◌, List, map, nat_eq, IfOk};
+ghost use Rattle.std.specs.Prelude.{◌≡◌, [], ◌∷◌, List, map, nat_eq, IfOk, OnOk};
 ghost use Rattle.std.specs.Iterator.{YieldsFirstBy, item_count};
 ghost use Rattle.std.specs.List.{IsDistinct};
 ghost use Rattle.std.specs.Map.Iter.{deref_pair};
@@ -80,12 +80,29 @@ fn numbered<'a>(
     let mut nodes = Vec::new(alloc);
     let mut pending = Items::new(alloc);
     pending.push(root)?;
+    add_reached(lp, root, &mut pending, &mut nodes)?;
+    Ok(nodes)
+}
+
+/// Appends the nodes that a pending number reaches to none, each with its number: a node, and then its inputs from last to
+/// first.
+fn add_reached<'a>(
+    lp: &'a Arena<IR>,
+    root: Node,
+    pending: &mut Items<Node>,
+    nodes: &mut Vec<(Node, &'a IR)>,
+) -> Result<(), AllocError>
+    requires stands { (t : Trees Entry) × StandsOnce plan_shape lp.now (root ∷ []) t }
+    requires pending { pending.old ≡ root ∷ [] }
+    requires nodes { nodes.old.items ≡ [] }
+    ensures { OnOk result (map (λ q. (q.0, q.1.now)) nodes.new.items ≡ nodes_from lp.now root) }
+{
     while let Some(node) = pending.pop() {
         let entry = lp.get(node);
         nodes.push((node, entry))?;
-        entry.copy_inputs(&mut pending)?;
+        entry.copy_inputs(pending)?;
     }
-    Ok(nodes)
+    Ok(())
 }
 
 impl ArenaLpIter for Arena<IR> {

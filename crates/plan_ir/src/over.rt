@@ -1,6 +1,6 @@
 //! Nodes over other parts.
-ghost use Rattle.std.specs.Prelude.{◌≡◌, ◌≤◌, ◌∷◌, [], length, IfOk, IsTrue};
-ghost use Rattle.plan_ir.specs.Parts.{exprs_of, inputs_of, list_of, options_over, over_parts};
+ghost use Rattle.std.specs.Prelude.{◌≡◌, ◌≤◌, ◌∷◌, [], drop, length, slice_get, take, IfOk, IsTrue};
+ghost use Rattle.plan_ir.specs.Parts.{exprs_of, inputs_of, list_of, options_over, over_parts, told_over};
 ghost use Rattle.plan_ir.specs.Parts.{
   is_file_scan,
   is_frame_scan,
@@ -14,15 +14,17 @@ ghost use Rattle.plan_ir.specs.Parts.{
 };
 
 use crate::ir::IR;
+use crate::pairs::copy_both;
 use crate::split::split_at;
-use plan_core::{Items, Node, TryClone};
+use plan_core::{FileScanOptions, Items, Node, Schema, TryClone};
 use plan_expr::ExprIR;
 use plan_join::{JoinOptions, JoinTypeOptionsIR};
+use plan_scan::HivePartitions;
 use std::alloc::{AllocError, Global};
 
 impl IR {
     /// A copy with other expressions, over other inputs: as many of each as the node has. Its other fields are as they were.
-    pub(crate) fn over(
+    pub fn over(
         &self,
         alloc: Global,
         exprs: Items<ExprIR>,
@@ -128,15 +130,19 @@ impl IR {
                 output_schema,
                 scan_type,
                 file_options,
-            } => Ok(IR::Scan {
-                sources: sources.try_clone(alloc)?,
-                file_info: file_info.try_clone(alloc)?,
-                hive_parts: hive_parts.try_clone(alloc)?,
-                predicate,
-                output_schema: output_schema.try_clone(alloc)?,
-                scan_type: *scan_type,
-                file_options: file_options.try_clone(alloc)?,
-            }),
+            } => {
+                let (sources, file_info) = copy_both(alloc, sources, file_info)?;
+                let read = copy_read(alloc, hive_parts, output_schema, file_options)?;
+                Ok(IR::Scan {
+                    sources,
+                    file_info,
+                    hive_parts: read.hive_parts,
+                    predicate,
+                    output_schema: read.output_schema,
+                    scan_type: *scan_type,
+                    file_options: read.file_options,
+                })
+            }
             _ => unreachable!(),
         }
     }
@@ -151,11 +157,14 @@ impl IR {
                 df,
                 schema,
                 output_schema,
-            } => Ok(IR::DataFrameScan {
-                df: *df,
-                schema: schema.try_clone(alloc)?,
-                output_schema: output_schema.try_clone(alloc)?,
-            }),
+            } => {
+                let (schema, output_schema) = copy_both(alloc, schema, output_schema)?;
+                Ok(IR::DataFrameScan {
+                    df: *df,
+                    schema,
+                    output_schema,
+                })
+            }
             _ => unreachable!(),
         }
     }
@@ -283,21 +292,55 @@ impl IR {
                 options,
                 ..
             } => {
-                let (left_on, others) = split_at(alloc, exprs, left_on.len())?;
-                let (right_on, condition) = split_at(alloc, others, right_on.len())?;
                 let (input_left, input_right) = both(inputs);
+                let told = join_told(alloc, exprs, left_on.len(), right_on.len(), options)?;
+                let schema = schema.try_clone(alloc)?;
                 Ok(IR::Join {
                     input_left,
                     input_right,
-                    schema: schema.try_clone(alloc)?,
-                    left_on,
-                    right_on,
-                    options: options_over(alloc, options, at_most_one(condition))?,
+                    schema,
+                    left_on: told.left_on,
+                    right_on: told.right_on,
+                    options: told.options,
                 })
             }
             _ => unreachable!(),
         }
     }
+}
+
+/// The keys of a join, and what it is told.
+#[derive(Drop)]
+struct JoinTold {
+    left_on: Items<ExprIR>,
+    right_on: Items<ExprIR>,
+    options: JoinOptions,
+}
+
+/// What a join is told with the first so many expressions as its left keys, as many behind them as are said as its right
+/// keys, and the last one as its condition where it has one.
+fn join_told(
+    alloc: Global,
+    exprs: Items<ExprIR>,
+    left: usize,
+    right: usize,
+    options: &JoinOptions,
+) -> Result<JoinTold, AllocError>
+    requires left { left ≤ length exprs }
+    requires right { right ≤ length (drop left exprs) }
+    requires last { length (drop right (drop left exprs)) ≤ 1 }
+    ensures left_on { IfOk result (λ told. told.left_on ≡ take left exprs) }
+    ensures right_on { IfOk result (λ told. told.right_on ≡ take right (drop left exprs)) }
+    ensures options { IfOk result (λ told. told.options ≡ options_over options.now (slice_get (drop right (drop left exprs)) 0)) }
+{
+    let (left_on, others) = split_at(alloc, exprs, left)?;
+    let (right_on, last) = split_at(alloc, others, right)?;
+    let options = options_over(alloc, options, at_most_one(last))?;
+    Ok(JoinTold {
+        left_on,
+        right_on,
+        options,
+    })
 }
 
 /// What a join is told, with another condition where it has one.
@@ -308,17 +351,57 @@ fn options_over(
 ) -> Result<JoinOptions, AllocError>
     ensures { IfOk result (λ copy. copy ≡ options_over options.now condition) }
 {
-    let told = match (&options.options, condition) {
-        (Some(JoinTypeOptionsIR::Cross { .. }), Some(predicate)) => {
-            Some(JoinTypeOptionsIR::Cross { predicate })
-        }
-        (told, _) => told.try_clone(alloc)?,
-    };
+    let told = told_over(alloc, &options.options, condition)?;
+    let args = options.args.try_clone(alloc)?;
     Ok(JoinOptions {
         allow_parallel: options.allow_parallel,
         force_parallel: options.force_parallel,
-        args: options.args.try_clone(alloc)?,
+        args,
         options: told,
+    })
+}
+
+/// What only a kind of joins is told, with another condition where it has one.
+fn told_over(
+    alloc: Global,
+    told: &Option<JoinTypeOptionsIR>,
+    condition: Option<ExprIR>,
+) -> Result<Option<JoinTypeOptionsIR>, AllocError>
+    ensures { IfOk result (λ copy. copy ≡ told_over told.now condition) }
+{
+    match (told, condition) {
+        (Some(JoinTypeOptionsIR::Cross { .. }), Some(predicate)) => {
+            Ok(Some(JoinTypeOptionsIR::Cross { predicate }))
+        }
+        (told, _) => told.try_clone(alloc),
+    }
+}
+
+/// What a scan reads of its files, and puts out.
+#[derive(Drop)]
+struct Read {
+    hive_parts: Option<Items<HivePartitions>>,
+    output_schema: Option<Schema>,
+    file_options: FileScanOptions,
+}
+
+/// A copy of what a scan reads of its files, and puts out.
+fn copy_read(
+    alloc: Global,
+    hive_parts: &Option<Items<HivePartitions>>,
+    output_schema: &Option<Schema>,
+    file_options: &FileScanOptions,
+) -> Result<Read, AllocError>
+    ensures hive_parts { IfOk result (λ read. read.hive_parts ≡ hive_parts.now) }
+    ensures output_schema { IfOk result (λ read. read.output_schema ≡ output_schema.now) }
+    ensures file_options { IfOk result (λ read. read.file_options ≡ file_options.now) }
+{
+    let (hive_parts, output_schema) = copy_both(alloc, hive_parts, output_schema)?;
+    let file_options = file_options.try_clone(alloc)?;
+    Ok(Read {
+        hive_parts,
+        output_schema,
+        file_options,
     })
 }
 

@@ -1,6 +1,6 @@
 //! The parts of nodes: inputs and expressions.
 ghost use Rattle.std.specs.Prelude.{◌≡◌, ◌++◌, length, map, take, IfOk, OnOk, OnErr};
-ghost use Rattle.plan_ir.specs.Parts.{condition_of, exprs_of, exprs_over, inputs_of, list_of, listed_exprs_of, over_parts};
+ghost use Rattle.plan_ir.specs.Parts.{condition_of, exprs_of, exprs_over, first_input, inputs_of, list_of, listed_exprs_of, over_parts};
 
 use crate::ir::IR;
 use crate::split::keep_first;
@@ -45,6 +45,29 @@ impl IR {
         ensures front { OnErr result (take (length out.old) out.new ≡ out.old) }
     {
         match self {
+            IR::Join {
+                input_left,
+                input_right,
+                ..
+            } => {
+                out.push(*input_left)?;
+                out.push(*input_right)
+            }
+            IR::Union { inputs, .. } | IR::HConcat { inputs, .. } => {
+                append_nodes(inputs.as_slice(), out)
+            }
+            _ => match self.first_input() {
+                Some(input) => out.push(input),
+                None => Ok(()),
+            },
+        }
+    }
+
+    /// The number of the first input; None where the node has none, or lists its inputs.
+    fn first_input(&self) -> Option<Node>
+        ensures { result ≡ first_input self.now }
+    {
+        match self {
             IR::Slice { input, .. }
             | IR::Filter { input, .. }
             | IR::SimpleProjection { input, .. }
@@ -52,29 +75,19 @@ impl IR {
             | IR::HStack { input, .. }
             | IR::Sort { input, .. }
             | IR::GroupBy { input, .. }
+            | IR::Join {
+                input_left: input,
+                ..
+            }
             | IR::Distinct { input, .. }
             | IR::MapFunction { input, .. }
             | IR::Sink { input, .. }
-            | IR::Cache { input, .. } => {
-                out.push(*input)?;
-                Ok(())
-            }
-            IR::Join {
-                input_left,
-                input_right,
-                ..
-            } => {
-                out.push(*input_left)?;
-                out.push(*input_right)?;
-                Ok(())
-            }
-            IR::Union { inputs, .. } | IR::HConcat { inputs, .. } => {
-                for input in inputs.as_slice() {
-                    out.push(*input)?;
-                }
-                Ok(())
-            }
-            IR::Scan { .. } | IR::DataFrameScan { .. } | IR::Invalid => Ok(()),
+            | IR::Cache { input, .. } => Some(*input),
+            IR::Scan { .. }
+            | IR::DataFrameScan { .. }
+            | IR::Union { .. }
+            | IR::HConcat { .. }
+            | IR::Invalid => None,
         }
     }
 
@@ -97,23 +110,26 @@ impl IR {
         ensures { IfOk result (λ exprs. map (λ e. e.now) exprs ≡ listed_exprs_of self.now) }
     {
         let mut exprs = Items::new(alloc);
+        self.list_exprs(&mut exprs)?;
+        Ok(exprs)
+    }
+
+    /// Appends the expressions, in order, but for the condition of a join. Refuses for want of memory alone.
+    fn list_exprs<'a>(&'a self, exprs: &mut Items<&'a ExprIR>) -> Result<(), AllocError>
+        ensures { OnOk result (map (λ e. e.now) exprs.new ≡ map (λ e. e.now) exprs.old ++ listed_exprs_of self.now) }
+    {
         match self {
-            IR::Filter { predicate, .. } => {
-                exprs.push(predicate)?;
-            }
-            IR::Scan { predicate, .. } => {
-                if let Some(predicate) = predicate {
-                    exprs.push(predicate)?;
-                }
-            }
+            IR::Filter { predicate, .. } => exprs.push(predicate),
+            IR::Scan { predicate, .. } => match predicate {
+                Some(predicate) => exprs.push(predicate),
+                None => Ok(()),
+            },
             IR::Select { expr: list, .. }
             | IR::HStack { exprs: list, .. }
             | IR::Sort {
                 by_column: list,
                 ..
-            } => {
-                append(list.as_slice(), &mut exprs)?;
-            }
+            } => append(list.as_slice(), exprs),
             IR::GroupBy {
                 keys: first,
                 aggs: others,
@@ -124,8 +140,8 @@ impl IR {
                 right_on: others,
                 ..
             } => {
-                append(first.as_slice(), &mut exprs)?;
-                append(others.as_slice(), &mut exprs)?;
+                append(first.as_slice(), exprs)?;
+                append(others.as_slice(), exprs)
             }
             IR::Slice { .. }
             | IR::DataFrameScan { .. }
@@ -136,9 +152,8 @@ impl IR {
             | IR::Union { .. }
             | IR::HConcat { .. }
             | IR::Cache { .. }
-            | IR::Invalid => {}
+            | IR::Invalid => Ok(()),
         }
-        Ok(exprs)
     }
 
     /// Appends copies of the expressions, in order; the condition of a join isn't among them. Refuses for want of memory
@@ -163,10 +178,8 @@ impl IR {
         ensures appended { OnOk result (out.new ≡ out.old ++ listed_exprs_of self.now) }
         ensures front { OnErr result (take (length out.old) out.new ≡ out.old) }
     {
-        for expr in self.listed_exprs(alloc)?.as_slice() {
-            out.push(expr.try_clone(alloc)?)?;
-        }
-        Ok(())
+        let listed = self.listed_exprs(alloc)?;
+        append_copies(alloc, listed.as_slice(), out)
     }
 
     /// Copies of the expressions, in order; the condition of a join isn't among them. Refuses for want of memory alone.
@@ -192,34 +205,31 @@ impl IR {
         ensures { IfOk result (λ inputs. inputs ≡ inputs_of self.now) }
     {
         let mut inputs = UnitVec::new(alloc);
+        self.push_inputs(&mut inputs)?;
+        Ok(inputs)
+    }
+
+    /// Appends the numbers of the inputs, from first to last. Refuses for want of memory alone.
+    fn push_inputs(&self, out: &mut UnitVec<Node>) -> Result<(), AllocError>
+        ensures { OnOk result (out.new ≡ out.old ++ inputs_of self.now) }
+    {
         match self {
-            IR::Slice { input, .. }
-            | IR::Filter { input, .. }
-            | IR::SimpleProjection { input, .. }
-            | IR::Select { input, .. }
-            | IR::HStack { input, .. }
-            | IR::Sort { input, .. }
-            | IR::GroupBy { input, .. }
-            | IR::Distinct { input, .. }
-            | IR::MapFunction { input, .. }
-            | IR::Sink { input, .. }
-            | IR::Cache { input, .. } => inputs.push(*input)?,
             IR::Join {
                 input_left,
                 input_right,
                 ..
             } => {
-                inputs.push(*input_left)?;
-                inputs.push(*input_right)?;
+                out.push(*input_left)?;
+                out.push(*input_right)
             }
-            IR::Union { inputs: list, .. } | IR::HConcat { inputs: list, .. } => {
-                for input in list.as_slice() {
-                    inputs.push(*input)?;
-                }
+            IR::Union { inputs, .. } | IR::HConcat { inputs, .. } => {
+                push_nodes(inputs.as_slice(), out)
             }
-            IR::Scan { .. } | IR::DataFrameScan { .. } | IR::Invalid => {}
+            _ => match self.first_input() {
+                Some(input) => out.push(input),
+                None => Ok(()),
+            },
         }
-        Ok(inputs)
     }
 
     /// A copy with other expressions, over other inputs: as many of each as `get_exprs` and `get_inputs_vec` give, but that a
@@ -254,12 +264,44 @@ impl IR {
     }
 }
 
+/// Appends numbers, in order. Refuses for want of memory alone, and may then have appended some.
+fn append_nodes(list: &[Node], out: &mut Items<Node>) -> Result<(), AllocError>
+    ensures appended { OnOk result (out.new ≡ out.old ++ list.now) }
+    ensures front { OnErr result (take (length out.old) out.new ≡ out.old) }
+{
+    for input in list {
+        out.push(*input)?;
+    }
+    Ok(())
+}
+
+/// Appends numbers, in order. Refuses for want of memory alone.
+fn push_nodes(list: &[Node], out: &mut UnitVec<Node>) -> Result<(), AllocError>
+    ensures { OnOk result (out.new ≡ out.old ++ list.now) }
+{
+    for input in list {
+        out.push(*input)?;
+    }
+    Ok(())
+}
+
 /// Appends expressions, in order.
 fn append<'a>(list: &'a [ExprIR], exprs: &mut Items<&'a ExprIR>) -> Result<(), AllocError>
     ensures { OnOk result (map (λ e. e.now) exprs.new ≡ map (λ e. e.now) exprs.old ++ list.now) }
 {
     for expr in list {
         exprs.push(expr)?;
+    }
+    Ok(())
+}
+
+/// Appends copies of expressions, in order. Refuses for want of memory alone, and may then have appended some.
+fn append_copies(alloc: Global, list: &[&ExprIR], out: &mut Items<ExprIR>) -> Result<(), AllocError>
+    ensures appended { OnOk result (out.new ≡ out.old ++ map (λ e. e.now) list.now) }
+    ensures front { OnErr result (take (length out.old) out.new ≡ out.old) }
+{
+    for expr in list {
+        out.push(expr.try_clone(alloc)?)?;
     }
     Ok(())
 }

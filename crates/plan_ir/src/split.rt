@@ -1,5 +1,5 @@
 //! Lists cut in two.
-ghost use Rattle.std.specs.Prelude.{◌≡◌, ◌≤◌, drop, length, take, IfOk};
+ghost use Rattle.std.specs.Prelude.{◌≡◌, ◌≤◌, [], drop, length, reverse, take, IfOk, OnOk};
 
 use plan_core::Items;
 use std::alloc::{AllocError, Global};
@@ -15,16 +15,29 @@ pub(crate) fn split_at<T: Drop>(
 {
     let mut first = items;
     let mut last_first = Items::new(alloc);
-    while first.len() > count {
-        if let Some(item) = first.pop() {
-            last_first.push(item)?;
+    pop_into(&mut first, count, &mut last_first)?;
+    let mut rest = Items::new(alloc);
+    pop_into(&mut last_first, 0, &mut rest)?;
+    Ok((first, rest))
+}
+
+/// Takes items from the end, the last one first, until so many are left, into a list that has none.
+fn pop_into<T: Drop>(
+    from: &mut Items<T>,
+    count: usize,
+    out: &mut Items<T>,
+) -> Result<(), AllocError>
+    requires count { count ≤ length from.old }
+    requires none { out.old ≡ [] }
+    ensures left { OnOk result (from.new ≡ take count from.old) }
+    ensures taken { OnOk result (out.new ≡ reverse (drop count from.old)) }
+{
+    while from.len() > count {
+        if let Some(item) = from.pop() {
+            out.push(item)?;
         }
     }
-    let mut rest = Items::new(alloc);
-    while let Some(item) = last_first.pop() {
-        rest.push(item)?;
-    }
-    Ok((first, rest))
+    Ok(())
 }
 
 /// Drops the items behind the first so many.

@@ -3,7 +3,7 @@ ghost use Rattle.std.specs.Prelude.{◌≡◌, length, IfOk};
 ghost use Rattle.plan_ir.specs.Parts.{inputs_of, listed_exprs_of};
 
 use crate::made::{cross_join, join, scan};
-use crate::plans::{has_inputs, is_same, listed, walked};
+use crate::plans::{are_alike, has_inputs, listed, walked};
 use plan_core::{Arena, Items, Node};
 use plan_ir::IR;
 use std::alloc::{AllocError, Global};
@@ -50,23 +50,39 @@ fn lists_sides_and_keys(rt: HostRuntime) -> Result<(), Fail> {
     Ok(())
 }
 
-#[test]
-fn puts_a_join_back_over_others(rt: HostRuntime) -> Result<(), Fail> {
-    let alloc = rt.alloc();
+/// A join with the keys of another, over other sides.
+fn join_put_back(alloc: Global) -> Result<IR, AllocError> {
     let node = join(alloc, Node(2), Node(1), Node(4), Node(5))?;
     let others = join(alloc, Node(2), Node(1), Node(8), Node(9))?;
-    let copy = put_back(alloc, &node, &others, &[Node(6), Node(7)])?;
-    assert!(rt; is_same(&copy, &join(alloc, Node(6), Node(7), Node(8), Node(9))?));
+    put_back(alloc, &node, &others, &[Node(6), Node(7)])
+}
+
+#[test]
+fn puts_a_join_back_over_others(rt: HostRuntime) -> Result<(), Fail> {
+    let copy = join_put_back(rt.alloc())?;
+    let wanted = join(rt.alloc(), Node(6), Node(7), Node(8), Node(9))?;
+    assert!(rt; are_alike(rt.alloc(), copy, wanted)?);
     Ok(())
+}
+
+/// How many expressions a cross join under a condition lists.
+fn listed_of_a_cross_join(alloc: Global) -> Result<usize, AllocError> {
+    let node = cross_join(alloc, Node(2), Node(1), Node(4))?;
+    Ok(node.get_exprs(alloc)?.len())
+}
+
+/// That join over other sides.
+fn cross_join_put_back(alloc: Global) -> Result<IR, AllocError> {
+    let node = cross_join(alloc, Node(2), Node(1), Node(4))?;
+    put_back(alloc, &node, &node, &[Node(6), Node(7)])
 }
 
 #[test]
 fn a_condition_stays_where_it_is(rt: HostRuntime) -> Result<(), Fail> {
-    let alloc = rt.alloc();
-    let node = cross_join(alloc, Node(2), Node(1), Node(4))?;
-    assert_eq!(rt; node.get_exprs(alloc)?.len(), 0);
-    let copy = put_back(alloc, &node, &node, &[Node(6), Node(7)])?;
-    assert!(rt; is_same(&copy, &cross_join(alloc, Node(6), Node(7), Node(4))?));
+    assert_eq!(rt; listed_of_a_cross_join(rt.alloc())?, 0);
+    let copy = cross_join_put_back(rt.alloc())?;
+    let wanted = cross_join(rt.alloc(), Node(6), Node(7), Node(4))?;
+    assert!(rt; are_alike(rt.alloc(), copy, wanted)?);
     Ok(())
 }
 

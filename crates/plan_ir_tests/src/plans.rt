@@ -1,10 +1,12 @@
-//! Parts, copies and reads of a small plan: a projection to a over a filter b > 1 over a scan of a, b and c.
+//! Parts and copies of a small plan: a projection to a over a filter b > 1 over a scan of a, b and c.
 
-use crate::made::{filter, greater, named, projection, scan, texts, union};
+use crate::made::{filter, greater, named, projection, scan, union};
 use plan_check::check_tree;
+use plan_copy::renumbered;
 use plan_core::{Arena, Items, Node, PlSmallStr, PolarsError, TryClone};
 use plan_expr::{AExpr, ExprIR, LiteralValue};
-use plan_ir::{ArenaLpIter, IR, PlanCopy, into_renumbered, reads, renumbered, scan_reads};
+use plan_ir::{ArenaLpIter, IR, PlanCopy};
+use plan_text::write_plan;
 use plan_tree::{Entry, Step, walk};
 use std::alloc::{AllocError, Global};
 use std::test::Fail;
@@ -61,22 +63,22 @@ fn exprs_in_order(alloc: Global) -> Result<Arena<AExpr>, AllocError> {
     Ok(ex)
 }
 
-/// Whether two values are equal.
-pub fn is_same<T: PartialEq>(a: &T, b: &T) -> bool {
-    *a == *b
+/// The text of a node by itself.
+fn node_text(alloc: Global, node: IR) -> Result<String, AllocError> {
+    let mut lp = Arena::new(alloc);
+    lp.add(node)?;
+    let plan = PlanCopy {
+        root: Node(0),
+        lp,
+        ex: Arena::new(alloc),
+    };
+    write_plan(alloc, &plan)
 }
 
-/// Whether two arenas have equal entries at equal numbers, and as many.
-fn have_same<T: PartialEq>(a: &Arena<T>, b: &Arena<T>) -> bool {
-    if a.len() != b.len() {
-        return false;
-    }
-    for i in 0..a.len() {
-        if !is_same(a.get(Node(i)), b.get(Node(i))) {
-            return false;
-        }
-    }
-    true
+/// Whether two nodes are written alike.
+pub fn are_alike(alloc: Global, a: IR, b: IR) -> Result<bool, AllocError> {
+    let text = node_text(alloc, a)?;
+    Ok(text.as_str() == node_text(alloc, b)?.as_str())
 }
 
 /// The numbers of the nodes below a root, and its own, in the order of a walk, if trees stand there.
@@ -122,24 +124,15 @@ fn walks_over_the_last_input_first(rt: HostRuntime) -> Result<(), Fail> {
     Ok(())
 }
 
-/// The plan at a root, taken out of its arenas.
-fn taken(
-    alloc: Global,
-    root: Node,
-    lp: Arena<IR>,
-    ex: Arena<AExpr>,
-) -> Result<PlanCopy, PolarsError> {
-    check_tree(alloc, root, &lp, &ex)?;
-    Ok(into_renumbered(alloc, root, lp, ex)?)
-}
-
-/// Whether a plan is the small one alone, in walk order.
+/// Whether a plan is written as the small one alone, in walk order.
 fn is_in_order(alloc: Global, plan: &PlanCopy) -> Result<bool, AllocError> {
-    Ok(
-        plan.root == Node(0)
-            && have_same(&plan.lp, &nodes_in_order(alloc)?)
-            && have_same(&plan.ex, &exprs_in_order(alloc)?),
-    )
+    let wanted = PlanCopy {
+        root: Node(0),
+        lp: nodes_in_order(alloc)?,
+        ex: exprs_in_order(alloc)?,
+    };
+    let text = write_plan(alloc, plan)?;
+    Ok(text.as_str() == write_plan(alloc, &wanted)?.as_str())
 }
 
 #[test]
@@ -152,14 +145,6 @@ fn renumbers_in_walk_order(rt: HostRuntime) -> Result<(), Fail> {
         &exprs_at_four(alloc)?,
     )?;
     assert!(rt; is_in_order(alloc, &copy)?);
-    Ok(())
-}
-
-#[test]
-fn takes_a_plan_out_in_walk_order(rt: HostRuntime) -> Result<(), Fail> {
-    let alloc = rt.alloc();
-    let plan = taken(alloc, Node(5), nodes_at_five(alloc)?, exprs_at_four(alloc)?)?;
-    assert!(rt; is_in_order(alloc, &plan)?);
     Ok(())
 }
 
@@ -216,7 +201,7 @@ fn puts_a_node_back(rt: HostRuntime) -> Result<(), Fail> {
     let node = filter(alloc, Node(2), Node(4))?;
     let exprs = node.get_exprs(alloc)?;
     let copy = node.with_exprs_and_input(alloc, exprs, node.get_inputs_vec(alloc)?)?;
-    assert!(rt; is_same(&copy, &node));
+    assert!(rt; are_alike(alloc, copy, node)?);
     Ok(())
 }
 
@@ -259,44 +244,18 @@ fn copies_expressions_of_nodes(rt: HostRuntime) -> Result<(), Fail> {
     Ok(())
 }
 
-/// Whether the copy of a node is the same as the node.
-fn is_copied(alloc: Global, node: &IR) -> Result<bool, AllocError> {
-    Ok(is_same(&node.try_clone(alloc)?, node))
-}
-
 #[test]
 fn copies_nodes(rt: HostRuntime) -> Result<(), Fail> {
     let alloc = rt.alloc();
     let node = filter(alloc, Node(2), Node(4))?;
-    assert!(rt; is_copied(alloc, &node)?);
+    let copy = node.try_clone(alloc)?;
+    assert!(rt; are_alike(alloc, copy, node)?);
     Ok(())
 }
 
 #[test]
 fn puts_expressions_over_other_operands(rt: HostRuntime) -> Result<(), Fail> {
     let expr = greater(Node(1), Node(2)).with_operands(rt.alloc(), &[Node(8), Node(9)])?;
-    assert!(rt; is_same(&expr, &greater(Node(8), Node(9))));
-    Ok(())
-}
-
-#[test]
-fn lists_what_scans_read(rt: HostRuntime) -> Result<(), Fail> {
-    let alloc = rt.alloc();
-    let all = texts(alloc, &["a", "b", "c"])?;
-    let some = texts(alloc, &["c", "a"])?;
-    let mut plan = PlanCopy {
-        root: Node(1),
-        lp: Arena::new(alloc),
-        ex: Arena::new(alloc),
-    };
-    plan.lp.add(scan(alloc, None)?)?;
-    plan.lp.add(projection(alloc, Node(2))?)?;
-    plan.lp.add(scan(alloc, Some(some.try_clone(alloc)?))?)?;
-    let lists = scan_reads(alloc, &plan)?;
-    assert_eq!(rt; plan.lp.len(), 3);
-    let last = plan.lp.get(Node(2));
-    assert!(rt; last.is_scan());
-    assert!(rt; reads(alloc, last)? == some.try_clone(alloc)?);
-    assert_eq!(rt; lists.as_slice(), [all, some].as_slice());
+    assert!(rt; expr == greater(Node(8), Node(9)));
     Ok(())
 }

@@ -32,9 +32,8 @@ use Rattle.plan_pairs.specs.declared.pairs.RowPair.{RowPair}
 use Rattle.plan_pairs.specs.Orders.{ArePicked, own_order}
 use Rattle.plan_pairs.specs.Pairs.{Test, both}
 use Rattle.plan_pairs.specs.Rows.{flipped, AreMatches}
-use Rattle.plan_pairs.proofs.OrderLemmas.{own-asked}
 use Rattle.plan_pairs.proofs.PlaceLemmas.{passing-below}
-use Rattle.plan_join_eval.specs.Chosen.{own_told}
+use Rattle.plan_pair_orders.specs.OwnOrders.{own_told}
 use Rattle.plan_join_eval.specs.Compared.{option_test}
 
 -- keys that are equal are so the other way round
@@ -112,7 +111,3 @@ picked-joins ex o left_on right_on f g frame ps left right picked is =
       subst (λ (t : Test). ArePicked o.args.how (own_order o.args.maintain_order) t f.height g.height ps) (sym test) picked,
       is ∙ sym (ap₂ (λ (lk rk : List Name). joined o.args lk rk ps f g) (columns_at ex left_on left) (columns_at ex right_on right)),
     )
-
--- which is a frame that it may give
-pub own-joins : (told : Told) (left_on right_on : List Named) (f g frame : Frame) → Joins (own_told told) left_on right_on f g frame → Joins told left_on right_on f g frame
-own-joins told left_on right_on f g frame h = (h.0, record { pairs = h.1.pairs; in_order = own-asked told.args.maintain_order h.0 h.1.in_order }, h.2)

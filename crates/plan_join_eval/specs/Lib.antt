@@ -3,4 +3,3 @@ pub mod Equal
 pub mod Fills
 pub mod Along
 pub mod Compared
-pub mod Chosen

@@ -5,7 +5,7 @@ ghost use Rattle.plan_expr.specs.Exprs.{all_named_at};
 ghost use Rattle.plan_expr.specs.Operands.{IsExpr};
 ghost use Rattle.plan_join.specs.Naming.{join_columns, key_columns};
 ghost use Rattle.plan_join.specs.Told.{told_at};
-ghost use Rattle.plan_join_eval.specs.Chosen.{own_told};
+ghost use Rattle.plan_pair_orders.specs.OwnOrders.{own_told};
 ghost use Rattle.plan_join_eval.specs.Compared.{option_test, IsTold};
 ghost use Rattle.plan_joined.specs.Matching.{Joins};
 ghost use Rattle.plan_pairs.specs.Rows.{AreJoined};

@@ -53,12 +53,12 @@ keep_refl (o ∷ os) h = (h.0, (λ a i. i), keep_refl os h.1)
 pub keeps_refl : (p : Plan) → Keeps p p
 keeps_refl p = keep_refl (scans p) (are_scans p)
 
-same_trans : (o s r : Op) → SameScan o s → SameScan s r → SameScan o r
+pub same_trans : (o s r : Op) → SameScan o s → SameScan s r → SameScan o r
 same_trans (scan a b c d e f g) (scan a' b' c' d' e' f' g') (scan a'' b'' c'' d'' e'' f'' g'') h k = (h.0 ∙ k.0, h.1 ∙ k.1)
 same_trans (frame_scan a b c) (frame_scan a' b' c') (frame_scan a'' b'' c'') h k = h ∙ k
 same_trans o s r h k = absurd (first_of (search k, search h))
 
-keep_trans : (os ss rs : List Op) → KeepScans os ss → KeepScans ss rs → KeepScans os rs
+pub keep_trans : (os ss rs : List Op) → KeepScans os ss → KeepScans ss rs → KeepScans os rs
 keep_trans [] [] [] h k = tt
 keep_trans (o ∷ os) (s ∷ ss) (r ∷ rs) h k = (same_trans o s r h.0 k.0, (λ a i. k.1 a (h.1 a i)), keep_trans os ss rs h.2 k.2)
 keep_trans os ss rs h k = absurd (first_of (search k, search h))

@@ -7,7 +7,7 @@ use Rattle.plan_meaning.specs.Typing.{schema_by, schemas, checks, AllHold, AllVa
 use Rattle.plan_frame.specs.Frames.{Frame}
 use Rattle.plan_meaning.specs.Contents.{Contents, FitsAll}
 use Rattle.plan_meaning.specs.Steps.{MayAll, May, IsValid}
-use Rattle.plan_meaning.specs.Relating.{Refines, Relates, Replaced, ReplacedAll}
+use Rattle.plan_meaning.specs.Relating.{Refines, EachRefines, Relates, Replaced, ReplacedAll}
 use Rattle.plan_meaning.proofs.Runs.{valid_runs}
 
 pub refines_refl : (p : Plan) → IsValid p → Refines p p
@@ -28,31 +28,25 @@ refines_trans r q p a b = record {
   may = λ c f h m. b.may c f h (a.may c f (b.fits c h) m);
 }
 
--- plans refine others, one for one
-abbrev pub AllRefine : Roses (Unit {0}) Op → Roses (Unit {0}) Op → Type 0
-AllRefine no_roses no_roses = Unit {0}
-AllRefine (more q qs) (more p ps) = Refines q p × AllRefine qs ps
-AllRefine _ _ = ⊥
-
-schemas_same : (qs ps : Roses (Unit {0}) Op) → AllRefine qs ps → schemas qs ≡ schemas ps
+schemas_same : (qs ps : Roses (Unit {0}) Op) → EachRefines qs ps → schemas qs ≡ schemas ps
 schemas_same no_roses no_roses h = refl
 schemas_same (more (rose m o us) qs) (more (rose n op ts) ps) h = ap₂ (λ (s : Columns) (ss : List Columns). s ∷ ss) h.0.schema (schemas_same qs ps h.1)
 schemas_same no_roses (more p ps) h = absurd h
 schemas_same (more q qs) no_roses h = absurd h
 
-valid_all : (qs ps : Roses (Unit {0}) Op) → AllRefine qs ps → AllValid qs
+valid_all : (qs ps : Roses (Unit {0}) Op) → EachRefines qs ps → AllValid qs
 valid_all no_roses no_roses h = tt
 valid_all (more (rose m o us) qs) (more (rose n op ts) ps) h = let v = h.0.valid in (v.0, v.1, valid_all qs ps h.1)
 valid_all no_roses (more p ps) h = absurd h
 valid_all (more (rose m o us) qs) no_roses h = absurd h
 
-fits_all : (c : Contents) (qs ps : Roses (Unit {0}) Op) → AllRefine qs ps → FitsAll c ps → FitsAll c qs
+fits_all : (c : Contents) (qs ps : Roses (Unit {0}) Op) → EachRefines qs ps → FitsAll c ps → FitsAll c qs
 fits_all c no_roses no_roses h k = tt
 fits_all c (more (rose m o us) qs) (more (rose n op ts) ps) h k = let a = h.0.fits c (k.0, k.1) in (a.0, a.1, fits_all c qs ps h.1 k.2)
 fits_all c no_roses (more p ps) h k = absurd h
 fits_all c (more (rose m o us) qs) no_roses h k = absurd h
 
-may_all : (c : Contents) (qs ps : Roses (Unit {0}) Op) (fs : List Frame) → AllRefine qs ps → FitsAll c ps → MayAll c qs fs → MayAll c ps fs
+may_all : (c : Contents) (qs ps : Roses (Unit {0}) Op) (fs : List Frame) → EachRefines qs ps → FitsAll c ps → MayAll c qs fs → MayAll c ps fs
 may_all c no_roses no_roses [] h k m = tt
 may_all c no_roses no_roses (f ∷ fs) h k m = absurd m
 may_all c (more (rose m o us) qs) (more (rose n op ts) ps) [] h k r = absurd r
@@ -61,7 +55,7 @@ may_all c no_roses (more p ps) fs h k m = absurd h
 may_all c (more (rose m o us) qs) no_roses fs h k r = absurd h
 
 -- a node over inputs that refine others refines it over those
-pub refines_node : (op : Op) (qs ps : Roses (Unit {0}) Op) → IsValid (rose tt op ps) → AllRefine qs ps → Refines (rose tt op qs) (rose tt op ps)
+pub refines_node : (op : Op) (qs ps : Roses (Unit {0}) Op) → IsValid (rose tt op ps) → EachRefines qs ps → Refines (rose tt op qs) (rose tt op ps)
 refines_node op qs ps v h =
     let e = schemas_same qs ps h in
     let vq : IsValid (rose tt op qs) = (subst (λ (ss : List Columns). AllHold (checks op ss)) (sym e) v.0, valid_all qs ps h) in
@@ -74,7 +68,7 @@ refines_node op qs ps v h =
     }
 
 -- plans with one of them in the place of one that it refines
-pub replaced_refine : (q p : Plan) → Refines q p → (us ts : Roses (Unit {0}) Op) → AllValid ts → ReplacedAll q p us ts → AllRefine us ts
+pub replaced_refine : (q p : Plan) → Refines q p → (us ts : Roses (Unit {0}) Op) → AllValid ts → ReplacedAll q p us ts → EachRefines us ts
 replaced_refine q p h no_roses no_roses v r = tt
 replaced_refine q p h no_roses (more t ts) v r = absurd r
 replaced_refine q p h (more u us) no_roses v r = absurd r
@@ -83,10 +77,10 @@ replaced_refine q p h (more (rose m o us) others) (more (rose n op ts) rest) v r
   replaced_refine q p h others rest v.2 r.1,
 )
   where
-    under : o ≡ op → AllRefine us ts → Refines (rose tt o us) (rose tt op ts)
+    under : o ≡ op → EachRefines us ts → Refines (rose tt o us) (rose tt op ts)
     under e below = subst (λ (x : Op). Refines (rose tt x us) (rose tt op ts)) (sym e) (refines_node op us ts (v.0, v.1) below)
 
-    here : ((rose m o us ≡ q) × (rose n op ts ≡ p)) ⊎ ((o ≡ op) × ReplacedAll q p us ts) → (ReplacedAll q p us ts → AllRefine us ts) → Refines (rose m o us) (rose n op ts)
+    here : ((rose m o us ≡ q) × (rose n op ts ≡ p)) ⊎ ((o ≡ op) × ReplacedAll q p us ts) → (ReplacedAll q p us ts → EachRefines us ts) → Refines (rose m o us) (rose n op ts)
     here (inl e) below = subst (λ (x : Plan). Refines x (rose n op ts)) (sym e.0) (subst (λ (x : Plan). Refines q x) (sym e.1) h)
     here (inr e) below = under e.0 (below e.1)
 

@@ -19,6 +19,12 @@ pub record Refines (q p : Plan) : Type 0 where
   pub run : (c : Contents) → Fits c p → (f : Frame) × May c q f
   pub may : (c : Contents) (f : Frame) → Fits c p → May c q f → May c p f
 
+-- plans refine others, one for one
+abbrev pub EachRefines : Roses (Unit {0}) Op → Roses (Unit {0}) Op → Type 0
+EachRefines no_roses no_roses = Unit {0}
+EachRefines (more q qs) (more p ps) = Refines q p × EachRefines qs ps
+EachRefines _ _ = ⊥
+
 -- as refinement, up to a relation of columns and one of frames
 pub record Relates (S : Columns → Columns → Type 0) (F : Frame → Frame → Type 0) (r p : Plan) : Type 0 where
   pub valid : IsValid r

@@ -56,7 +56,7 @@ asks_op asked op ss os = refl
 
 -- What plans say without their marks
 
-stored_same : (ts : Plans) → stored_all (unmarked_all ts) ≡ stored_all ts
+pub stored_same : (ts : Plans) → stored_all (unmarked_all ts) ≡ stored_all ts
 stored_same no_roses = refl
 stored_same (more (rose n op ts) rest) = ap₂ (λ (c : Columns) (cs : List Columns). c ∷ cs) (ap (stored_by (unmarked_op op)) (stored_same ts) ∙ stored_op op (stored_all ts)) (stored_same rest)
 
@@ -77,14 +77,14 @@ asks_same asked op ts =
 
 -- Plans with others after them, and with projections on top
 
-one_before : (p : Plan) (rest : Plans) → unmarked_all (more p rest) ≡ more (unmarked p) (unmarked_all rest)
+pub one_before : (p : Plan) (rest : Plans) → unmarked_all (more p rest) ≡ more (unmarked p) (unmarked_all rest)
 one_before (rose n op ts) rest = refl
 
-first_same : (ts : Plans) → one_plan (unmarked_all ts) ≡ unmarked (one_plan ts)
+pub first_same : (ts : Plans) → one_plan (unmarked_all ts) ≡ unmarked (one_plan ts)
 first_same no_roses = refl
 first_same (more (rose n op ts) rest) = refl
 
-covered_same : (asked : List Name) (p : Plan) → covered asked (unmarked p) ≡ unmarked (covered asked p)
+pub covered_same : (asked : List Name) (p : Plan) → covered asked (unmarked p) ≡ unmarked (covered asked p)
 covered_same asked (rose n op ts) =
     ap (λ (s : Columns). projected_to (asked_columns asked s) (rose n (unmarked_op op) (unmarked_all ts))) (ap (stored_by (unmarked_op op)) (stored_same ts) ∙ stored_op op (stored_all ts))
     ∙ at (asked_columns asked (stored_by op (stored_all ts)))
@@ -179,7 +179,7 @@ below_same true ts others = refl
 below_same false ts others = refl
 
 mutual
-  pruned_same : (top : Bool) (asked : List Name) (p : Plan) → pruned top asked (unmarked p) ≡ unmarked (pruned top asked p)
+  pub pruned_same : (top : Bool) (asked : List Name) (p : Plan) → pruned top asked (unmarked p) ≡ unmarked (pruned top asked p)
   pruned_same top asked (rose n op ts) =
       let others : Plans = pruned_all (top_below top op) (asks_plans asked op ts) ts in
       let made : pruned_all (top_below top (unmarked_op op)) (asks_plans asked (unmarked_op op) (unmarked_all ts)) (unmarked_all ts) ≡ unmarked_all others =

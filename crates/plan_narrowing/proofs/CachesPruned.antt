@@ -24,25 +24,25 @@ abbrev Plans : Type 0
 Plans = Roses (Unit {0}) Op
 
 -- each of these caches is one of those
-abbrev Among : List CacheOf → List CacheOf → Type 0
+abbrev pub Among : List CacheOf → List CacheOf → Type 0
 Among cs ds = (c : CacheOf) → IsCacheOf c cs → IsCacheOf c ds
 
-first_of : (cs ds : List CacheOf) → Among cs (cs ++ ds)
+pub first_of : (cs ds : List CacheOf) → Among cs (cs ++ ds)
 first_of (d ∷ cs) ds c (inl e) = inl e
 first_of (d ∷ cs) ds c (inr a) = inr (first_of cs ds c a)
 first_of [] ds c a = absurd a
 
-rest_of : (cs ds : List CacheOf) → Among ds (cs ++ ds)
+pub rest_of : (cs ds : List CacheOf) → Among ds (cs ++ ds)
 rest_of [] ds c a = a
 rest_of (d ∷ cs) ds c a = inr (rest_of cs ds c a)
 
-both_of : (cs ds es fs : List CacheOf) → Among cs es → Among ds fs → Among (cs ++ ds) (es ++ fs)
+pub both_of : (cs ds es fs : List CacheOf) → Among cs es → Among ds fs → Among (cs ++ ds) (es ++ fs)
 both_of [] ds es fs h k c a = rest_of es fs c (k c a)
 both_of (d ∷ cs) ds es fs h k c (inl e) = first_of es fs c (h c (inl e))
 both_of (d ∷ cs) ds es fs h k c (inr a) = both_of cs ds es fs (λ x b. h x (inr b)) k c a
 
 -- what stands alone below a node
-alone : (cs : List CacheOf) → Among (cs ++ []) cs
+pub alone : (cs : List CacheOf) → Among (cs ++ []) cs
 alone cs c a = subst (λ (ds : List CacheOf). IsCacheOf c ds) (append-nil cs) a
 
 -- A plan with something on top has its caches
@@ -51,7 +51,7 @@ one_caches : (ts : Plans) → Among (caches (one_plan ts)) (caches_in ts)
 one_caches no_roses c a = a
 one_caches (more p rest) c a = first_of (caches p) (caches_in rest) c a
 
-covered_caches : (asked : List Name) (p : Plan) → Among (caches (covered asked p)) (caches p)
+pub covered_caches : (asked : List Name) (p : Plan) → Among (caches (covered asked p)) (caches p)
 covered_caches asked p = at (asked_columns asked (first_schema (stored_all (more p no_roses))))
   where
     at : (o : Option Columns) → Among (caches (projected_to o p)) (caches p)

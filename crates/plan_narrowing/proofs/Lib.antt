@@ -1,33 +1,33 @@
 -- The lemmas of this crate.
 pub mod ListSteps
-mod NameSteps
-mod AddedNames
-mod NarrowLemmas
-mod AskedNames
-mod ProjectionNarrows
-mod TypedNames
-mod ScanNarrows
-mod MadeNarrows
-mod OrderNarrows
-mod FunctionParts
-mod IndexNarrows
-mod RenameNarrows
-mod UnpivotNarrows
-mod ExplodeNarrows
-mod FunctionNarrows
-mod SelectNarrows
-mod StackNarrows
-mod GroupNarrows
-mod FrameNarrows
-mod CoverNarrows
+pub mod NameSteps
+pub mod AddedNames
+pub mod NarrowLemmas
+pub mod AskedNames
+pub mod ProjectionNarrows
+pub mod TypedNames
+pub mod ScanNarrows
+pub mod MadeNarrows
+pub mod OrderNarrows
+pub mod FunctionParts
+pub mod IndexNarrows
+pub mod RenameNarrows
+pub mod UnpivotNarrows
+pub mod ExplodeNarrows
+pub mod FunctionNarrows
+pub mod SelectNarrows
+pub mod StackNarrows
+pub mod GroupNarrows
+pub mod FrameNarrows
+pub mod CoverNarrows
 pub mod UnionNarrows
-mod BesideNarrows
-mod CachedLemmas
+pub mod BesideNarrows
+pub mod CachedLemmas
 pub mod PrunedNarrows
 pub mod PrunedReads
 pub mod PrunedWork
-mod Example
-mod KeptExample
-mod FileExample
-mod AlikePruned
+pub mod Example
+pub mod KeptExample
+pub mod FileExample
+pub mod AlikePruned
 pub mod CachesPruned

@@ -37,17 +37,17 @@ typed_asked s (b ∷ wanted) a i = at (type_of s b) (λ j. typed_asked s wanted 
     at (Some t) r i = ⊎_elim (λ (q : a ≡ b). subst (λ (x : Name). has (b ∷ wanted) x ≡ true) (sym q) (has_first b wanted)) (λ (q : has (names_of (typed_names s wanted)) a ≡ true). has_later b wanted a (r q)) (has_cons b (names_of (typed_names s wanted)) a i)
 
 -- at most one plan
-abbrev AtMostOne : Roses (Unit {0}) Op → Type 0
+abbrev pub AtMostOne : Roses (Unit {0}) Op → Type 0
 AtMostOne no_roses = Unit {0}
 AtMostOne (more p no_roses) = Unit {0}
 AtMostOne (more p (more q rest)) = ⊥
 
 -- an addition has at most one input
-abbrev FewFor : Op → Roses (Unit {0}) Op → Type 0
+abbrev pub FewFor : Op → Roses (Unit {0}) Op → Type 0
 FewFor (hstack es schema options) rs = AtMostOne rs
 FewFor op rs = Unit {0}
 
-few_for : (top : Bool) (lists : List (List Name)) (op : Op) (ts : Roses (Unit {0}) Op) → AllHold (checks op (schemas ts)) → FewFor op (pruned_all top lists ts)
+pub few_for : (top : Bool) (lists : List (List Name)) (op : Op) (ts : Roses (Unit {0}) Op) → AllHold (checks op (schemas ts)) → FewFor op (pruned_all top lists ts)
 few_for top lists (hstack es schema options) no_roses good = tt
 few_for top lists (hstack es schema options) (more p no_roses) good = tt
 few_for top lists (hstack es schema options) (more (rose n o us) (more (rose m q vs) rest)) good = cc
@@ -78,7 +78,7 @@ stacked_reads [] schema options rs zs few h = subst (λ (os : List Op). ReadWith
 stacked_reads (e ∷ es) schema options rs zs few h = h
 
 -- a projection on top reads nothing
-covered_scans : (l : List Name) (p : Plan) → scans (covered l p) ≡ scans p
+pub covered_scans : (l : List Name) (p : Plan) → scans (covered l p) ≡ scans p
 covered_scans [] p = refl
 covered_scans (a ∷ l) p = append-nil (scans p)
 

@@ -1,10 +1,3 @@
 -- The lemmas of this crate.
-pub mod EntryLemmas
-pub mod FaultLemmas
-pub mod PartLemmas
-pub mod ValueLemmas
 pub mod NameLemmas
-pub mod PartitionLemmas
-pub mod HiveLemmas
-pub mod ColumnLemmas
 pub mod StatLemmas

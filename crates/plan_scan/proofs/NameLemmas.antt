@@ -4,25 +4,16 @@ use Rattle.std.specs.List.{slice_get}
 use Rattle.std.specs.Str.{bytes_eq}
 use Rattle.std.proofs.lemmas.Slice.Eq.{bytes_eq-Decides}
 use Rattle.plan_core.specs.Names.{has, with_name, with_names}
-use Rattle.plan_scan.specs.Parts.{Text, HivePart, part_names}
+
+-- the bytes of a name
+abbrev Text : Type 0
+Text = List ℕ
 
 -- one name more
 pub names-next : (done names : List Text) (i : ℕ) (a : Text) → slice_get names i ≡ Some a → with_name (with_names done (take i names)) a ≡ with_names done (take (suc i) names)
 names-next done [] i a e = cc
 names-next done (b ∷ names) zero a e = let same : b ≡ a = cc in ap (with_name done) (sym same)
 names-next done (b ∷ names) (suc i) a e = names-next (with_name done b) names i a e
-
--- the names of the first columns
-pub names-take : (parts : List HivePart) (i : ℕ) → part_names (take i parts) ≡ take i (part_names parts)
-names-take [] zero = refl
-names-take [] (suc i) = refl
-names-take (p ∷ parts) zero = refl
-names-take (p ∷ parts) (suc i) = ap (λ (x : List Text). p.0 ∷ x) (names-take parts i)
-
-pub name-at : (parts : List HivePart) (i : ℕ) (p : HivePart) → slice_get parts i ≡ Some p → slice_get (part_names parts) i ≡ Some p.0
-name-at [] i p e = cc
-name-at (q ∷ parts) zero p e = let same : q ≡ p = cc in ap (λ (x : HivePart). Some x.0) same
-name-at (q ∷ parts) (suc i) p e = name-at parts i p e
 
 or_assoc : (x y z : Bool) → ((x || y) || z) ≡ (x || (y || z))
 or_assoc true y z = refl

@@ -10,13 +10,21 @@ use Rattle.std.specs.Str.{bytes_eq}
 use Rattle.plan_core.specs.Columns.{Columns, HasDistinctNames, names_of, with_type}
 use Rattle.plan_core.specs.Names.{has, with_names}
 use Rattle.plan_core.proofs.CopyLemmas.{with_type-copied}
-use Rattle.plan_scan.proofs.ColumnLemmas.{drop-at}
 use Rattle.plan_scan.proofs.NameLemmas.{has-once}
 use Rattle.plan_core.specs.declared.data_type.DataType.{DataType}
 use Rattle.plan_table.specs.declared.value.AnyValue.{AnyValue}
 use Rattle.plan_scan.specs.declared.stats.ColumnStats.{ColumnStats}
-use Rattle.plan_scan.specs.Parts.{Text}
 use Rattle.plan_scan.specs.Stats.{Stats, stat, column_of, columns_of, with_values, Fits, HasType, AreOf, stats_at, named_among, places_among}
+
+-- the bytes of a name
+abbrev Text : Type 0
+Text = List ℕ
+
+-- the items from a place on begin with the item at the place
+pub drop-at : {X : Type 0} (xs : List X) (i : ℕ) (x : X) → slice_get xs i ≡ Some x → drop i xs ≡ x ∷ drop (suc i) xs
+drop-at [] i x h = cc
+drop-at (y ∷ ys) zero x h = let same : y ≡ x = cc in ap (λ z. z ∷ ys) same
+drop-at (y ∷ ys) (suc i) x h = drop-at ys i x h
 
 -- values that fit columns, one for one
 pub fitting : (cs : Columns) (vs : List AnyValue) → Fits cs vs → AreOf cs (with_values cs vs)
@@ -67,8 +75,8 @@ place-more ss (j ∷ places) zero i s e f = let same : j ≡ i = cc in rw (same,
 place-more ss (j ∷ places) (suc k) i s e f = append_assoc (option_to_list (slice_get ss j)) (stats_at ss (take k places)) (s ∷ []) ∙ ap (λ (x : Stats). option_to_list (slice_get ss j) ++ x) (place-more ss places k i s e f)
 
 -- a column is put behind those that are there, with its value
-pub new-next : (cs : Columns) (vs : List AnyValue) (i : ℕ) (done : Stats) (name n : Text) (dtype : DataType) (v u : AnyValue) → done ≡ take i (with_values cs vs) → slice_get cs i ≡ Some (name, dtype) → slice_get vs i ≡ Some v → n ≡ name → u ≡ v → done ++ record { field = record { name = n; dtype = dtype }; value = u } ∷ [] ≡ take (i + 1) (with_values cs vs)
-new-next cs vs i done name n dtype v u is e f p q = rw (is, p, q, add-one) (one-more cs vs i (name, dtype) v e f)
+pub new-next : (cs : Columns) (vs : List AnyValue) (i : ℕ) (done : Stats) (c : Text × DataType) (v : AnyValue) (s : ColumnStats) → done ≡ take i (with_values cs vs) → slice_get cs i ≡ Some c → slice_get vs i ≡ Some v → s ≡ stat c v → done ++ s ∷ [] ≡ take (i + 1) (with_values cs vs)
+new-next cs vs i done c v s is e f p = rw (is, p, add-one) (one-more cs vs i c v e f)
 
 pub new-all : (cs : Columns) (vs : List AnyValue) (i : ℕ) (done : Stats) → Fits cs vs → done ≡ take i (with_values cs vs) → length vs ≤ i → done ≡ with_values cs vs
 new-all cs vs i done fits is h = is ∙ take_all i (with_values cs vs) (omega (arith, length-with_values cs vs fits))
@@ -170,9 +178,9 @@ places-once names i (c ∷ cs) =
     ap (λ (t : Bool). if t then i ∷ places_among (with_names [] names) (suc i) cs else places_among (with_names [] names) (suc i) cs) (has-once names c.0)
     ∙ ap (λ (ps : List ℕ). if has names c.0 then i ∷ ps else ps) (places-once names (suc i) cs)
 
--- nothing is left
-pub among-all : (wanted names : List Text) (cs : Columns) (i : ℕ) (done : Columns) → wanted ≡ with_names [] names → length cs ≤ i → done ++ named_among wanted (drop i cs) ≡ named_among wanted cs → done ≡ named_among names cs
-among-all wanted names cs i done e h all = sym (append-nil done) ∙ ap (λ (x : Columns). done ++ named_among wanted x) (sym (drop_all i cs h)) ∙ all ∙ ap (λ (w : List Text). named_among w cs) e ∙ among-once names cs
+-- all are there
+pub among-done : (names : List Text) (cs : Columns) (i : ℕ) (done : Columns) → length cs ≤ i → done ++ named_among names (drop i cs) ≡ named_among names cs → done ≡ named_among names cs
+among-done names cs i done h all = sym (append-nil done) ∙ ap (λ (x : Columns). done ++ named_among names x) (sym (drop_all i cs h)) ∙ all
 
-pub places-all : (wanted names : List Text) (cs : Columns) (i : ℕ) (done : List ℕ) → wanted ≡ with_names [] names → length cs ≤ i → done ++ places_among wanted i (drop i cs) ≡ places_among wanted 0 cs → done ≡ places_among names 0 cs
-places-all wanted names cs i done e h all = sym (append-nil done) ∙ ap (λ (x : Columns). done ++ places_among wanted i x) (sym (drop_all i cs h)) ∙ all ∙ ap (λ (w : List Text). places_among w 0 cs) e ∙ places-once names 0 cs
+pub places-done : (names : List Text) (cs : Columns) (i : ℕ) (done : List ℕ) → length cs ≤ i → done ++ places_among names i (drop i cs) ≡ places_among names 0 cs → done ≡ places_among names 0 cs
+places-done names cs i done h all = sym (append-nil done) ∙ ap (λ (x : Columns). done ++ places_among names i x) (sym (drop_all i cs h)) ∙ all

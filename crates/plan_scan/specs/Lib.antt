@@ -3,6 +3,3 @@ pub mod Source
 pub mod Walk
 pub mod Sources
 pub mod Stats
-pub mod Parts
-pub mod Values
-pub mod Hive

@@ -1,10 +1,11 @@
 //! The hive columns of one source.
-ghost use Rattle.std.specs.Prelude.{◌≡◌, ◌<◌, length, map, All, IfOk, OnOk, OnErr};
-ghost use Rattle.plan_scan.specs.Stats.{columns_of, named_among, one_row, places_among, stats_at, with_values, AreOf, Fits};
+ghost use Rattle.std.specs.Prelude.{◌≡◌, ◌<◌, [], ◌∷◌, length, map, All, IfOk, OnOk, OnErr};
+ghost use Rattle.plan_core.specs.Names.{with_names};
+ghost use Rattle.plan_scan.specs.Stats.{columns_of, named_among, one_row, places_among, stat, stats_at, with_values, AreOf, Fits};
 
 use crate::field::Field;
 use crate::stats::{BatchStats, ColumnStats};
-use plan_core::{Items, Names, PlSmallStr, Schema, TryClone};
+use plan_core::{DataType, Items, Names, PlSmallStr, Schema, TryClone};
 use plan_table::{AnyValue, Column};
 use std::alloc::{AllocError, Global};
 use std::marker::Model;
@@ -32,23 +33,13 @@ impl HivePartitions {
         requires { Fits schema values }
         ensures { IfOk result (λ h. h ≡ with_values schema values) }
     {
-        let mut column_stats = Items::new(alloc);
-        for (i, value) in values.as_slice().iter().enumerate() {
-            if let Some((name, dtype)) = schema.get_at_index(i) {
-                column_stats.push(ColumnStats {
-                    field: Field {
-                        name: PlSmallStr::new(alloc, name)?,
-                        dtype: *dtype,
-                    },
-                    value: value.try_clone(alloc)?,
-                })?;
-            }
-        }
+        let column_stats = stats_with(alloc, &schema, values.as_slice())?;
+        drop(values);
         Ok(HivePartitions::of(schema, column_stats))
     }
 
     /// The columns of a schema, each with its value.
-    pub(crate) fn of(schema: Schema, column_stats: Items<ColumnStats>) -> Self
+    pub fn of(schema: Schema, column_stats: Items<ColumnStats>) -> Self
         requires { AreOf schema column_stats }
         ensures { result ≡ column_stats }
     {
@@ -69,21 +60,12 @@ impl HivePartitions {
         ensures within { IfOk result (λ r. All (λ i. i < length self.now) r.1) }
         ensures agree { IfOk result (λ r. columns_of (stats_at self.now r.1) ≡ r.0) }
     {
-        let mut wanted = Names::new(alloc);
-        for name in names {
-            wanted.add(name.as_str())?;
-        }
+        let wanted = once(alloc, names)?;
         let mut schema = Schema::new(alloc);
         let mut places = Items::new(alloc);
         let columns = self.stats.schema();
-        for i in 0..columns.len() {
-            if let Some((name, dtype)) = columns.get_at_index(i) {
-                if wanted.contains(name) {
-                    schema.with_column(PlSmallStr::new(alloc, name)?, *dtype)?;
-                    places.push(i)?;
-                }
-            }
-        }
+        put_among(alloc, columns, &wanted, &mut schema, &mut places)?;
+        drop(wanted);
         Ok((schema, places))
     }
 
@@ -100,11 +82,7 @@ impl HivePartitions {
         ensures after { OnOk result (self.new ≡ stats_at self.old column_indices.now) }
         ensures unchanged { OnErr result (self.new ≡ self.old) }
     {
-        let stats = self.stats.column_stats();
-        let mut kept = Items::new(alloc);
-        for i in column_indices {
-            kept.push(stats[*i].try_clone(alloc)?)?;
-        }
+        let kept = copies_at(alloc, self.stats.column_stats(), column_indices)?;
         self.stats = BatchStats::new(new_schema, kept);
         Ok(())
     }
@@ -122,16 +100,116 @@ impl HivePartitions {
     {
         let mut columns = Items::new(alloc);
         for stat in self.stats.column_stats() {
-            let mut values = Items::new(alloc);
-            values.push(stat.value.try_clone(alloc)?)?;
-            columns.push(Column {
-                name: stat.field.name.try_clone(alloc)?,
-                dtype: stat.field.dtype,
-                values,
-            })?;
+            columns.push(row_of(alloc, stat)?)?;
         }
         Ok(columns)
     }
+}
+
+/// A column with a value.
+fn stat_of(
+    alloc: Global,
+    name: &str,
+    dtype: DataType,
+    value: &AnyValue,
+) -> Result<ColumnStats, AllocError>
+    ensures { IfOk result (λ s. s ≡ stat (name.now, dtype) value.now) }
+{
+    let name = PlSmallStr::new(alloc, name)?;
+    let field = Field { name, dtype };
+    let value = value.try_clone(alloc)?;
+    Ok(ColumnStats { field, value })
+}
+
+/// The columns of a schema with these values, one for each.
+fn stats_with(
+    alloc: Global,
+    schema: &Schema,
+    values: &[AnyValue],
+) -> Result<Items<ColumnStats>, AllocError>
+    requires { Fits schema.now values.now }
+    ensures { IfOk result (λ stats. stats ≡ with_values schema.now values.now) }
+{
+    let mut stats = Items::new(alloc);
+    for (i, value) in values.iter().enumerate() {
+        if let Some((name, dtype)) = schema.get_at_index(i) {
+            stats.push(stat_of(alloc, name, *dtype, value)?)?;
+        }
+    }
+    Ok(stats)
+}
+
+/// Copies of the columns at these places, in the order of the places.
+fn copies_at(
+    alloc: Global,
+    stats: &[ColumnStats],
+    places: &[usize],
+) -> Result<Items<ColumnStats>, AllocError>
+    requires { All (λ i. i < length stats.now) places.now }
+    ensures { IfOk result (λ kept. kept ≡ stats_at stats.now places.now) }
+{
+    let mut kept = Items::new(alloc);
+    for i in places {
+        kept.push(stats[*i].try_clone(alloc)?)?;
+    }
+    Ok(kept)
+}
+
+/// A list of one value.
+fn alone(alloc: Global, value: &AnyValue) -> Result<Items<AnyValue>, AllocError>
+    ensures { IfOk result (λ values. values ≡ value.now ∷ []) }
+{
+    let mut values = Items::new(alloc);
+    values.push(value.try_clone(alloc)?)?;
+    Ok(values)
+}
+
+/// A column as one of a single row.
+fn row_of(alloc: Global, stat: &ColumnStats) -> Result<Column, AllocError>
+    ensures { IfOk result (λ column. column ≡ one_row stat.now) }
+{
+    let name = stat.field.name.try_clone(alloc)?;
+    let values = alone(alloc, &stat.value)?;
+    Ok(Column {
+        name,
+        dtype: stat.field.dtype,
+        values,
+    })
+}
+
+/// The names, each once.
+fn once(alloc: Global, names: &[PlSmallStr]) -> Result<Names, AllocError>
+    ensures { IfOk result (λ kept. kept ≡ with_names [] names.now) }
+{
+    let mut kept = Names::new(alloc);
+    for name in names {
+        kept.add(name.as_str())?;
+    }
+    Ok(kept)
+}
+
+/// Puts the columns whose names are wanted into a schema that has none, in order, and their places into a list that has none.
+fn put_among(
+    alloc: Global,
+    columns: &Schema,
+    wanted: &Names,
+    schema: &mut Schema,
+    places: &mut Items<usize>,
+) -> Result<(), AllocError>
+    requires schema { schema.old ≡ [] }
+    requires places { places.old ≡ [] }
+    ensures schema { OnOk result (schema.new ≡ named_among wanted.now columns.now) }
+    ensures places { OnOk result (places.new ≡ places_among wanted.now 0 columns.now) }
+{
+    for i in 0..columns.len() {
+        if let Some((name, dtype)) = columns.get_at_index(i) {
+            if wanted.contains(name) {
+                schema.with_column(PlSmallStr::new(alloc, name)?, *dtype)?;
+                places.push(i)?;
+            }
+        }
+    }
+    Ok(())
 }
 
 impl TryClone for HivePartitions {

@@ -1,3 +1,3 @@
 -- The lemmas of this crate.
 pub mod StoredLemmas
-mod StoredNodes
+pub mod StoredNodes

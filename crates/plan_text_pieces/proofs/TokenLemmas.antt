@@ -15,3 +15,8 @@ member-done before keyed now k j ms e f =
     ap (λ (t : List Token). t ++ members_tokens ms) (f ∙ ap (λ (t : List Token). t ++ json_tokens j) e)
     ∙ append_assoc (before ++ tokens.key k ∷ []) (json_tokens j) (members_tokens ms)
     ∙ append_assoc before (tokens.key k ∷ []) (json_tokens j ++ members_tokens ms)
+
+-- a key with its value in one step, and then what is left of the object
+pub member-put : (before now : List Token) (k : List ℕ) (j : Json) (ms : Members) → now ≡ before ++ tokens.key k ∷ json_tokens j → now ++ members_tokens ms ≡ before ++ members_tokens (member k j ms)
+member-put before now k j ms e =
+    ap (λ (t : List Token). t ++ members_tokens ms) e ∙ append_assoc before (tokens.key k ∷ json_tokens j) (members_tokens ms)

@@ -7,6 +7,7 @@ ghost use Rattle.plan_text_pieces.specs.Cells.{single_data, value_data};
 ghost use Rattle.plan_text_pieces.specs.Values.{list_data};
 
 use crate::lists::each;
+use crate::passing::done;
 use json::Writer;
 use plan_table::{AnyValue, PlainValue};
 use serde_json::Value;
@@ -66,9 +67,9 @@ fn write_singles(writer: &mut Writer, values: &[PlainValue]) -> Result<(), Alloc
         ≡ writer.old.tokens ++ json_tokens (outline (list_data single_data values.now))) }
     ensures before { OnOk result (writer.new.before ≡ writer.old.before) }
 {
-    writer.begin_array()?;
+    done!(writer.begin_array());
     for value in values {
-        write_single(writer, value)?;
+        done!(write_single(writer, value));
     }
     writer.end_array()
 }

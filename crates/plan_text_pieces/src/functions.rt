@@ -1,5 +1,6 @@
 //! The objects of functions of whole frames, as JSON values and as text.
-ghost use Rattle.std.specs.Prelude.{◌≡◌, ◌++◌, IfOk, OnOk};
+ghost use Rattle.std.specs.Prelude.{◌≡◌, ◌∷◌, ◌++◌, IfOk, OnOk};
+ghost use Rattle.json.specs.Token.{key as key_token};
 ghost use Rattle.json.specs.Tree.{json_tokens};
 ghost use Rattle.serde_json.specs.Data.{string};
 ghost use Rattle.serde_json.specs.View.{view};
@@ -7,14 +8,16 @@ ghost use Rattle.serde_json.specs.Written.{outline};
 ghost use Rattle.plan_text_pieces.specs.Values.{nullable_data, number_data};
 ghost use Rattle.plan_text_pieces.specs.Functions.{count_data, explode_data, frame_function_data, frame_function_name, numbering_data, rename_data, told_data, unpivot_data};
 
+use crate::members::{only, put_names, put_optional_name, put_text};
+use crate::passing::done;
 use crate::scan_sources::{sources, write_sources};
 use crate::values::names;
-use crate::writing::write_names;
+use crate::writing::write_names_at;
 use json::Writer;
 use plan_core::PlSmallStr;
 use plan_ir::{FunctionIR, UnpivotArgsIR};
 use plan_scan::{FileScan, ScanSources};
-use serde_json::{Value, json};
+use serde_json::{Map, Value, put};
 use std::alloc::{AllocError, Global};
 
 /// The object of a renaming.
@@ -27,9 +30,11 @@ fn rename(
 ) -> Result<Value, AllocError>
     ensures { IfOk result (λ v. view v ≡ rename_data existing.now new.now swapping) }
 {
-    let existing = names(alloc, existing)?;
-    let new = names(alloc, new)?;
-    json!(in alloc; {"existing": existing, "new": new, "swapping": swapping})
+    let mut map = Map::new(alloc);
+    done!(put_names(&mut map, alloc, "existing", existing));
+    done!(put_names(&mut map, alloc, "new", new));
+    done!(put(&mut map, alloc, "swapping", Value::Bool(swapping)));
+    Ok(Value::Object(map))
 }
 
 /// A number, or null.
@@ -47,18 +52,10 @@ fn optional_number(given: Option<u32>) -> Value
 fn numbering(alloc: Global, name: &str, offset: Option<u32>) -> Result<Value, AllocError>
     ensures { IfOk result (λ v. view v ≡ numbering_data name.now offset) }
 {
-    let first = optional_number(offset);
-    json!(in alloc; {"name": name, "offset": first})
-}
-
-/// A name, or null.
-fn optional_name(alloc: Global, given: &Option<PlSmallStr>) -> Result<Value, AllocError>
-    ensures { IfOk result (λ v. view v ≡ nullable_data string given.now) }
-{
-    match given {
-        None => Ok(Value::Null),
-        Some(name) => Ok(Value::String(String::from_str(alloc, name.as_str())?)),
-    }
+    let mut map = Map::new(alloc);
+    done!(put_text(&mut map, alloc, "name", name));
+    done!(put(&mut map, alloc, "offset", optional_number(offset)));
+    Ok(Value::Object(map))
 }
 
 /// The object of an unpivot.
@@ -66,11 +63,12 @@ fn optional_name(alloc: Global, given: &Option<PlSmallStr>) -> Result<Value, All
 fn unpivot(alloc: Global, args: &UnpivotArgsIR) -> Result<Value, AllocError>
     ensures { IfOk result (λ v. view v ≡ unpivot_data args.now) }
 {
-    let index = names(alloc, args.index.as_slice())?;
-    let on = names(alloc, args.on.as_slice())?;
-    let value = optional_name(alloc, &args.value_name)?;
-    let variable = optional_name(alloc, &args.variable_name)?;
-    json!(in alloc; {"index": index, "on": on, "value_name": value, "variable_name": variable})
+    let mut map = Map::new(alloc);
+    done!(put_names(&mut map, alloc, "index", args.index.as_slice()));
+    done!(put_names(&mut map, alloc, "on", args.on.as_slice()));
+    done!(put_optional_name(&mut map, alloc, "value_name", &args.value_name));
+    done!(put_optional_name(&mut map, alloc, "variable_name", &args.variable_name));
+    Ok(Value::Object(map))
 }
 
 /// The object of an explode.
@@ -78,8 +76,8 @@ fn unpivot(alloc: Global, args: &UnpivotArgsIR) -> Result<Value, AllocError>
 fn explode(alloc: Global, columns: &[PlSmallStr]) -> Result<Value, AllocError>
     ensures { IfOk result (λ v. view v ≡ explode_data columns.now) }
 {
-    let columns = names(alloc, columns)?;
-    json!(in alloc; {"columns": columns})
+    let columns = done!(names(alloc, columns));
+    only(alloc, "columns", columns)
 }
 
 /// The object of a count of the rows of files.
@@ -92,9 +90,46 @@ fn count(
 ) -> Result<Value, AllocError>
     ensures { IfOk result (λ v. view v ≡ count_data from.now format.now alias.now) }
 {
-    let alias = optional_name(alloc, alias)?;
-    let sources = sources(alloc, from)?;
-    json!(in alloc; {"alias": alias, "kind": format.name(), "sources": sources})
+    let sources = done!(sources(alloc, from));
+    let mut map = Map::new(alloc);
+    done!(put(&mut map, alloc, "sources", sources));
+    done!(put_optional_name(&mut map, alloc, "alias", alias));
+    done!(put_text(&mut map, alloc, "kind", format.name()));
+    Ok(Value::Object(map))
+}
+
+/// The name of a function.
+fn name_of(function: &FunctionIR) -> &'static str
+    ensures { result.now ≡ frame_function_name function.now }
+{
+    match function {
+        FunctionIR::Rename { .. } => "Rename",
+        FunctionIR::RowIndex { .. } => "RowIndex",
+        FunctionIR::Unpivot { .. } => "Unpivot",
+        FunctionIR::Explode { .. } => "Explode",
+        FunctionIR::FastCount { .. } => "FastCount",
+    }
+}
+
+/// The object of what a function is told.
+fn told(alloc: Global, function: &FunctionIR) -> Result<Value, AllocError>
+    ensures { IfOk result (λ v. view v ≡ told_data function.now) }
+{
+    match function {
+        FunctionIR::Rename {
+            existing,
+            new,
+            swapping,
+        } => rename(alloc, existing.as_slice(), new.as_slice(), *swapping),
+        FunctionIR::RowIndex { name, offset } => numbering(alloc, name.as_str(), *offset),
+        FunctionIR::Unpivot { args } => unpivot(alloc, args),
+        FunctionIR::Explode { columns } => explode(alloc, columns.as_slice()),
+        FunctionIR::FastCount {
+            sources,
+            scan_type,
+            alias,
+        } => count(alloc, sources, scan_type, alias),
+    }
 }
 
 /// The object of a function, under its name.
@@ -102,36 +137,8 @@ fn count(
 pub fn frame_function(alloc: Global, function: &FunctionIR) -> Result<Value, AllocError>
     ensures { IfOk result (λ v. view v ≡ frame_function_data function.now) }
 {
-    match function {
-        FunctionIR::Rename {
-            existing,
-            new,
-            swapping,
-        } => {
-            let object = rename(alloc, existing.as_slice(), new.as_slice(), *swapping)?;
-            json!(in alloc; {"Rename": object})
-        }
-        FunctionIR::RowIndex { name, offset } => {
-            let object = numbering(alloc, name.as_str(), *offset)?;
-            json!(in alloc; {"RowIndex": object})
-        }
-        FunctionIR::Unpivot { args } => {
-            let object = unpivot(alloc, args)?;
-            json!(in alloc; {"Unpivot": object})
-        }
-        FunctionIR::Explode { columns } => {
-            let object = explode(alloc, columns.as_slice())?;
-            json!(in alloc; {"Explode": object})
-        }
-        FunctionIR::FastCount {
-            sources,
-            scan_type,
-            alias,
-        } => {
-            let object = count(alloc, sources, scan_type, alias)?;
-            json!(in alloc; {"FastCount": object})
-        }
-    }
+    let told = done!(told(alloc, function));
+    only(alloc, name_of(function), told)
 }
 
 /// Writes the object of a renaming.
@@ -146,13 +153,11 @@ fn write_rename(
         ≡ writer.old.tokens ++ json_tokens (outline (rename_data existing.now new.now swapping))) }
     ensures before { OnOk result (writer.new.before ≡ writer.old.before) }
 {
-    writer.begin_object()?;
-    writer.key("existing")?;
-    write_names(writer, existing)?;
-    writer.key("new")?;
-    write_names(writer, new)?;
-    writer.key("swapping")?;
-    writer.boolean(swapping)?;
+    done!(writer.begin_object());
+    done!(write_names_at(writer, "existing", existing));
+    done!(write_names_at(writer, "new", new));
+    done!(writer.key("swapping"));
+    done!(writer.boolean(swapping));
     writer.end_object()
 }
 
@@ -175,11 +180,11 @@ fn write_numbering(writer: &mut Writer, name: &str, offset: Option<u32>) -> Resu
         ≡ writer.old.tokens ++ json_tokens (outline (numbering_data name.now offset))) }
     ensures before { OnOk result (writer.new.before ≡ writer.old.before) }
 {
-    writer.begin_object()?;
-    writer.key("name")?;
-    writer.string(name)?;
-    writer.key("offset")?;
-    write_optional_number(writer, offset)?;
+    done!(writer.begin_object());
+    done!(writer.key("name"));
+    done!(writer.string(name));
+    done!(writer.key("offset"));
+    done!(write_optional_number(writer, offset));
     writer.end_object()
 }
 
@@ -195,6 +200,20 @@ fn write_optional_name(writer: &mut Writer, given: &Option<PlSmallStr>) -> Resul
     }
 }
 
+/// Writes a key, and a name or null under it.
+fn write_optional_name_at(
+    writer: &mut Writer,
+    key: &str,
+    given: &Option<PlSmallStr>,
+) -> Result<(), AllocError>
+    ensures tokens { OnOk result (writer.new.tokens
+        ≡ writer.old.tokens ++ key_token key.now ∷ json_tokens (outline (nullable_data string given.now))) }
+    ensures before { OnOk result (writer.new.before ≡ writer.old.before) }
+{
+    done!(writer.key(key));
+    write_optional_name(writer, given)
+}
+
 /// Writes the object of an unpivot.
 #[tactic(auto, unfolding(crate::specs::Functions::unpivot_data))]
 fn write_unpivot(
@@ -208,15 +227,11 @@ fn write_unpivot(
         ≡ writer.old.tokens ++ json_tokens (outline (unpivot_data (record { on = on.now; index = index.now; variable_name = variable_name.now; value_name = value_name.now })))) }
     ensures before { OnOk result (writer.new.before ≡ writer.old.before) }
 {
-    writer.begin_object()?;
-    writer.key("index")?;
-    write_names(writer, index)?;
-    writer.key("on")?;
-    write_names(writer, on)?;
-    writer.key("value_name")?;
-    write_optional_name(writer, value_name)?;
-    writer.key("variable_name")?;
-    write_optional_name(writer, variable_name)?;
+    done!(writer.begin_object());
+    done!(write_names_at(writer, "index", index));
+    done!(write_names_at(writer, "on", on));
+    done!(write_optional_name_at(writer, "value_name", value_name));
+    done!(write_optional_name_at(writer, "variable_name", variable_name));
     writer.end_object()
 }
 
@@ -227,9 +242,8 @@ fn write_explode(writer: &mut Writer, columns: &[PlSmallStr]) -> Result<(), Allo
         ≡ writer.old.tokens ++ json_tokens (outline (explode_data columns.now))) }
     ensures before { OnOk result (writer.new.before ≡ writer.old.before) }
 {
-    writer.begin_object()?;
-    writer.key("columns")?;
-    write_names(writer, columns)?;
+    done!(writer.begin_object());
+    done!(write_names_at(writer, "columns", columns));
     writer.end_object()
 }
 
@@ -245,27 +259,13 @@ fn write_count(
         ≡ writer.old.tokens ++ json_tokens (outline (count_data from.now format.now alias.now))) }
     ensures before { OnOk result (writer.new.before ≡ writer.old.before) }
 {
-    writer.begin_object()?;
-    writer.key("alias")?;
-    write_optional_name(writer, alias)?;
-    writer.key("kind")?;
-    writer.string(format.name())?;
-    writer.key("sources")?;
-    write_sources(writer, from)?;
+    done!(writer.begin_object());
+    done!(write_optional_name_at(writer, "alias", alias));
+    done!(writer.key("kind"));
+    done!(writer.string(format.name()));
+    done!(writer.key("sources"));
+    done!(write_sources(writer, from));
     writer.end_object()
-}
-
-/// The name of a function.
-fn name_of(function: &FunctionIR) -> &'static str
-    ensures { result.now ≡ frame_function_name function.now }
-{
-    match function {
-        FunctionIR::Rename { .. } => "Rename",
-        FunctionIR::RowIndex { .. } => "RowIndex",
-        FunctionIR::Unpivot { .. } => "Unpivot",
-        FunctionIR::Explode { .. } => "Explode",
-        FunctionIR::FastCount { .. } => "FastCount",
-    }
 }
 
 /// Writes the object of what a function is told.
@@ -303,8 +303,8 @@ pub fn write_frame_function(writer: &mut Writer, function: &FunctionIR) -> Resul
         ≡ writer.old.tokens ++ json_tokens (outline (frame_function_data function.now))) }
     ensures before { OnOk result (writer.new.before ≡ writer.old.before) }
 {
-    writer.begin_object()?;
-    writer.key(name_of(function))?;
-    write_told(writer, function)?;
+    done!(writer.begin_object());
+    done!(writer.key(name_of(function)));
+    done!(write_told(writer, function));
     writer.end_object()
 }

@@ -8,17 +8,21 @@ ghost use Rattle.plan_text_pieces.specs.Hive.{hive_column_data, hive_part_data, 
 use crate::cells::{cell, write_cell};
 use crate::kinds::type_name;
 use crate::lists::each;
+use crate::members::three;
+use crate::passing::done;
 use json::Writer;
 use plan_scan::{ColumnStats, HivePartitions};
-use serde_json::{Value, json};
+use serde_json::Value;
 use std::alloc::{AllocError, Global};
 
 /// The array of three that a hive column is: its name, its type and its value.
 fn hive_column(alloc: Global, column: &ColumnStats) -> Result<Value, AllocError>
     ensures { IfOk result (λ v. view v ≡ hive_column_data column.now) }
 {
-    let value = cell(alloc, &column.value)?;
-    json!(in alloc; [column.field.name.as_str(), type_name(column.field.dtype), value])
+    let value = done!(cell(alloc, &column.value));
+    let name = done!(Value::try_from_str(alloc, column.field.name.as_str()));
+    let kind = done!(Value::try_from_str(alloc, type_name(column.field.dtype)));
+    three(alloc, name, kind, value)
 }
 
 /// The array of the hive columns of one source.
@@ -44,10 +48,10 @@ fn write_hive_column(writer: &mut Writer, column: &ColumnStats) -> Result<(), Al
         ≡ writer.old.tokens ++ json_tokens (outline (hive_column_data column.now))) }
     ensures before { OnOk result (writer.new.before ≡ writer.old.before) }
 {
-    writer.begin_array()?;
-    writer.string(column.field.name.as_str())?;
-    writer.string(type_name(column.field.dtype))?;
-    write_cell(writer, &column.value)?;
+    done!(writer.begin_array());
+    done!(writer.string(column.field.name.as_str()));
+    done!(writer.string(type_name(column.field.dtype)));
+    done!(write_cell(writer, &column.value));
     writer.end_array()
 }
 
@@ -58,10 +62,10 @@ fn write_hive_part(writer: &mut Writer, part: &HivePartitions) -> Result<(), All
         ≡ writer.old.tokens ++ json_tokens (outline (hive_part_data part.now))) }
     ensures before { OnOk result (writer.new.before ≡ writer.old.before) }
 {
-    writer.begin_array()?;
+    done!(writer.begin_array());
     let columns = part.get_statistics().column_stats();
     for column in columns {
-        write_hive_column(writer, column)?;
+        done!(write_hive_column(writer, column));
     }
     writer.end_array()
 }
@@ -73,9 +77,9 @@ pub fn write_hive_parts(writer: &mut Writer, parts: &[HivePartitions]) -> Result
         ≡ writer.old.tokens ++ json_tokens (outline (hive_parts_data parts.now))) }
     ensures before { OnOk result (writer.new.before ≡ writer.old.before) }
 {
-    writer.begin_array()?;
+    done!(writer.begin_array());
     for part in parts {
-        write_hive_part(writer, part)?;
+        done!(write_hive_part(writer, part));
     }
     writer.end_array()
 }

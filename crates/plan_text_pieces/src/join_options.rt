@@ -6,7 +6,9 @@ ghost use Rattle.serde_json.specs.Written.{outline};
 ghost use Rattle.plan_text_pieces.specs.JoinOptions.{inequalities_data, kind_options_data};
 
 use crate::kinds::inequality_name;
-use crate::values::output;
+use crate::members::only;
+use crate::passing::done;
+use crate::values::{output, two_texts};
 use crate::writing::write_output;
 use json::Writer;
 use plan_join::JoinTypeOptionsIR;
@@ -22,7 +24,7 @@ fn inequalities(alloc: Global, given: IEJoinOptions) -> Result<Value, AllocError
     let first = inequality_name(given.operator1);
     match given.operator2 {
         None => json!(in alloc; [first]),
-        Some(second) => json!(in alloc; [first, inequality_name(second)]),
+        Some(second) => two_texts(alloc, first, inequality_name(second)),
     }
 }
 
@@ -33,12 +35,12 @@ pub fn kind_options(alloc: Global, given: &JoinTypeOptionsIR) -> Result<Value, A
 {
     match given {
         JoinTypeOptionsIR::IEJoin(operators) => {
-            let array = inequalities(alloc, *operators)?;
-            json!(in alloc; {"ie": array})
+            let array = done!(inequalities(alloc, *operators));
+            only(alloc, "ie", array)
         }
         JoinTypeOptionsIR::Cross { predicate } => {
-            let array = output(alloc, predicate)?;
-            json!(in alloc; {"cross": array})
+            let array = done!(output(alloc, predicate));
+            only(alloc, "cross", array)
         }
     }
 }
@@ -50,12 +52,12 @@ fn write_inequalities(writer: &mut Writer, given: IEJoinOptions) -> Result<(), A
         ≡ writer.old.tokens ++ json_tokens (outline (inequalities_data given))) }
     ensures before { OnOk result (writer.new.before ≡ writer.old.before) }
 {
-    writer.begin_array()?;
-    writer.string(inequality_name(given.operator1))?;
+    done!(writer.begin_array());
+    done!(writer.string(inequality_name(given.operator1)));
     match given.operator2 {
         None => writer.end_array(),
         Some(second) => {
-            writer.string(inequality_name(second))?;
+            done!(writer.string(inequality_name(second)));
             writer.end_array()
         }
     }
@@ -68,15 +70,15 @@ pub fn write_kind_options(writer: &mut Writer, given: &JoinTypeOptionsIR) -> Res
         ≡ writer.old.tokens ++ json_tokens (outline (kind_options_data given.now))) }
     ensures before { OnOk result (writer.new.before ≡ writer.old.before) }
 {
-    writer.begin_object()?;
+    done!(writer.begin_object());
     match given {
         JoinTypeOptionsIR::IEJoin(operators) => {
-            writer.key("ie")?;
-            write_inequalities(writer, *operators)?;
+            done!(writer.key("ie"));
+            done!(write_inequalities(writer, *operators));
         }
         JoinTypeOptionsIR::Cross { predicate } => {
-            writer.key("cross")?;
-            write_output(writer, predicate)?;
+            done!(writer.key("cross"));
+            done!(write_output(writer, predicate));
         }
     }
     writer.end_object()

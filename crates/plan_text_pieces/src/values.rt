@@ -1,27 +1,48 @@
 //! The JSON values of pieces, and of objects of them.
 ghost use Rattle.std.specs.Prelude.{◌≡◌, true, map, IfOk};
+ghost use Rattle.serde_json.specs.Data.{string};
 ghost use Rattle.serde_json.specs.View.{view};
 ghost use Rattle.plan_text_pieces.specs.Lists.{are_ascending};
 ghost use Rattle.plan_text_pieces.specs.Pieces.{object_of, piece_data, piece_key};
-ghost use Rattle.plan_text_pieces.specs.Values.{columns_data, field_data, link_data, list_data, names_data, number_data, options_data, output_data, outputs_data, truths_data};
+ghost use Rattle.plan_text_pieces.specs.Values.{columns_data, field_data, link_data, list_data, names_data, number_data, options_data, output_data, outputs_data, row_index_data, truths_data, two_data};
 
 use crate::functions::frame_function;
 use crate::hive::hive_parts;
 use crate::join_options::kind_options;
 use crate::kinds::type_name;
 use crate::lists::each;
+use crate::members::{three, two};
 use crate::origins::{name_of, origin};
+use crate::passing::done;
 use crate::pieces::{Entries, Piece};
-use plan_core::{DataType, Node, PlSmallStr, ProjectionOptions, Schema};
+use crate::scan_sources::{buffers, paths};
+use plan_core::{DataType, Node, PlSmallStr, ProjectionOptions, RowIndex, Schema};
 use plan_expr::ExprIR;
-use serde_json::{Map, Value, json};
+use serde_json::{Map, Value};
 use std::alloc::{AllocError, Global};
+
+/// The array of two texts.
+pub fn two_texts(alloc: Global, first: &str, second: &str) -> Result<Value, AllocError>
+    ensures { IfOk result (λ v. view v ≡ two_data (string first.now) (string second.now)) }
+{
+    let first = done!(Value::try_from_str(alloc, first));
+    let second = done!(Value::try_from_str(alloc, second));
+    two(alloc, first, second)
+}
 
 /// The pair of a column: its name and the name of its type.
 fn field(alloc: Global, name: &str, data_type: DataType) -> Result<Value, AllocError>
     ensures { IfOk result (λ v. view v ≡ field_data (name.now, data_type)) }
 {
-    json!(in alloc; [name, type_name(data_type)])
+    two_texts(alloc, name, type_name(data_type))
+}
+
+/// The pair of the name of the column that numbers the rows and the number of the first row.
+fn row_index(alloc: Global, column: &RowIndex) -> Result<Value, AllocError>
+    ensures { IfOk result (λ v. view v ≡ row_index_data column.now) }
+{
+    let name = done!(Value::try_from_str(alloc, column.name.as_str()));
+    two(alloc, name, Value::from(column.offset))
 }
 
 /// The array of the columns of a schema, in order, each a pair of its name and its type.
@@ -75,7 +96,9 @@ pub fn output(alloc: Global, expr: &ExprIR) -> Result<Value, AllocError>
     ensures { IfOk result (λ v. view v ≡ output_data expr.now) }
 {
     let name = &expr.output_name;
-    json!(in alloc; [expr.node.0, origin(name), name_of(name)])
+    let origin = done!(Value::try_from_str(alloc, origin(name)));
+    let text = done!(Value::try_from_str(alloc, name_of(name)));
+    three(alloc, Value::from(expr.node.0), origin, text)
 }
 
 /// The array of expressions that are put out, each with its name.
@@ -92,31 +115,29 @@ fn outputs(alloc: Global, exprs: &[ExprIR]) -> Result<Value, AllocError>
 fn options(alloc: Global, given: ProjectionOptions) -> Result<Value, AllocError>
     ensures { IfOk result (λ v. view v ≡ options_data given) }
 {
-    json!(in alloc; [given.run_parallel, given.duplicate_check, given.should_broadcast])
+    three(
+        alloc,
+        Value::Bool(given.run_parallel),
+        Value::Bool(given.duplicate_check),
+        Value::Bool(given.should_broadcast),
+    )
 }
 
 /// The value of a piece.
-#[rattlefmt::skip]
 fn value(alloc: Global, piece: &Piece<'_>) -> Result<Value, AllocError>
     ensures { IfOk result (λ v. view v ≡ piece_data piece.now) }
 {
     match piece {
         Piece::Null => Ok(Value::Null),
         Piece::Boolean(truth) => Ok(Value::Bool(*truth)),
-        Piece::BooleanPair(first, second) => json!(in alloc; [*first, *second]),
+        Piece::BooleanPair(first, second) => two(alloc, Value::Bool(*first), Value::Bool(*second)),
         Piece::Booleans(given) => truths(alloc, given),
         Piece::Number(number) => Ok(Value::from(*number)),
         Piece::Integer(number) => Ok(Value::from(*number)),
         Piece::Text(text) => Value::try_from_str(alloc, text),
         Piece::Names(given) => names(alloc, given),
-        Piece::Paths(given) => {
-            let paths = names(alloc, given)?;
-            json!(in alloc; {"paths": paths})
-        }
-        Piece::Buffers(given) => {
-            let buffers = numbers(alloc, given)?;
-            json!(in alloc; {"buffers": buffers})
-        }
+        Piece::Paths(given) => paths(alloc, given),
+        Piece::Buffers(given) => buffers(alloc, given),
         Piece::HiveParts(given) => hive_parts(alloc, given),
         Piece::Columns(schema) => columns(alloc, schema),
         Piece::Links(nodes) => links(alloc, nodes),
@@ -125,8 +146,8 @@ fn value(alloc: Global, piece: &Piece<'_>) -> Result<Value, AllocError>
         Piece::Options(given) => options(alloc, *given),
         Piece::Function(function) => frame_function(alloc, function),
         Piece::KindOptions(given) => kind_options(alloc, given),
-        Piece::RowIndex(column) => json!(in alloc; [column.name.as_str(), column.offset]),
-        Piece::Slice(offset, len) => json!(in alloc; [*offset, *len]),
+        Piece::RowIndex(column) => row_index(alloc, column),
+        Piece::Slice(offset, len) => two(alloc, Value::from(*offset), Value::from(*len)),
     }
 }
 

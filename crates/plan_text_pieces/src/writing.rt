@@ -1,5 +1,6 @@
 //! Writers for pieces, and for objects of them: no value is made.
-ghost use Rattle.std.specs.Prelude.{◌≡◌, ◌++◌, OnOk};
+ghost use Rattle.std.specs.Prelude.{◌≡◌, ◌∷◌, ◌++◌, OnOk};
+ghost use Rattle.json.specs.Token.{key as key_token};
 ghost use Rattle.json.specs.Tree.{json_tokens};
 ghost use Rattle.serde_json.specs.Data.{boolean};
 ghost use Rattle.serde_json.specs.Written.{outline};
@@ -11,6 +12,7 @@ use crate::hive::write_hive_parts;
 use crate::join_options::write_kind_options;
 use crate::kinds::type_name;
 use crate::origins::{name_of, origin};
+use crate::passing::done;
 use crate::pieces::Piece;
 use json::Writer;
 use plan_core::{DataType, Node, PlSmallStr, ProjectionOptions, RowIndex, Schema};
@@ -23,9 +25,9 @@ fn write_field(writer: &mut Writer, name: &str, data_type: DataType) -> Result<(
         ≡ writer.old.tokens ++ json_tokens (outline (field_data (name.now, data_type)))) }
     ensures before { OnOk result (writer.new.before ≡ writer.old.before) }
 {
-    writer.begin_array()?;
-    writer.string(name)?;
-    writer.string(type_name(data_type))?;
+    done!(writer.begin_array());
+    done!(writer.string(name));
+    done!(writer.string(type_name(data_type)));
     writer.end_array()
 }
 
@@ -37,9 +39,9 @@ pub fn write_columns(writer: &mut Writer, schema: &Schema) -> Result<(), AllocEr
         ≡ writer.old.tokens ++ json_tokens (outline (columns_data schema.now))) }
     ensures before { OnOk result (writer.new.before ≡ writer.old.before) }
 {
-    writer.begin_array()?;
+    done!(writer.begin_array());
     for (name, data_type) in schema.iter() {
-        write_field(writer, name, *data_type)?;
+        done!(write_field(writer, name, *data_type));
     }
     writer.end_array()
 }
@@ -51,11 +53,25 @@ pub fn write_names(writer: &mut Writer, names: &[PlSmallStr]) -> Result<(), Allo
         ≡ writer.old.tokens ++ json_tokens (outline (names_data names.now))) }
     ensures before { OnOk result (writer.new.before ≡ writer.old.before) }
 {
-    writer.begin_array()?;
+    done!(writer.begin_array());
     for name in names {
-        writer.string(name.as_str())?;
+        done!(writer.string(name.as_str()));
     }
     writer.end_array()
+}
+
+/// Writes a key, and the array of names under it.
+pub fn write_names_at(
+    writer: &mut Writer,
+    key: &str,
+    names: &[PlSmallStr],
+) -> Result<(), AllocError>
+    ensures tokens { OnOk result (writer.new.tokens
+        ≡ writer.old.tokens ++ key_token key.now ∷ json_tokens (outline (names_data names.now))) }
+    ensures before { OnOk result (writer.new.before ≡ writer.old.before) }
+{
+    done!(writer.key(key));
+    write_names(writer, names)
 }
 
 /// Writes the object of paths.
@@ -64,9 +80,9 @@ pub fn write_paths(writer: &mut Writer, paths: &[PlSmallStr]) -> Result<(), Allo
         ≡ writer.old.tokens ++ json_tokens (outline (paths_data paths.now))) }
     ensures before { OnOk result (writer.new.before ≡ writer.old.before) }
 {
-    writer.begin_object()?;
-    writer.key("paths")?;
-    write_names(writer, paths)?;
+    done!(writer.begin_object());
+    done!(writer.key("paths"));
+    done!(write_names(writer, paths));
     writer.end_object()
 }
 
@@ -77,9 +93,9 @@ fn write_numbers(writer: &mut Writer, numbers: &[u32]) -> Result<(), AllocError>
         ≡ writer.old.tokens ++ json_tokens (outline (list_data number_data numbers.now))) }
     ensures before { OnOk result (writer.new.before ≡ writer.old.before) }
 {
-    writer.begin_array()?;
+    done!(writer.begin_array());
     for number in numbers {
-        writer.u64(*number as u64)?;
+        done!(writer.u64(*number as u64));
     }
     writer.end_array()
 }
@@ -90,9 +106,9 @@ pub fn write_buffers(writer: &mut Writer, numbers: &[u32]) -> Result<(), AllocEr
         ≡ writer.old.tokens ++ json_tokens (outline (buffers_data numbers.now))) }
     ensures before { OnOk result (writer.new.before ≡ writer.old.before) }
 {
-    writer.begin_object()?;
-    writer.key("buffers")?;
-    write_numbers(writer, numbers)?;
+    done!(writer.begin_object());
+    done!(writer.key("buffers"));
+    done!(write_numbers(writer, numbers));
     writer.end_object()
 }
 
@@ -103,9 +119,9 @@ fn write_truths(writer: &mut Writer, given: &[bool]) -> Result<(), AllocError>
         ≡ writer.old.tokens ++ json_tokens (outline (truths_data given.now))) }
     ensures before { OnOk result (writer.new.before ≡ writer.old.before) }
 {
-    writer.begin_array()?;
+    done!(writer.begin_array());
     for truth in given {
-        writer.boolean(*truth)?;
+        done!(writer.boolean(*truth));
     }
     writer.end_array()
 }
@@ -116,9 +132,9 @@ fn write_two(writer: &mut Writer, first: bool, second: bool) -> Result<(), Alloc
         ≡ writer.old.tokens ++ json_tokens (outline (two_data (boolean first) (boolean second)))) }
     ensures before { OnOk result (writer.new.before ≡ writer.old.before) }
 {
-    writer.begin_array()?;
-    writer.boolean(first)?;
-    writer.boolean(second)?;
+    done!(writer.begin_array());
+    done!(writer.boolean(first));
+    done!(writer.boolean(second));
     writer.end_array()
 }
 
@@ -129,9 +145,9 @@ fn write_links(writer: &mut Writer, nodes: &[Node]) -> Result<(), AllocError>
         ≡ writer.old.tokens ++ json_tokens (outline (list_data link_data nodes.now))) }
     ensures before { OnOk result (writer.new.before ≡ writer.old.before) }
 {
-    writer.begin_array()?;
+    done!(writer.begin_array());
     for node in nodes {
-        writer.u64(node.0 as u64)?;
+        done!(writer.u64(node.0 as u64));
     }
     writer.end_array()
 }
@@ -143,10 +159,10 @@ pub fn write_output(writer: &mut Writer, expr: &ExprIR) -> Result<(), AllocError
         ≡ writer.old.tokens ++ json_tokens (outline (output_data expr.now))) }
     ensures before { OnOk result (writer.new.before ≡ writer.old.before) }
 {
-    writer.begin_array()?;
-    writer.u64(expr.node.0 as u64)?;
-    writer.string(origin(&expr.output_name))?;
-    writer.string(name_of(&expr.output_name))?;
+    done!(writer.begin_array());
+    done!(writer.u64(expr.node.0 as u64));
+    done!(writer.string(origin(&expr.output_name)));
+    done!(writer.string(name_of(&expr.output_name)));
     writer.end_array()
 }
 
@@ -157,9 +173,9 @@ fn write_outputs(writer: &mut Writer, exprs: &[ExprIR]) -> Result<(), AllocError
         ≡ writer.old.tokens ++ json_tokens (outline (outputs_data exprs.now))) }
     ensures before { OnOk result (writer.new.before ≡ writer.old.before) }
 {
-    writer.begin_array()?;
+    done!(writer.begin_array());
     for expr in exprs {
-        write_output(writer, expr)?;
+        done!(write_output(writer, expr));
     }
     writer.end_array()
 }
@@ -172,10 +188,10 @@ fn write_options(writer: &mut Writer, given: ProjectionOptions) -> Result<(), Al
         ≡ writer.old.tokens ++ json_tokens (outline (options_data given))) }
     ensures before { OnOk result (writer.new.before ≡ writer.old.before) }
 {
-    writer.begin_array()?;
-    writer.boolean(given.run_parallel)?;
-    writer.boolean(given.duplicate_check)?;
-    writer.boolean(given.should_broadcast)?;
+    done!(writer.begin_array());
+    done!(writer.boolean(given.run_parallel));
+    done!(writer.boolean(given.duplicate_check));
+    done!(writer.boolean(given.should_broadcast));
     writer.end_array()
 }
 
@@ -185,9 +201,9 @@ fn write_row_index(writer: &mut Writer, column: &RowIndex) -> Result<(), AllocEr
         ≡ writer.old.tokens ++ json_tokens (outline (row_index_data column.now))) }
     ensures before { OnOk result (writer.new.before ≡ writer.old.before) }
 {
-    writer.begin_array()?;
-    writer.string(column.name.as_str())?;
-    writer.u64(column.offset as u64)?;
+    done!(writer.begin_array());
+    done!(writer.string(column.name.as_str()));
+    done!(writer.u64(column.offset as u64));
     writer.end_array()
 }
 
@@ -197,9 +213,9 @@ fn write_slice(writer: &mut Writer, offset: i64, len: usize) -> Result<(), Alloc
         ≡ writer.old.tokens ++ json_tokens (outline (slice_data (offset, len)))) }
     ensures before { OnOk result (writer.new.before ≡ writer.old.before) }
 {
-    writer.begin_array()?;
-    writer.i64(offset)?;
-    writer.u64(len as u64)?;
+    done!(writer.begin_array());
+    done!(writer.i64(offset));
+    done!(writer.u64(len as u64));
     writer.end_array()
 }
 
@@ -239,10 +255,10 @@ pub fn write_object(writer: &mut Writer, entries: &[(&str, Piece<'_>)]) -> Resul
         ≡ writer.old.tokens ++ json_tokens (outline (object_of entries.now))) }
     ensures before { OnOk result (writer.new.before ≡ writer.old.before) }
 {
-    writer.begin_object()?;
+    done!(writer.begin_object());
     for (key, piece) in entries {
-        writer.key(key)?;
-        write_piece(writer, piece)?;
+        done!(writer.key(key));
+        done!(write_piece(writer, piece));
     }
     writer.end_object()
 }

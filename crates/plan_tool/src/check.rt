@@ -7,9 +7,10 @@ ghost use Rattle.plan_tool.specs.Checked.{Checks, LevelsChecked};
 
 use crate::stop::Stop;
 use plan_check::{check_nodes, check_tree};
+use plan_copy::expr_roots;
 use plan_core::{Arena, Node, Schema};
 use plan_expr::AExpr;
-use plan_ir::{IR, expr_roots};
+use plan_ir::IR;
 use plan_tree::is_deeper;
 use std::alloc::Global;
 

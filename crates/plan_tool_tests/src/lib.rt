@@ -1,10 +1,9 @@
-//! The tests of plan_tool. They stand apart from it, so that it is proved once, and not with its tests again.
+//! The tests of plan_tool. They stand apart from it, so that it is proved once, and not with its tests again. What documents are answered is
+//! told by those of plan_cases; here are words, bytes, sources and sinks that no file of documents has.
 #![tactic(auto)]
 
 #[cfg(test)]
-mod depths;
+mod deep;
 mod fakes;
-#[cfg(test)]
-mod joins;
 #[cfg(test)]
 mod streams;

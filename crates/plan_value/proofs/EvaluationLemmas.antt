@@ -72,14 +72,22 @@ cells-next ex ns f i n d done v lt is own before =
     ∙ ap (map each) (sym (take_more ns i d lt))
     ∙ sym (cells-each ex (take (i + 1) ns) f)
 
+-- what is made of one list of rows more
+pub over-more : (make : List ℕ → Value) (parts : List (List ℕ)) (i : ℕ) (rows : List ℕ) (done : List AnyValue) (v : AnyValue) → i < length parts → rows ≡ get_or parts i rows
+    → value_of v ≡ make rows
+    → values_of done ≡ map make (take i parts)
+    → values_of (done ++ v ∷ []) ≡ map make (take (i + 1) parts)
+over-more make parts i rows done v lt is own before =
+    map-append value_of done (v ∷ [])
+    ∙ ap₂ (λ (vs : List Value) (x : Value). vs ++ x ∷ []) before (own ∙ ap make is)
+    ∙ sym (map-append make (take i parts) (get_or parts i rows ∷ []))
+    ∙ ap (map make) (sym (take_more parts i rows lt))
+
 -- the value over one list of rows more, from their columns that the expression reads
 pub over-next : (e : Expr) (f part : Frame) (parts : List (List ℕ)) (i : ℕ) (rows : List ℕ) (done : List AnyValue) (v : AnyValue) → i < length parts → rows ≡ get_or parts i rows → Agree (leaves e) part (rows_at rows f)
     → value_of v ≡ only_value (val e part)
     → values_of done ≡ map (λ (rows : List ℕ). only_value (val e (rows_at rows f))) (take i parts)
     → values_of (done ++ v ∷ []) ≡ map (λ (rows : List ℕ). only_value (val e (rows_at rows f))) (take (i + 1) parts)
 over-next e f part parts i rows done v lt is same own before =
-    let make : List ℕ → Value = λ (rows : List ℕ). only_value (val e (rows_at rows f)) in
-    map-append value_of done (v ∷ [])
-    ∙ ap₂ (λ (vs : List Value) (x : Value). vs ++ x ∷ []) before (own ∙ ap only_value (val_depends e part (rows_at rows f) same) ∙ ap make is)
-    ∙ sym (map-append make (take i parts) (get_or parts i rows ∷ []))
-    ∙ ap (map make) (sym (take_more parts i rows lt))
+    over-more (λ (rows : List ℕ). only_value (val e (rows_at rows f))) parts i rows done v lt is
+    (own ∙ ap only_value (val_depends e part (rows_at rows f) same)) before

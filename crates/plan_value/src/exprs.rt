@@ -4,7 +4,7 @@ ghost use Rattle.plan_expr.specs.Operands.{IsExpr};
 ghost use Rattle.plan_expr.specs.Exprs.{expr_at};
 ghost use Rattle.plan_frame.specs.Aggregates.{aggregated as aggregated_of};
 ghost use Rattle.plan_frame.specs.Frames.{column_or, rows_at as rows_of};
-ghost use Rattle.plan_frame.specs.Meaning.{called, cell_values, chosen as chosen_of, filled as filled_with, literal_value, only_value as only_value_of, operated as operated_of, spread as spread_of, val, value_at as value_of_row, windowed};
+ghost use Rattle.plan_frame.specs.Meaning.{called, cell_values, chosen as chosen_of, filled as filled_with, literal_value, many, one, only_value as only_value_of, operated as operated_of, spread as spread_of, val, value_at as value_of_row, windowed};
 ghost use Rattle.plan_frame.specs.Values.{is_true as true_value};
 ghost use Rattle.plan_value.specs.Cells.{cell_of, cells_at, cells_of};
 ghost use Rattle.plan_value.specs.Groups.{own_at};
@@ -51,6 +51,20 @@ fn repeated(alloc: Global, value: &AnyValue, height: usize) -> Result<Items<AnyV
         values.push(value.try_clone(alloc)?)?;
     }
     Ok(values)
+}
+
+/// The value of a literal, the same for every row.
+fn literal_values(alloc: Global, value: &LiteralValue) -> Result<Values, AllocError>
+    ensures { IfOk result (λ vs. cell_of vs ≡ one (literal_value value.now)) }
+{
+    Ok(Values::One(literal(alloc, value)?))
+}
+
+/// The values of the column of a name, one for each row.
+fn column_values(alloc: Global, table: &Table, name: &str) -> Result<Values, AllocError>
+    ensures { IfOk result (λ vs. cell_of vs ≡ many (column_or (frame_of table.now) name.now)) }
+{
+    Ok(Values::Many(column(alloc, table, name)?))
 }
 
 /// The values of the column of a name; null in each row where there is none. Refuses for want of memory alone.
@@ -140,6 +154,13 @@ pub fn aggregate(
     }
 }
 
+/// What an aggregate makes of all values, the same for every row.
+fn aggregate_values(alloc: Global, agg: Aggregate, values: &Values) -> Result<Values, AllocError>
+    ensures { IfOk result (λ vs. cell_of vs ≡ one (aggregated_of agg (cell_values (cell_of values.now)))) }
+{
+    Ok(Values::One(aggregate(alloc, agg, values)?))
+}
+
 /// The values of an expression over the rows of a table: one value where its meaning is one, else one for each row. A
 /// column that the table lacks is null in each row. Refuses for want of memory alone.
 #[cycle(evaluation)]
@@ -153,32 +174,34 @@ pub fn evaluate_expr(
     ensures { IfOk result (λ vs. cell_of vs ≡ val (expr_at ex.now node) (frame_of table.now)) }
 {
     match ex.get(node) {
-        AExpr::Column(name) => Ok(Values::Many(column(alloc, table, name.as_str())?)),
-        AExpr::Literal(value) => Ok(Values::One(literal(alloc, value)?)),
-        AExpr::Alias(input, _) => Ok(evaluate_expr(alloc, *input, ex, table)?),
+        AExpr::Column(name) => column_values(alloc, table, name.as_str()),
+        AExpr::Literal(value) => literal_values(alloc, value),
+        AExpr::Alias(input, _) => evaluate_expr(alloc, *input, ex, table),
         AExpr::BinaryExpr { left, op, right } => {
             let left = evaluate_expr(alloc, *left, ex, table)?;
             let right = evaluate_expr(alloc, *right, ex, table)?;
-            Ok(spread(alloc, *op, left, right)?)
+            spread(alloc, *op, left, right)
         }
         AExpr::Ternary {
             predicate,
             truthy,
             falsy,
-        } => Ok(choice(alloc, *truthy, *falsy, *predicate, ex, table)?),
+        } => choice(alloc, *truthy, *falsy, *predicate, ex, table),
         AExpr::Agg(agg) => {
             let input = evaluate_expr(alloc, agg.input(), ex, table)?;
-            Ok(Values::One(aggregate(alloc, agg.aggregate(), &input)?))
+            let values = aggregate_values(alloc, agg.aggregate(), &input);
+            drop(input);
+            values
         }
         AExpr::Function {
             input,
             function,
             ..
-        } => Ok(call(alloc, *function, input.as_slice(), ex, table)?),
+        } => call(alloc, *function, input.as_slice(), ex, table),
         AExpr::Window {
             function,
             partition_by,
-        } => Ok(window(alloc, *function, partition_by.as_slice(), ex, table)?),
+        } => window(alloc, *function, partition_by.as_slice(), ex, table),
         AExpr::Len => Ok(Values::One(counted(table.height))),
     }
 }
@@ -199,7 +222,11 @@ fn choice(
     let truthy = evaluate_expr(alloc, truthy, ex, table)?;
     let falsy = evaluate_expr(alloc, falsy, ex, table)?;
     let predicate = evaluate_expr(alloc, predicate, ex, table)?;
-    Ok(chosen(alloc, table.height, &truthy, &falsy, &predicate)?)
+    let values = chosen(alloc, table.height, &truthy, &falsy, &predicate);
+    drop(truthy);
+    drop(falsy);
+    drop(predicate);
+    values
 }
 
 /// What a function makes of the values of its inputs; null where it doesn't take so many.
@@ -218,12 +245,12 @@ fn call(
         [] => Ok(Values::One(AnyValue::Null)),
         [input] => {
             let input = evaluate_expr(alloc, *input, ex, table)?;
-            Ok(called_on(alloc, function, input)?)
+            called_on(alloc, function, input)
         }
         [first, second] => {
             let first = evaluate_expr(alloc, *first, ex, table)?;
             let second = evaluate_expr(alloc, *second, ex, table)?;
-            Ok(called_on_two(alloc, function, first, second)?)
+            called_on_two(alloc, function, first, second)
         }
         _ => Ok(Values::One(AnyValue::Null)),
     }

@@ -1,5 +1,5 @@
 //! Rows in groups: those that are the same in each of some keys.
-ghost use Rattle.std.specs.Prelude.{◌≡◌, ◌<◌, ℕ, get_or, length, replicate, [], IfOk};
+ghost use Rattle.std.specs.Prelude.{◌≡◌, ◌<◌, ℕ, get_or, length, replicate, [], IfOk, OnOk};
 ghost use Rattle.plan_value.specs.Cells.{cells_of};
 ghost use Rattle.plan_value.specs.Groups.{AreNumbered, key_at, rows_numbered};
 
@@ -36,14 +36,30 @@ pub fn grouped(alloc: Global, keys: &[Values], height: usize) -> Result<Groups, 
 {
     let mut seen = IndexSet::new(alloc);
     let mut numbers = Items::new(alloc);
-    for row in 0..height {
-        let (number, _) = seen.insert_full(key_in(alloc, keys, row)?)?;
-        numbers.push(number)?;
-    }
+    number_rows(alloc, keys, height, &mut seen, &mut numbers)?;
     Ok(Groups {
         count: seen.len(),
         numbers,
     })
+}
+
+/// Numbers so many rows by their keys, from none on; the keys are kept in the order in which they first come.
+fn number_rows(
+    alloc: Global,
+    keys: &[Values],
+    height: usize,
+    seen: &mut IndexSet<Items<AnyValue>>,
+    numbers: &mut Items<usize>,
+) -> Result<(), AllocError>
+    requires seen { seen.old.keys ≡ [] }
+    requires numbers { numbers.old ≡ [] }
+    ensures { OnOk result (AreNumbered (cells_of keys.now) height (length seen.new.keys) numbers.new) }
+{
+    for row in 0..height {
+        let (number, _) = seen.insert_full(key_in(alloc, keys, row)?)?;
+        numbers.push(number)?;
+    }
+    Ok(())
 }
 
 /// So many lists without rows.

@@ -1,6 +1,6 @@
 //! Two sides, row by row: one value is spread beside many.
 ghost use Rattle.std.specs.Prelude.{◌≡◌, IfOk, map};
-ghost use Rattle.plan_frame.specs.Meaning.{spread as spread_of, zip_by};
+ghost use Rattle.plan_frame.specs.Meaning.{many, one, spread as spread_of, zip_by};
 ghost use Rattle.plan_value.specs.Cells.{cell_of};
 ghost use Rattle.plan_value.specs.Pairs.{paired as paired_of};
 ghost use Rattle.plan_value.specs.Shown.{value_of, values_of};
@@ -85,6 +85,51 @@ fn row_by_row(
     Ok(values)
 }
 
+/// What is made of one value and of one side: the value is spread beside many.
+fn spread_left(
+    alloc: Global,
+    pairing: Pairing,
+    left: &AnyValue,
+    right: &Values,
+) -> Result<Values, AllocError>
+    ensures { IfOk result (λ vs. cell_of vs ≡ spread_of (paired_of pairing) (one (value_of left.now)) (cell_of right.now)) }
+{
+    match right {
+        Values::One(y) => Ok(Values::One(paired(alloc, pairing, left, y)?)),
+        Values::Many(ys) => Ok(Values::Many(beside_left(alloc, pairing, left, ys.as_slice())?)),
+    }
+}
+
+/// What is made of many values and of one side: one value is spread beside many.
+fn spread_right(
+    alloc: Global,
+    pairing: Pairing,
+    lefts: &[AnyValue],
+    right: &Values,
+) -> Result<Values, AllocError>
+    ensures { IfOk result (λ vs. cell_of vs ≡ spread_of (paired_of pairing) (many (values_of lefts.now)) (cell_of right.now)) }
+{
+    match right {
+        Values::One(y) => Ok(Values::Many(beside_right(alloc, pairing, lefts, y)?)),
+        Values::Many(ys) => Ok(Values::Many(row_by_row(alloc, pairing, lefts, ys.as_slice())?)),
+    }
+}
+
+/// What is made of two sides: one value is spread beside many.
+fn spread_sides(
+    alloc: Global,
+    pairing: Pairing,
+    left: &Values,
+    right: &Values,
+) -> Result<Values, AllocError>
+    ensures { IfOk result (λ vs. cell_of vs ≡ spread_of (paired_of pairing) (cell_of left.now) (cell_of right.now)) }
+{
+    match left {
+        Values::One(x) => spread_left(alloc, pairing, x, right),
+        Values::Many(xs) => spread_right(alloc, pairing, xs.as_slice(), right),
+    }
+}
+
 /// What is made of two sides: one value is spread beside many.
 pub fn spread_by(
     alloc: Global,
@@ -94,25 +139,8 @@ pub fn spread_by(
 ) -> Result<Values, AllocError>
     ensures { IfOk result (λ vs. cell_of vs ≡ spread_of (paired_of pairing) (cell_of left) (cell_of right)) }
 {
-    match (left, right) {
-        (Values::One(x), Values::One(y)) => Ok(Values::One(paired(alloc, pairing, &x, &y)?)),
-        (Values::One(x), Values::Many(ys)) => Ok(Values::Many(beside_left(
-            alloc,
-            pairing,
-            &x,
-            ys.as_slice(),
-        )?)),
-        (Values::Many(xs), Values::One(y)) => Ok(Values::Many(beside_right(
-            alloc,
-            pairing,
-            xs.as_slice(),
-            &y,
-        )?)),
-        (Values::Many(xs), Values::Many(ys)) => Ok(Values::Many(row_by_row(
-            alloc,
-            pairing,
-            xs.as_slice(),
-            ys.as_slice(),
-        )?)),
-    }
+    let values = spread_sides(alloc, pairing, &left, &right);
+    drop(left);
+    drop(right);
+    values
 }

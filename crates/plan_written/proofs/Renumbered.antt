@@ -22,7 +22,7 @@ use Rattle.plan_ir.specs.Plans.{Op, bare, cache, distinct, filter, frame_scan, g
 use Rattle.plan_ir.specs.declared.copy.PlanCopy.{PlanCopy}
 use Rattle.plan_ir.specs.declared.ir.IR.{IR}
 use Rattle.plan_ir.specs.declared.ir.IR.TheVariants as nodes
-use Rattle.plan_ir.proofs.CopyLemmas.{roots-items}
+use Rattle.plan_ir.proofs.PlanLemmas.{roots-items}
 use Rattle.plan_ir.proofs.RenumberedLemmas.{renumbered-exprs, renumbered-nodes}
 use Rattle.plan_doc_parts.specs.Parts.{nullable, number_of, integer_of, link_of, links_of, output_of, output_name_of}
 use Rattle.plan_doc_nodes.specs.Exprs.{expr_of, value_or_null}

@@ -12,9 +12,10 @@ use Rattle.plan_pairs.specs.Rows.{goes_right, AreJoined}
 use Rattle.plan_table.specs.declared.table.Table.{Table}
 use Rattle.plan_value.specs.Cells.{cells_of}
 use Rattle.plan_value.specs.Shown.{frame_of}
-use Rattle.plan_join_eval.specs.Chosen.{own_told}
+use Rattle.plan_pair_orders.specs.OwnOrders.{own_told}
+use Rattle.plan_pair_orders.proofs.OwnJoins.{own_joins}
 use Rattle.plan_join_eval.specs.Compared.{option_test}
-use Rattle.plan_join_eval.proofs.JoinLemmas.{own-joins, picked-joins, within}
+use Rattle.plan_join_eval.proofs.JoinLemmas.{picked-joins, within}
 use Rattle.plan_join_eval.proofs.join.evaluate_join.Goals as goal
 
 pub joined_table-requires-clause-left_keys : goal.joined_table-requires-clause-left_keys
@@ -54,4 +55,4 @@ returns-clause-frame c =
     let f = frame_of c.args.left.now in
     let g = frame_of c.args.right.now in
     IfOk-weaker c.joined_table.result (λ (t : Table). Joins (own_told told) left_on right_on f g (frame_of t)) (λ (t : Table). Joins told left_on right_on f g (frame_of t))
-    (λ (t : Table). own-joins told left_on right_on f g (frame_of t)) (returns-clause-choice c)
+    (λ (t : Table). own_joins told left_on right_on f g (frame_of t)) (returns-clause-choice c)

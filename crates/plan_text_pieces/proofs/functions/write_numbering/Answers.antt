@@ -7,10 +7,10 @@ pub returns-clause-tokens : goal.returns-clause-tokens
 unfolding Rattle.plan_text_pieces.specs.Functions.numbering_data
 returns-clause-tokens c =
     on_ok_weaker c.end_object.result (λ ended. ended ∙ simp (
-      c.in_ok-write_optional_number.ensures.tokens,
-      c.in_ok-key-2.ensures.ok,
-      c.in_ok-string.ensures.ok,
-      c.in_ok-key.ensures.ok,
-      c.in_ok-begin_object.ensures.ok,
+      c.in-Ok-write_optional_number.ensures.tokens,
+      c.in-Ok-key-2.ensures.ok,
+      c.in-Ok-string.ensures.ok,
+      c.in-Ok-key.ensures.ok,
+      c.in-Ok.ensures.ok,
       append_assoc,
     ) refl) c.end_object.ensures.ok

@@ -5,7 +5,7 @@ use Rattle.json.specs.Json.{Members, no_members, member}
 use Rattle.serde_json.specs.Data.{string}
 use Rattle.serde_json.specs.Written.{outline}
 use Rattle.plan_text_pieces.specs.Values.{names_data, nullable_data}
-use Rattle.plan_text_pieces.proofs.TokenLemmas.{object-begun, member-done}
+use Rattle.plan_text_pieces.proofs.TokenLemmas.{object-begun, member-put}
 use Rattle.plan_text_pieces.proofs.functions.write_unpivot.Goals as goal
 
 pub returns-clause-tokens : goal.returns-clause-tokens
@@ -17,8 +17,8 @@ returns-clause-tokens c =
     let index : Members = member (codes "index") (outline (names_data c.args.index.now)) on in
     on_ok_weaker c.end_object.result (λ ended.
     ended
-    ∙ member-done _ _ _ _ _ no_members c.in_ok-key-4.ensures.ok c.in_ok-write_optional_name-2.ensures.tokens
-    ∙ member-done _ _ _ _ _ variable c.in_ok-key-3.ensures.ok c.in_ok-write_optional_name.ensures.tokens
-    ∙ member-done _ _ _ _ _ value c.in_ok-key-2.ensures.ok c.in_ok-write_names-2.ensures.tokens
-    ∙ member-done _ _ _ _ _ on c.in_ok-key.ensures.ok c.in_ok-write_names.ensures.tokens
-    ∙ object-begun _ _ index c.in_ok-begin_object.ensures.ok) c.end_object.ensures.ok
+    ∙ member-put _ _ _ _ no_members c.in-Ok-write_optional_name_at-2.ensures.tokens
+    ∙ member-put _ _ _ _ variable c.in-Ok-write_optional_name_at.ensures.tokens
+    ∙ member-put _ _ _ _ value c.in-Ok-write_names_at-2.ensures.tokens
+    ∙ member-put _ _ _ _ on c.in-Ok-write_names_at.ensures.tokens
+    ∙ object-begun _ _ index c.in-Ok.ensures.ok) c.end_object.ensures.ok

@@ -1,5 +1,6 @@
 use Rattle.std.proofs.Common.{◌≡◌, ◌∙◌, ◌+◌, ℕ, All, List, [], ◌∷◌, Some, ap, ap₂, arith, get_or, map, refl, subst, sym, take}
 use Rattle.std.proofs.lemmas.Option.{slice_get-get_or}
+use Rattle.std.proofs.lemmas.Result.{IfOk-weaker}
 use Rattle.plan_core.specs.declared.arena.Node.{Node}
 use Rattle.plan_expr.specs.Exprs.{Expr, expr_at}
 use Rattle.plan_expr.specs.Leaves.{Name, leaves}
@@ -83,9 +84,9 @@ pub choice-returns : goal.choice-returns
 choice-returns t c =
     let f = frame_of c.args.table.now in
     let ex = c.args.ex.now in
-    c.in_ok-chosen.ensures
+    IfOk-weaker c.chosen-values.result _ _ (λ vs h. h
     ∙ ap₂ (λ (x y : Cell). chosen f.height x y (cell_of c.in_ok-predicate.predicate)) c.in_ok-truthy.ensures c.in_ok-falsy.ensures
-    ∙ ap (chosen f.height (val (expr_at ex c.args.truthy) f) (val (expr_at ex c.args.falsy) f)) c.in_ok-predicate.ensures
+    ∙ ap (chosen f.height (val (expr_at ex c.args.truthy) f) (val (expr_at ex c.args.falsy) f)) c.in_ok-predicate.ensures) c.chosen-values.ensures
 
 pub evaluate_expr-evaluate_expr-requires-in-Agg : goal.evaluate_expr-evaluate_expr-requires-in-Agg
 evaluate_expr-evaluate_expr-requires-in-Agg t c =
@@ -111,51 +112,51 @@ evaluate_expr-window-requires t c =
     let keys = keys_down c.args.ex.now c.args.node c.in-Window.function c.in-Window.partition_by c.requires e in
     (omega (arith, low, same, c.decreases), (d.1, subst (All (IsExpr c.args.ex.now)) (sym c.as_slice-in-Window.ensures) keys))
 
-pub evaluate_expr-returns-in_ok-column-in-Column : goal.evaluate_expr-returns-in_ok-column-in-Column
-evaluate_expr-returns-in_ok-column-in-Column t c =
-    ap many (c.in_ok-column-in-Column.ensures ∙ ap (column_or (frame_of c.args.table.now)) c.as_str.ensures)
-    ∙ ap (λ (x : Expr). val x (frame_of c.args.table.now)) (sym (expr_open c.args.ex.now c.args.node (Column c.in-Column.name) c.requires (c.get.ensures.entry ∙ ap Some c.in-Column.is)))
+pub evaluate_expr-returns-in-Column : goal.evaluate_expr-returns-in-Column
+evaluate_expr-returns-in-Column t c =
+    IfOk-weaker c.column_values.result _ _ (λ vs h. h ∙ ap (λ (a : Name). many (column_or (frame_of c.args.table.now) a)) c.as_str.ensures
+    ∙ ap (λ (x : Expr). val x (frame_of c.args.table.now)) (sym (expr_open c.args.ex.now c.args.node (Column c.in-Column.name) c.requires (c.get.ensures.entry ∙ ap Some c.in-Column.is)))) c.column_values.ensures
 
-pub evaluate_expr-returns-in_ok-literal-in-Literal : goal.evaluate_expr-returns-in_ok-literal-in-Literal
-evaluate_expr-returns-in_ok-literal-in-Literal t c =
-    ap one c.in_ok-literal-in-Literal.ensures
-    ∙ ap (λ (x : Expr). val x (frame_of c.args.table.now)) (sym (expr_open c.args.ex.now c.args.node (Literal c.in-Literal.value) c.requires (c.get.ensures.entry ∙ ap Some c.in-Literal.is)))
+pub evaluate_expr-returns-in-Literal : goal.evaluate_expr-returns-in-Literal
+evaluate_expr-returns-in-Literal t c =
+    IfOk-weaker c.literal_values.result _ _ (λ vs h. h
+    ∙ ap (λ (x : Expr). val x (frame_of c.args.table.now)) (sym (expr_open c.args.ex.now c.args.node (Literal c.in-Literal.value) c.requires (c.get.ensures.entry ∙ ap Some c.in-Literal.is)))) c.literal_values.ensures
 
-pub evaluate_expr-returns-in_ok-evaluate_expr-in-Alias : goal.evaluate_expr-returns-in_ok-evaluate_expr-in-Alias
-evaluate_expr-returns-in_ok-evaluate_expr-in-Alias t c =
-    c.in_ok-evaluate_expr-in-Alias.ensures
-    ∙ ap (λ (x : Expr). val x (frame_of c.args.table.now)) (sym (expr_open c.args.ex.now c.args.node (Alias c.in-Alias.input c.in-Alias.field-1) c.requires (c.get.ensures.entry ∙ ap Some c.in-Alias.is)))
+pub evaluate_expr-returns-in-Alias : goal.evaluate_expr-returns-in-Alias
+evaluate_expr-returns-in-Alias t c =
+    IfOk-weaker c.evaluate_expr.result _ _ (λ vs h. h
+    ∙ ap (λ (x : Expr). val x (frame_of c.args.table.now)) (sym (expr_open c.args.ex.now c.args.node (Alias c.in-Alias.input c.in-Alias.field-1) c.requires (c.get.ensures.entry ∙ ap Some c.in-Alias.is)))) c.evaluate_expr.ensures
 
-pub evaluate_expr-returns-in_ok-spread-in-BinaryExpr : goal.evaluate_expr-returns-in_ok-spread-in-BinaryExpr
-evaluate_expr-returns-in_ok-spread-in-BinaryExpr t c =
-    c.in_ok-spread-in-BinaryExpr.ensures
+pub evaluate_expr-returns-in_ok-right-in-BinaryExpr : goal.evaluate_expr-returns-in_ok-right-in-BinaryExpr
+evaluate_expr-returns-in_ok-right-in-BinaryExpr t c =
+    IfOk-weaker c.spread.result _ _ (λ vs h. h
     ∙ ap₂ (spread (operated c.in-BinaryExpr.op)) c.in_ok-left-in-BinaryExpr.ensures c.in_ok-right-in-BinaryExpr.ensures
-    ∙ ap (λ (x : Expr). val x (frame_of c.args.table.now)) (sym (expr_open c.args.ex.now c.args.node (BinaryExpr c.in-BinaryExpr.left c.in-BinaryExpr.op c.in-BinaryExpr.right) c.requires (c.get.ensures.entry ∙ ap Some c.in-BinaryExpr.is)))
+    ∙ ap (λ (x : Expr). val x (frame_of c.args.table.now)) (sym (expr_open c.args.ex.now c.args.node (BinaryExpr c.in-BinaryExpr.left c.in-BinaryExpr.op c.in-BinaryExpr.right) c.requires (c.get.ensures.entry ∙ ap Some c.in-BinaryExpr.is)))) c.spread.ensures
 
-pub evaluate_expr-returns-in_ok-choice-in-Ternary : goal.evaluate_expr-returns-in_ok-choice-in-Ternary
-evaluate_expr-returns-in_ok-choice-in-Ternary t c =
-    c.in_ok-choice-in-Ternary.ensures
-    ∙ ap (λ (x : Expr). val x (frame_of c.args.table.now)) (sym (expr_open c.args.ex.now c.args.node (Ternary c.in-Ternary.predicate c.in-Ternary.truthy c.in-Ternary.falsy) c.requires (c.get.ensures.entry ∙ ap Some c.in-Ternary.is)))
+pub evaluate_expr-returns-in-Ternary : goal.evaluate_expr-returns-in-Ternary
+evaluate_expr-returns-in-Ternary t c =
+    IfOk-weaker c.choice.result _ _ (λ vs h. h
+    ∙ ap (λ (x : Expr). val x (frame_of c.args.table.now)) (sym (expr_open c.args.ex.now c.args.node (Ternary c.in-Ternary.predicate c.in-Ternary.truthy c.in-Ternary.falsy) c.requires (c.get.ensures.entry ∙ ap Some c.in-Ternary.is)))) c.choice.ensures
 
-pub evaluate_expr-returns-in_ok-aggregate-in-Agg : goal.evaluate_expr-returns-in_ok-aggregate-in-Agg
-evaluate_expr-returns-in_ok-aggregate-in-Agg t c =
+pub evaluate_expr-returns-in_ok-input-in-Agg : goal.evaluate_expr-returns-in_ok-input-in-Agg
+evaluate_expr-returns-in_ok-input-in-Agg t c =
     let f = frame_of c.args.table.now in
-    ap one (c.in_ok-aggregate-in-Agg.ensures
-    ∙ ap₂ (λ (op : Aggregate) (x : Cell). aggregated op (cell_values x)) c.aggregate.ensures (c.in_ok-input-in-Agg.ensures ∙ ap (λ (n : Node). val (expr_at c.args.ex.now n) f) c.input.ensures))
-    ∙ ap (λ (x : Expr). val x (frame_of c.args.table.now)) (sym (expr_open c.args.ex.now c.args.node (Agg c.in-Agg.agg) c.requires (c.get.ensures.entry ∙ ap Some c.in-Agg.is)))
+    IfOk-weaker c.aggregate_values-values.result _ _ (λ vs h. h
+    ∙ ap one (ap₂ (λ (op : Aggregate) (x : Cell). aggregated op (cell_values x)) c.aggregate.ensures (c.in_ok-input-in-Agg.ensures ∙ ap (λ (n : Node). val (expr_at c.args.ex.now n) f) c.input.ensures))
+    ∙ ap (λ (x : Expr). val x (frame_of c.args.table.now)) (sym (expr_open c.args.ex.now c.args.node (Agg c.in-Agg.agg) c.requires (c.get.ensures.entry ∙ ap Some c.in-Agg.is)))) c.aggregate_values-values.ensures
 
-pub evaluate_expr-returns-in_ok-call-in-Function : goal.evaluate_expr-returns-in_ok-call-in-Function
-evaluate_expr-returns-in_ok-call-in-Function t c =
-    c.in_ok-call-in-Function.ensures
+pub evaluate_expr-returns-in-Function : goal.evaluate_expr-returns-in-Function
+evaluate_expr-returns-in-Function t c =
+    IfOk-weaker c.call.result _ _ (λ vs h. h
     ∙ ap (λ (l : List Node). called c.in-Function.function (cells_at c.args.ex.now l (frame_of c.args.table.now))) c.as_slice.ensures
-    ∙ ap (λ (x : Expr). val x (frame_of c.args.table.now)) (sym (expr_open c.args.ex.now c.args.node (Function c.in-Function.input c.in-Function.function c.in-Function.options) c.requires (c.get.ensures.entry ∙ ap Some c.in-Function.is)))
+    ∙ ap (λ (x : Expr). val x (frame_of c.args.table.now)) (sym (expr_open c.args.ex.now c.args.node (Function c.in-Function.input c.in-Function.function c.in-Function.options) c.requires (c.get.ensures.entry ∙ ap Some c.in-Function.is)))) c.call.ensures
 
-pub evaluate_expr-returns-in_ok-window-in-Window : goal.evaluate_expr-returns-in_ok-window-in-Window
-evaluate_expr-returns-in_ok-window-in-Window t c =
+pub evaluate_expr-returns-in-Window : goal.evaluate_expr-returns-in-Window
+evaluate_expr-returns-in-Window t c =
     let f = frame_of c.args.table.now in
-    c.in_ok-window-in-Window.ensures
+    IfOk-weaker c.window.result _ _ (λ vs h. h
     ∙ ap (λ (l : List Node). windowed (val (expr_at c.args.ex.now c.in-Window.function)) (cells_at c.args.ex.now l f) f) c.as_slice-in-Window.ensures
-    ∙ ap (λ (x : Expr). val x (frame_of c.args.table.now)) (sym (expr_open c.args.ex.now c.args.node (Window c.in-Window.function c.in-Window.partition_by) c.requires (c.get.ensures.entry ∙ ap Some c.in-Window.is)))
+    ∙ ap (λ (x : Expr). val x (frame_of c.args.table.now)) (sym (expr_open c.args.ex.now c.args.node (Window c.in-Window.function c.in-Window.partition_by) c.requires (c.get.ensures.entry ∙ ap Some c.in-Window.is)))) c.window.ensures
 
 pub evaluate_expr-returns-in-Len : goal.evaluate_expr-returns-in-Len
 evaluate_expr-returns-in-Len t c =

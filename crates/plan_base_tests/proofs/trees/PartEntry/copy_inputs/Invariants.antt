@@ -1,6 +1,0 @@
--- A step of the loop copies one input.
-use Rattle.std.proofs.Common.{◌≡◌, take, ◌++◌}
-use Rattle.plan_base_tests.proofs.trees.PartEntry.copy_inputs.Given as goal
-
-abbrev pub invariant-loop-input : goal.invariant-loop-input
-invariant-loop-input l = l.out ≡ l.initial.out ++ take l.input-index l.input-items

@@ -1,6 +1,0 @@
-use Rattle.std.proofs.Common.{◌≡◌, map, take}
-use Rattle.plan_ir.specs.Moved.{moved_named}
-use Rattle.plan_ir.proofs.copy.move_named.Given as goal
-
-abbrev pub invariant-loop-expr : goal.invariant-loop-expr
-invariant-loop-expr l = l.moved ≡ map (λ e. moved_named l.exprs e.now) (take l.expr-index l.expr-items)

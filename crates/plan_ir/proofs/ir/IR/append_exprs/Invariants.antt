@@ -1,5 +1,0 @@
-use Rattle.std.proofs.Common.{◌≡◌, ◌++◌, map, take}
-use Rattle.plan_ir.proofs.ir.IR.append_exprs.Given as goal
-
-abbrev pub invariant-loop-expr : goal.invariant-loop-expr
-invariant-loop-expr l = l.out ≡ l.initial.out ++ map (λ e. e.now) (take l.expr-index l.expr-items)

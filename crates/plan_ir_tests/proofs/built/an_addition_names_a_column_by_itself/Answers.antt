@@ -1,0 +1,31 @@
+use Rattle.std.proofs.Common.{◌≡◌, ◌∙◌, ◌++◌, ◌∷◌, List, [], ap, codes, length, refl, subst, sym, None, Some}
+use Rattle.plan_core.specs.declared.data_type.DataType.TheVariants.{String}
+use Rattle.plan_expr.specs.declared.aexpr.AExpr.{AExpr}
+use Rattle.plan_expr.specs.declared.aexpr.AExpr.TheVariants.{Column}
+use Rattle.plan_expr.specs.declared.expr_ir.OutputName.TheVariants.{ColumnLhs}
+use Rattle.plan_expr.specs.Leaves.{Name}
+use Rattle.plan_ir.specs.declared.ir.IR.{IR}
+use Rattle.plan_ir.specs.declared.ir.IR.TheVariants.{DataFrameScan}
+use Rattle.plan_builder.specs.Builds.{Adds, MayFollow, own_expr}
+use Rattle.plan_core.specs.Columns.{Columns, names_of}
+use Rattle.plan_meaning.specs.Functions.{all_differ}
+use Rattle.plan_ir_tests.proofs.TestLemmas.{frame_follows, adds_columns, own_column}
+use Rattle.plan_ir_tests.proofs.built.an_addition_names_a_column_by_itself.Goals as goal
+
+pub from_lp-requires : goal.from_lp-requires
+from_lp-requires g c =
+    let f = c.in_ok-frame.ensures in
+    subst (λ (p : IR). MayFollow c.new-lp.result c.add.new.self p) (sym f.1) (frame_follows c.new-lp.result c.add.new.self f.0 (ap (λ (s : Columns). all_differ (names_of s)) f.4))
+
+pub with_columns_simple-requires-clause-follows : goal.with_columns_simple-requires-clause-follows
+with_columns_simple-requires-clause-follows g c =
+    let f = c.in_ok-frame.ensures in
+    let builder = c.in_ok-builder.builder in
+    let is : builder.expr_arena.now ≡ Column (codes "c") ∷ [] =
+    c.in_ok-builder.ensures.exprs ∙ c.in_ok-column.ensures.added
+    ∙ ap (λ (l : List AExpr). l ++ Column c.in_ok-new.field-0 ∷ []) c.new-ex.ensures
+    ∙ ap (λ (a : Name). Column a ∷ []) c.in_ok-new.ensures
+    in
+    let first : c.in_ok-column.column.0 ≡ 0 = c.in_ok-column.ensures.node ∙ ap (λ (l : List AExpr). length l) c.new-ex.ensures in
+    let adds : Adds c.new-lp.result builder.lp_arena.now builder.root (DataFrameScan (Some 0) f.0 None) = subst (λ (p : IR). Adds c.new-lp.result builder.lp_arena.now builder.root p) f.1 c.in_ok-builder.ensures.added in
+    adds_columns c.new-lp.result builder.lp_arena.now builder.expr_arena.now builder.root f.0 (codes "c") c.in_ok-column.column String (ColumnLhs (codes "c")) (own_expr builder.expr_arena.now c.in_ok-column.column ∷ []) c.default.result is first adds c.in_ok-builder.ensures.built f.3 refl (ap (λ e. e ∷ []) (own_column builder.expr_arena.now (codes "c") c.in_ok-column.column is first))
