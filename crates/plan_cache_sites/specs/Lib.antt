@@ -1,0 +1,4 @@
+-- The definitions that contracts cite.
+pub mod CacheSites
+pub mod Handled
+pub mod SideBySide

@@ -1,0 +1,4 @@
+-- The definitions that contracts cite.
+pub mod Sites
+pub mod Collapsed
+pub mod Worked

@@ -1,0 +1,5 @@
+-- The lemmas of this crate.
+pub mod OrderedRefines
+pub mod SharedOrder
+pub mod OrderSites
+pub mod OrderScans

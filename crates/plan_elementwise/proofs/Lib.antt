@@ -1,0 +1,4 @@
+-- The lemmas of this crate.
+pub mod RowWise
+pub mod Minterms
+pub mod MintermTrees

@@ -1,0 +1,4 @@
+//! The order of pairs that a join chooses among those that are asked.
+#![tactic(auto)]
+
+pub mod laws;

@@ -1,0 +1,6 @@
+-- The lemmas of this crate.
+pub mod CacheLists
+pub mod CachesLeft
+pub mod ScanLists
+pub mod WholeCuts
+pub mod SmallerBelow

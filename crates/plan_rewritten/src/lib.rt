@@ -1,0 +1,4 @@
+//! Plans over two arenas of which nodes and expressions become others: the laws.
+#![tactic(auto)]
+
+pub mod laws;

@@ -1,0 +1,4 @@
+//! Laws of frames whose rows stand in another order.
+#![tactic(auto)]
+
+pub mod laws;

@@ -1,0 +1,6 @@
+-- The definitions that contracts cite.
+pub mod Weights
+pub mod Answers
+pub mod AnswerCases
+pub mod Patterns
+pub mod Clearing

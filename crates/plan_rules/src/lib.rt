@@ -1,0 +1,7 @@
+//! What the rules of plans answer, and the laws of these answers.
+#![tactic(auto)]
+
+mod kind;
+pub mod laws;
+
+pub use kind::RuleKind;

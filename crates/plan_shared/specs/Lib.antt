@@ -1,0 +1,3 @@
+-- The definitions that contracts cite.
+pub mod CacheStates
+pub mod WorkedCaches
