@@ -108,18 +108,30 @@ fn inner() -> JoinOptions
     }
 }
 
-/// The names of the columns, each followed by a blank.
-fn named(alloc: Global, columns: &Schema) -> Result<String, AllocError> {
-    let mut text = String::new(alloc);
-    for (name, _) in columns.iter() {
-        text.push_str(name)?;
-        text.push_str(" ")?;
+/// Whether columns have these names and types, in order.
+fn are_columns(columns: &Schema, wanted: &[(&str, DataType)]) -> bool {
+    for ((name, dtype), (wanted_name, wanted_type)) in columns.iter().zip(wanted) {
+        if name != *wanted_name || *dtype != *wanted_type {
+            return false;
+        }
     }
-    Ok(text)
+    columns.len() == wanted.len()
 }
 
-/// The names of the columns once a projection to some is put on the frame.
-fn projected(alloc: Global, names: &[&str]) -> PolarsResult<String> {
+/// Whether the plan of a builder has these columns, in order.
+fn has_columns(
+    alloc: Global,
+    builder: &IRBuilder,
+    wanted: &[(&str, DataType)],
+) -> Result<bool, AllocError>
+    requires { IsBuilt builder.now.lp_arena.now builder.now.expr_arena.now builder.now.root }
+{
+    let columns = builder.schema(alloc)?;
+    Ok(are_columns(&columns, wanted))
+}
+
+/// The columns once a projection to some is put on the frame.
+fn projected(alloc: Global, names: &[&str]) -> PolarsResult<Schema> {
     let ex = Arena::new(alloc);
     let mut lp = Arena::new(alloc);
     let root = lp.add(frame(alloc)?)?;
@@ -127,7 +139,25 @@ fn projected(alloc: Global, names: &[&str]) -> PolarsResult<String> {
     let mut builder = IRBuilder::new(root, &ex, &mut lp);
     let names = listed(alloc, names)?;
     builder.project_simple(alloc, names.as_slice())?;
-    Ok(named(alloc, &builder.schema(alloc)?)?)
+    Ok(builder.schema(alloc)?)
+}
+
+/// Whether a projection of the frame to some columns has these.
+fn projects(
+    alloc: Global,
+    names: &[&str],
+    wanted: &[(&str, DataType)],
+) -> Result<bool, PolarsError> {
+    let columns = projected(alloc, names)?;
+    Ok(are_columns(&columns, wanted))
+}
+
+/// The fault of a projection of the frame to some columns.
+fn fault(alloc: Global, names: &[&str]) -> Option<PolarsError> {
+    match projected(alloc, names) {
+        Ok(_) => None,
+        Err(fault) => Some(fault),
+    }
 }
 
 /// The place of an item outside plans.
@@ -135,23 +165,30 @@ fn item(place: u32) -> At {
     At { node: None, place }
 }
 
+/// The columns of the frame.
+const FRAME: [(&str, DataType); 3] = [
+    ("a", DataType::Int64),
+    ("b", DataType::Int64),
+    ("c", DataType::String),
+];
+
 #[test]
 fn columns_are_projected_by_their_names(rt: HostRuntime) -> Result<(), Fail> {
     let alloc = rt.alloc();
-    assert_eq!(rt; projected(alloc, &["c", "a"])?.as_str(), "c a ");
-    assert_eq!(rt; projected(alloc, &[])?.as_str(), "a b c ");
-    let absent = projected(alloc, &["a", "d"]).err();
-    assert_eq!(rt; absent, Some(PolarsError::SchemaFieldNotFound(item(1))));
-    let twice = projected(alloc, &["a", "a"]).err();
-    assert_eq!(rt; twice, Some(PolarsError::Duplicate(item(1))));
-    let both = projected(alloc, &["a", "a", "d"]).err();
-    assert_eq!(rt; both, Some(PolarsError::SchemaFieldNotFound(item(2))));
+    let two = [("c", DataType::String), ("a", DataType::Int64)];
+    assert!(rt; projects(alloc, &["c", "a"], &two)?);
+    assert!(rt; projects(alloc, &[], &FRAME)?);
+    let absent = Some(PolarsError::SchemaFieldNotFound(item(1)));
+    assert!(rt; fault(alloc, &["a", "d"]) == absent);
+    let twice = Some(PolarsError::Duplicate(item(1)));
+    assert!(rt; fault(alloc, &["a", "a"]) == twice);
+    let both = Some(PolarsError::SchemaFieldNotFound(item(2)));
+    assert!(rt; fault(alloc, &["a", "a", "d"]) == both);
     Ok(())
 }
 
-#[test]
-fn columns_are_projected_by_their_numbers(rt: HostRuntime) -> Result<(), Fail> {
-    let alloc = rt.alloc();
+/// Whether a projection by the number of a column has that column, and is handed out.
+fn columns_are_projected_by_their_numbers(alloc: Global) -> PolarsResult<bool> {
     let mut ex = Arena::new(alloc);
     let column = ex.add(AExpr::Column(PlSmallStr::new(alloc, "b")?))?;
     let mut lp = Arena::new(alloc);
@@ -159,17 +196,15 @@ fn columns_are_projected_by_their_numbers(rt: HostRuntime) -> Result<(), Fail> {
     let _ = check_plan(alloc, root, &lp, &ex)?;
     let mut builder = IRBuilder::new(root, &ex, &mut lp);
     builder.project_simple_nodes(alloc, &[column])?;
-    assert_eq!(rt; named(alloc, &builder.schema(alloc)?)?.as_str(), "b ");
-    assert_eq!(rt; builder.node(), Node(1));
-    assert!(rt; matches!(builder.build(), IR::SimpleProjection { input: Node(0), .. }));
-    assert!(rt; matches!(lp.get(Node(1)), IR::Invalid));
-    assert_eq!(rt; lp.len(), 2);
-    Ok(())
+    let has_it = has_columns(alloc, &builder, &[("b", DataType::Int64)])?;
+    let is_last = builder.node() == Node(1);
+    let built = builder.build();
+    let is_projection = matches!(built, IR::SimpleProjection { input: Node(0), .. });
+    Ok(has_it && is_last && is_projection)
 }
 
-#[test]
-fn nodes_are_put_on_one_another(rt: HostRuntime) -> Result<(), Fail> {
-    let alloc = rt.alloc();
+/// Whether a slice on the frame has its columns.
+fn nodes_are_put_on_one_another(alloc: Global) -> Result<bool, AllocError> {
     let ex = Arena::new(alloc);
     let mut lp = Arena::new(alloc);
     let mut builder = IRBuilder::from_lp(&mut lp, &ex, frame(alloc)?)?;
@@ -179,83 +214,73 @@ fn nodes_are_put_on_one_another(rt: HostRuntime) -> Result<(), Fail> {
         len: 5,
     };
     builder.add_alp(slice)?;
-    assert_eq!(rt; named(alloc, &builder.schema(alloc)?)?.as_str(), "a b c ");
-    assert_eq!(rt; builder.node(), Node(1));
-    Ok(())
+    has_columns(alloc, &builder, &FRAME)
 }
 
-#[test]
-fn a_selection_has_what_expressions_make(rt: HostRuntime) -> Result<(), Fail> {
-    let alloc = rt.alloc();
+/// Whether a selection of a column under another name has a column of that name.
+fn a_selection_has_what_expressions_make(alloc: Global) -> Result<bool, AllocError> {
     let mut ex = Arena::new(alloc);
     let column = ex.add(AExpr::Column(PlSmallStr::new(alloc, "a")?))?;
     let mut lp = Arena::new(alloc);
     let mut builder = IRBuilder::from_lp(&mut lp, &ex, frame(alloc)?)?;
     let exprs = under(alloc, column, "z")?;
     builder.project(alloc, exprs, ProjectionOptions::default())?;
-    assert_eq!(rt; named(alloc, &builder.schema(alloc)?)?.as_str(), "z ");
-    Ok(())
+    has_columns(alloc, &builder, &[("z", DataType::Int64)])
 }
 
-#[test]
-fn an_addition_replaces_a_column_of_its_name(rt: HostRuntime) -> Result<(), Fail> {
-    let alloc = rt.alloc();
+/// Whether an addition of a column under the name of another takes its place.
+fn an_addition_replaces_a_column_of_its_name(alloc: Global) -> Result<bool, AllocError> {
     let mut ex = Arena::new(alloc);
     let column = ex.add(AExpr::Column(PlSmallStr::new(alloc, "a")?))?;
     let mut lp = Arena::new(alloc);
     let mut builder = IRBuilder::from_lp(&mut lp, &ex, frame(alloc)?)?;
     let exprs = under(alloc, column, "b")?;
     builder.with_columns(alloc, exprs, ProjectionOptions::default())?;
-    let schema = builder.schema(alloc)?;
-    assert_eq!(rt; named(alloc, &schema)?.as_str(), "a b c ");
-    assert_eq!(rt; schema.get("b"), Some(&DataType::Int64));
-    Ok(())
+    has_columns(alloc, &builder, &FRAME)
 }
 
-#[test]
-fn an_addition_names_a_column_by_itself(rt: HostRuntime) -> Result<(), Fail> {
-    let alloc = rt.alloc();
+/// Whether a column that is added by itself stays where it is.
+fn an_addition_names_a_column_by_itself(alloc: Global) -> Result<bool, AllocError> {
     let mut ex = Arena::new(alloc);
     let column = ex.add(AExpr::Column(PlSmallStr::new(alloc, "c")?))?;
     let mut lp = Arena::new(alloc);
     let mut builder = IRBuilder::from_lp(&mut lp, &ex, frame(alloc)?)?;
     builder.with_columns_simple(alloc, &[column], ProjectionOptions::default())?;
-    let schema = builder.schema(alloc)?;
-    assert_eq!(rt; named(alloc, &schema)?.as_str(), "a b c ");
-    assert_eq!(rt; schema.get("c"), Some(&DataType::String));
-    Ok(())
+    has_columns(alloc, &builder, &FRAME)
 }
 
-#[test]
-fn rows_are_numbered(rt: HostRuntime) -> Result<(), Fail> {
-    let alloc = rt.alloc();
+/// Whether row numbers are a first column.
+fn rows_are_numbered(alloc: Global) -> Result<bool, AllocError> {
     let ex = Arena::new(alloc);
     let mut lp = Arena::new(alloc);
     let mut builder = IRBuilder::from_lp(&mut lp, &ex, frame(alloc)?)?;
     builder.row_index(PlSmallStr::new(alloc, "i")?, None)?;
-    let schema = builder.schema(alloc)?;
-    assert_eq!(rt; named(alloc, &schema)?.as_str(), "i a b c ");
-    assert_eq!(rt; schema.get("i"), Some(&DataType::Int64));
-    Ok(())
+    has_columns(
+        alloc,
+        &builder,
+        &[("i", DataType::Int64), FRAME[0], FRAME[1], FRAME[2]],
+    )
 }
 
-#[test]
-fn a_column_is_unpivoted(rt: HostRuntime) -> Result<(), Fail> {
-    let alloc = rt.alloc();
+/// Whether an unpivot has the columns that stay, the names and the values.
+fn a_column_is_unpivoted(alloc: Global) -> Result<bool, AllocError> {
     let ex = Arena::new(alloc);
     let mut lp = Arena::new(alloc);
     let mut builder = IRBuilder::from_lp(&mut lp, &ex, frame(alloc)?)?;
     builder.unpivot(unpivot_of_b(alloc)?)?;
-    let schema = builder.schema(alloc)?;
-    assert_eq!(rt; named(alloc, &schema)?.as_str(), "a variable value ");
-    assert_eq!(rt; schema.get("variable"), Some(&DataType::String));
-    assert_eq!(rt; schema.get("value"), Some(&DataType::Int64));
-    Ok(())
+    has_columns(
+        alloc,
+        &builder,
+        &[
+            ("a", DataType::Int64),
+            ("variable", DataType::String),
+            ("value", DataType::Int64),
+        ],
+    )
 }
 
-#[test]
-fn rows_are_grouped(rt: HostRuntime) -> Result<(), Fail> {
-    let alloc = rt.alloc();
+/// Whether a grouping has its keys, and lists of what isn't a scalar.
+fn rows_are_grouped(alloc: Global) -> Result<bool, AllocError> {
     let mut ex = Arena::new(alloc);
     let key = ex.add(AExpr::Column(PlSmallStr::new(alloc, "a")?))?;
     let agg = ex.add(AExpr::Column(PlSmallStr::new(alloc, "b")?))?;
@@ -264,16 +289,18 @@ fn rows_are_grouped(rt: HostRuntime) -> Result<(), Fail> {
     let keys = under(alloc, key, "a")?;
     let aggs = under(alloc, agg, "b")?;
     builder.group_by(alloc, keys, aggs, false, GroupbyOptions::default())?;
-    let schema = builder.schema(alloc)?;
-    assert_eq!(rt; named(alloc, &schema)?.as_str(), "a b ");
-    assert_eq!(rt; schema.get("a"), Some(&DataType::Int64));
-    assert_eq!(rt; schema.get("b"), Some(&DataType::List(PlainType::Int64)));
-    Ok(())
+    has_columns(
+        alloc,
+        &builder,
+        &[
+            ("a", DataType::Int64),
+            ("b", DataType::List(PlainType::Int64)),
+        ],
+    )
 }
 
-#[test]
-fn tables_are_joined(rt: HostRuntime) -> Result<(), Fail> {
-    let alloc = rt.alloc();
+/// Whether a join has the columns of both sides, those of the right one under names of their own.
+fn tables_are_joined(alloc: Global) -> Result<bool, AllocError> {
     let mut ex = Arena::new(alloc);
     let left_key = ex.add(AExpr::Column(PlSmallStr::new(alloc, "a")?))?;
     let right_key = ex.add(AExpr::Column(PlSmallStr::new(alloc, "a")?))?;
@@ -283,22 +310,40 @@ fn tables_are_joined(rt: HostRuntime) -> Result<(), Fail> {
     let left_on = under(alloc, left_key, "a")?;
     let right_on = under(alloc, right_key, "a")?;
     builder.join(alloc, other, left_on, right_on, inner())?;
-    let schema = builder.schema(alloc)?;
-    assert_eq!(rt; named(alloc, &schema)?.as_str(), "a b c b_right c_right ");
-    assert_eq!(rt; schema.get("b_right"), Some(&DataType::Int64));
-    assert_eq!(rt; schema.get("c_right"), Some(&DataType::String));
-    Ok(())
+    has_columns(
+        alloc,
+        &builder,
+        &[
+            FRAME[0],
+            FRAME[1],
+            FRAME[2],
+            ("b_right", DataType::Int64),
+            ("c_right", DataType::String),
+        ],
+    )
 }
 
-#[test]
-fn lists_are_taken_apart(rt: HostRuntime) -> Result<(), Fail> {
-    let alloc = rt.alloc();
+/// Whether lists that are taken apart are a column of their values.
+fn lists_are_taken_apart(alloc: Global) -> Result<bool, AllocError> {
     let ex = Arena::new(alloc);
     let mut lp = Arena::new(alloc);
     let mut builder = IRBuilder::from_lp(&mut lp, &ex, frame_of_lists(alloc)?)?;
     builder.explode(single(alloc, "l")?)?;
-    let schema = builder.schema(alloc)?;
-    assert_eq!(rt; named(alloc, &schema)?.as_str(), "l ");
-    assert_eq!(rt; schema.get("l"), Some(&DataType::Int64));
+    has_columns(alloc, &builder, &[("l", DataType::Int64)])
+}
+
+#[test]
+fn nodes_have_their_columns(rt: HostRuntime) -> Result<(), Fail> {
+    let alloc = rt.alloc();
+    assert!(rt; columns_are_projected_by_their_numbers(alloc)?);
+    assert!(rt; nodes_are_put_on_one_another(alloc)?);
+    assert!(rt; a_selection_has_what_expressions_make(alloc)?);
+    assert!(rt; an_addition_replaces_a_column_of_its_name(alloc)?);
+    assert!(rt; an_addition_names_a_column_by_itself(alloc)?);
+    assert!(rt; rows_are_numbered(alloc)?);
+    assert!(rt; a_column_is_unpivoted(alloc)?);
+    assert!(rt; rows_are_grouped(alloc)?);
+    assert!(rt; tables_are_joined(alloc)?);
+    assert!(rt; lists_are_taken_apart(alloc)?);
     Ok(())
 }

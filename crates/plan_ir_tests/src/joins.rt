@@ -3,7 +3,7 @@ ghost use Rattle.std.specs.Prelude.{◌≡◌, length, IfOk};
 ghost use Rattle.plan_ir.specs.Parts.{inputs_of, listed_exprs_of};
 
 use crate::made::{cross_join, join, scan};
-use crate::plans::{are_alike, has_inputs, listed, walked};
+use crate::plans::{are_alike, are_walked, has_inputs, lists};
 use plan_core::{Arena, Items, Node};
 use plan_ir::IR;
 use std::alloc::{AllocError, Global};
@@ -35,40 +35,41 @@ fn join_lists_sides(alloc: Global) -> Result<bool, AllocError> {
     has_inputs(alloc, &node, &[Node(2), Node(1)])
 }
 
-/// The numbers of the keys that a join lists.
-fn listed_of_a_join(alloc: Global) -> Result<Items<Node>, AllocError> {
+/// Whether a join lists its keys in order.
+fn join_lists_keys(alloc: Global) -> Result<bool, AllocError> {
     let node = join(alloc, Node(2), Node(1), Node(4), Node(5))?;
-    listed(alloc, &node)
+    lists(alloc, &node, &[Node(4), Node(5)])
 }
 
-#[test]
-fn lists_sides_and_keys(rt: HostRuntime) -> Result<(), Fail> {
-    let alloc = rt.alloc();
-    assert!(rt; join_lists_sides(alloc)?);
-    let nodes = listed_of_a_join(alloc)?;
-    assert_eq!(rt; nodes.as_slice(), [Node(4), Node(5)].as_slice());
-    Ok(())
+/// A join with other keys, over other sides.
+fn with_other_keys(alloc: Global, node: &IR) -> Result<IR, AllocError>
+    requires exprs { length (listed_exprs_of node.now) ≡ 2 }
+    requires inputs { length (inputs_of node.now) ≡ 2 }
+{
+    let others = join(alloc, Node(2), Node(1), Node(8), Node(9))?;
+    put_back(alloc, node, &others, &[Node(6), Node(7)])
 }
 
-/// A join with the keys of another, over other sides.
+/// A join that is put back with other keys, over other sides.
 fn join_put_back(alloc: Global) -> Result<IR, AllocError> {
     let node = join(alloc, Node(2), Node(1), Node(4), Node(5))?;
-    let others = join(alloc, Node(2), Node(1), Node(8), Node(9))?;
-    put_back(alloc, &node, &others, &[Node(6), Node(7)])
+    with_other_keys(alloc, &node)
 }
 
-#[test]
-fn puts_a_join_back_over_others(rt: HostRuntime) -> Result<(), Fail> {
-    let copy = join_put_back(rt.alloc())?;
-    let wanted = join(rt.alloc(), Node(6), Node(7), Node(8), Node(9))?;
-    assert!(rt; are_alike(rt.alloc(), copy, wanted)?);
-    Ok(())
+/// Whether a join that is put back has the other sides and keys.
+fn join_is_put_back(alloc: Global) -> Result<bool, AllocError> {
+    let copy = join_put_back(alloc)?;
+    are_alike(
+        alloc,
+        copy,
+        join(alloc, Node(6), Node(7), Node(8), Node(9))?,
+    )
 }
 
-/// How many expressions a cross join under a condition lists.
-fn listed_of_a_cross_join(alloc: Global) -> Result<usize, AllocError> {
+/// Whether a cross join under a condition lists no expression.
+fn condition_is_not_listed(alloc: Global) -> Result<bool, AllocError> {
     let node = cross_join(alloc, Node(2), Node(1), Node(4))?;
-    Ok(node.get_exprs(alloc)?.len())
+    lists(alloc, &node, &[])
 }
 
 /// That join over other sides.
@@ -77,24 +78,34 @@ fn cross_join_put_back(alloc: Global) -> Result<IR, AllocError> {
     put_back(alloc, &node, &node, &[Node(6), Node(7)])
 }
 
-#[test]
-fn a_condition_stays_where_it_is(rt: HostRuntime) -> Result<(), Fail> {
-    assert_eq!(rt; listed_of_a_cross_join(rt.alloc())?, 0);
-    let copy = cross_join_put_back(rt.alloc())?;
-    let wanted = cross_join(rt.alloc(), Node(6), Node(7), Node(4))?;
-    assert!(rt; are_alike(rt.alloc(), copy, wanted)?);
-    Ok(())
+/// Whether the condition stays where it is.
+fn condition_stays(alloc: Global) -> Result<bool, AllocError> {
+    let copy = cross_join_put_back(alloc)?;
+    are_alike(alloc, copy, cross_join(alloc, Node(6), Node(7), Node(4))?)
 }
 
-#[test]
-fn walks_over_the_right_side_first(rt: HostRuntime) -> Result<(), Fail> {
-    let alloc = rt.alloc();
+/// A join of two scans.
+fn join_of_scans(alloc: Global) -> Result<Arena<IR>, AllocError> {
     let mut lp = Arena::new(alloc);
     lp.add(join(alloc, Node(1), Node(2), Node(0), Node(1))?)?;
     lp.add(scan(alloc, None)?)?;
     lp.add(scan(alloc, None)?)?;
-    let numbers = walked(alloc, Node(0), &lp)?.ok_or("a plan")?;
-    let wanted = [Node(0), Node(2), Node(1)];
-    assert_eq!(rt; numbers.as_slice(), wanted.as_slice());
+    Ok(lp)
+}
+
+/// Whether the right side is walked first.
+fn right_side_is_walked_first(alloc: Global) -> Result<bool, AllocError> {
+    let lp = join_of_scans(alloc)?;
+    are_walked(alloc, Node(0), &lp, &[Node(0), Node(2), Node(1)])
+}
+
+#[test]
+fn joins_have_sides_and_keys(rt: HostRuntime) -> Result<(), Fail> {
+    assert!(rt; join_lists_sides(rt.alloc())?);
+    assert!(rt; join_lists_keys(rt.alloc())?);
+    assert!(rt; join_is_put_back(rt.alloc())?);
+    assert!(rt; condition_is_not_listed(rt.alloc())?);
+    assert!(rt; condition_stays(rt.alloc())?);
+    assert!(rt; right_side_is_walked_first(rt.alloc())?);
     Ok(())
 }

@@ -102,25 +102,44 @@ pub fn walked(
     Ok(Some(numbers))
 }
 
-#[test]
-fn walks_over_nodes(rt: HostRuntime) -> Result<(), Fail> {
-    let alloc = rt.alloc();
+/// Whether the nodes below a root are walked in this order.
+pub fn are_walked(
+    alloc: Global,
+    root: Node,
+    lp: &Arena<IR>,
+    wanted: &[Node],
+) -> Result<bool, AllocError> {
+    match walked(alloc, root, lp)? {
+        Some(numbers) => Ok(numbers.as_slice() == wanted),
+        None => Ok(false),
+    }
+}
+
+/// Whether nodes are walked from the root down.
+fn nodes_are_walked(alloc: Global) -> Result<bool, AllocError> {
     let lp = nodes_at_five(alloc)?;
-    let numbers = walked(alloc, Node(5), &lp)?.ok_or("a plan")?;
-    assert_eq!(rt; numbers.as_slice(), [Node(5), Node(3), Node(1)].as_slice());
-    Ok(())
+    are_walked(alloc, Node(5), &lp, &[Node(5), Node(3), Node(1)])
+}
+
+/// A union of two scans.
+fn union_of_scans(alloc: Global) -> Result<Arena<IR>, AllocError> {
+    let mut lp = Arena::new(alloc);
+    lp.add(union(alloc, &[Node(1), Node(2)])?)?;
+    lp.add(scan(alloc, None)?)?;
+    lp.add(scan(alloc, None)?)?;
+    Ok(lp)
+}
+
+/// Whether the last input is walked first.
+fn inputs_are_walked(alloc: Global) -> Result<bool, AllocError> {
+    let lp = union_of_scans(alloc)?;
+    are_walked(alloc, Node(0), &lp, &[Node(0), Node(2), Node(1)])
 }
 
 #[test]
-fn walks_over_the_last_input_first(rt: HostRuntime) -> Result<(), Fail> {
-    let alloc = rt.alloc();
-    let mut lp = Arena::new(alloc);
-    let root = lp.add(union(alloc, &[Node(1), Node(2)])?)?;
-    lp.add(scan(alloc, None)?)?;
-    lp.add(scan(alloc, None)?)?;
-    let numbers = walked(alloc, root, &lp)?.ok_or("a plan")?;
-    let wanted = [Node(0), Node(2), Node(1)];
-    assert_eq!(rt; numbers.as_slice(), wanted.as_slice());
+fn walks(rt: HostRuntime) -> Result<(), Fail> {
+    assert!(rt; nodes_are_walked(rt.alloc())?);
+    assert!(rt; inputs_are_walked(rt.alloc())?);
     Ok(())
 }
 
@@ -135,16 +154,17 @@ fn is_in_order(alloc: Global, plan: &PlanCopy) -> Result<bool, AllocError> {
     Ok(text.as_str() == write_plan(alloc, &wanted)?.as_str())
 }
 
+/// The small plan, renumbered.
+fn copied_plan(alloc: Global) -> Result<PlanCopy, PolarsError> {
+    let lp = nodes_at_five(alloc)?;
+    let ex = exprs_at_four(alloc)?;
+    copied(alloc, Node(5), &lp, &ex)
+}
+
 #[test]
 fn renumbers_in_walk_order(rt: HostRuntime) -> Result<(), Fail> {
-    let alloc = rt.alloc();
-    let copy = copied(
-        alloc,
-        Node(5),
-        &nodes_at_five(alloc)?,
-        &exprs_at_four(alloc)?,
-    )?;
-    assert!(rt; is_in_order(alloc, &copy)?);
+    let copy = copied_plan(rt.alloc())?;
+    assert!(rt; is_in_order(rt.alloc(), &copy)?);
     Ok(())
 }
 
@@ -161,48 +181,24 @@ fn union_lists_inputs(alloc: Global) -> Result<bool, AllocError> {
     has_inputs(alloc, &several, &[Node(7), Node(5)])
 }
 
-/// The inputs of a node behind a number.
-fn inputs_behind(alloc: Global, first: Node, node: &IR) -> Result<Items<Node>, AllocError> {
-    let mut inputs = Items::new(alloc);
-    inputs.push(first)?;
-    node.copy_inputs(&mut inputs)?;
-    Ok(inputs)
-}
-
 /// Whether a filter lists its input.
 fn filter_lists_its_input(alloc: Global) -> Result<bool, AllocError> {
     let node = filter(alloc, Node(2), Node(4))?;
     has_inputs(alloc, &node, &[Node(2)])
 }
 
-/// The input of a filter behind a number.
-fn input_behind(alloc: Global, first: Node) -> Result<Items<Node>, AllocError> {
+/// Whether the inputs of a node go behind a number.
+fn goes_behind(alloc: Global, first: Node, node: &IR, wanted: &[Node]) -> Result<bool, AllocError> {
+    let mut inputs = Items::new(alloc);
+    inputs.push(first)?;
+    node.copy_inputs(&mut inputs)?;
+    Ok(inputs.as_slice() == wanted)
+}
+
+/// Whether the input of a filter goes behind a number.
+fn input_goes_behind(alloc: Global) -> Result<bool, AllocError> {
     let node = filter(alloc, Node(2), Node(4))?;
-    inputs_behind(alloc, first, &node)
-}
-
-#[test]
-fn lists_inputs_of_nodes(rt: HostRuntime) -> Result<(), Fail> {
-    assert!(rt; union_lists_inputs(rt.alloc())?);
-    assert!(rt; filter_lists_its_input(rt.alloc())?);
-    Ok(())
-}
-
-#[test]
-fn copies_inputs_of_nodes(rt: HostRuntime) -> Result<(), Fail> {
-    let inputs = input_behind(rt.alloc(), Node(7))?;
-    assert_eq!(rt; inputs.as_slice(), [Node(7), Node(2)].as_slice());
-    Ok(())
-}
-
-#[test]
-fn puts_a_node_back(rt: HostRuntime) -> Result<(), Fail> {
-    let alloc = rt.alloc();
-    let node = filter(alloc, Node(2), Node(4))?;
-    let exprs = node.get_exprs(alloc)?;
-    let copy = node.with_exprs_and_input(alloc, exprs, node.get_inputs_vec(alloc)?)?;
-    assert!(rt; are_alike(alloc, copy, node)?);
-    Ok(())
+    goes_behind(alloc, Node(7), &node, &[Node(7), Node(2)])
 }
 
 /// The numbers of the expressions that a node lists.
@@ -215,17 +211,16 @@ pub fn listed(alloc: Global, node: &IR) -> Result<Items<Node>, AllocError> {
     Ok(nodes)
 }
 
-/// The number that a filter lists.
-fn listed_of_a_filter(alloc: Global) -> Result<Items<Node>, AllocError> {
-    let node = filter(alloc, Node(2), Node(4))?;
-    listed(alloc, &node)
+/// Whether a node lists these expressions.
+pub fn lists(alloc: Global, node: &IR, wanted: &[Node]) -> Result<bool, AllocError> {
+    let nodes = listed(alloc, node)?;
+    Ok(nodes.as_slice() == wanted)
 }
 
-#[test]
-fn lists_expressions_of_nodes(rt: HostRuntime) -> Result<(), Fail> {
-    let nodes = listed_of_a_filter(rt.alloc())?;
-    assert_eq!(rt; nodes.as_slice(), [Node(4)].as_slice());
-    Ok(())
+/// Whether a filter lists its expression.
+fn filter_lists_its_expression(alloc: Global) -> Result<bool, AllocError> {
+    let node = filter(alloc, Node(2), Node(4))?;
+    lists(alloc, &node, &[Node(4)])
 }
 
 /// The expressions that a filter appends to a list without items.
@@ -236,25 +231,47 @@ fn copied_of_a_filter(alloc: Global) -> Result<Items<ExprIR>, AllocError> {
     Ok(copies)
 }
 
-#[test]
-fn copies_expressions_of_nodes(rt: HostRuntime) -> Result<(), Fail> {
-    let alloc = rt.alloc();
+/// Whether the expression of a filter is copied with its name.
+fn filter_copies_its_expression(alloc: Global) -> Result<bool, AllocError> {
     let copies = copied_of_a_filter(alloc)?;
-    assert_eq!(rt; copies.as_slice(), [named(alloc, Node(4))?].as_slice());
-    Ok(())
+    let wanted = named(alloc, Node(4))?;
+    Ok(copies.as_slice() == [wanted].as_slice())
 }
 
 #[test]
-fn copies_nodes(rt: HostRuntime) -> Result<(), Fail> {
-    let alloc = rt.alloc();
+fn lists_parts_of_nodes(rt: HostRuntime) -> Result<(), Fail> {
+    assert!(rt; union_lists_inputs(rt.alloc())?);
+    assert!(rt; filter_lists_its_input(rt.alloc())?);
+    assert!(rt; input_goes_behind(rt.alloc())?);
+    assert!(rt; filter_lists_its_expression(rt.alloc())?);
+    assert!(rt; filter_copies_its_expression(rt.alloc())?);
+    Ok(())
+}
+
+/// A node with its own expressions over its own inputs.
+fn put_back(alloc: Global, node: &IR) -> Result<IR, AllocError> {
+    let exprs = node.get_exprs(alloc)?;
+    node.with_exprs_and_input(alloc, exprs, node.get_inputs_vec(alloc)?)
+}
+
+/// Whether a filter that is put back is as it was.
+fn filter_is_put_back(alloc: Global) -> Result<bool, AllocError> {
+    let node = filter(alloc, Node(2), Node(4))?;
+    let copy = put_back(alloc, &node)?;
+    are_alike(alloc, copy, node)
+}
+
+/// Whether a copy of a filter is as that was.
+fn filter_is_copied(alloc: Global) -> Result<bool, AllocError> {
     let node = filter(alloc, Node(2), Node(4))?;
     let copy = node.try_clone(alloc)?;
-    assert!(rt; are_alike(alloc, copy, node)?);
-    Ok(())
+    are_alike(alloc, copy, node)
 }
 
 #[test]
-fn puts_expressions_over_other_operands(rt: HostRuntime) -> Result<(), Fail> {
+fn puts_nodes_and_expressions_back(rt: HostRuntime) -> Result<(), Fail> {
+    assert!(rt; filter_is_put_back(rt.alloc())?);
+    assert!(rt; filter_is_copied(rt.alloc())?);
     let expr = greater(Node(1), Node(2)).with_operands(rt.alloc(), &[Node(8), Node(9)])?;
     assert!(rt; expr == greater(Node(8), Node(9)));
     Ok(())

@@ -97,69 +97,105 @@ fn told(
     Ok(told)
 }
 
+// Renamings of the leaves of `a + b`: from these names to those, and what is told then.
+const SUMS: [(Texts, Texts, &str); 6] = [
+    (&["a"], &["b"], "b,b,;a,b,"),
+    (&["a", "b"], &["b", "a"], "b,a,;a,b,"),
+    (&["a", "a"], &["c", "d"], "c,b,;a,b,"),
+    (&["z"], &["a"], "a,b,;a,b,"),
+    (&[], &[], "a,b,;a,b,"),
+    (&["b"], &["c"], "a,c,;a,b,"),
+];
+
+// Whether that is told of the sum, which is copied whole.
+fn sum_is_told(alloc: Global, from: Texts, to: Texts, wanted: &str) -> Result<bool, AllocError> {
+    let mut ex = Arena::new(alloc);
+    let node = sum(alloc, &mut ex)?;
+    let text = told(alloc, node, &mut ex, from, to)?;
+    Ok(text.as_str() == wanted && ex.len() == 6)
+}
+
 #[test]
 fn leaves_get_their_names(rt: HostRuntime) -> Result<(), Fail> {
-    let alloc = rt.alloc();
-    let none: Texts = &[];
-    for (from, to, wanted) in [
-        (["a"].as_slice(), ["b"].as_slice(), "b,b,;a,b,"),
-        (["a", "b"].as_slice(), ["b", "a"].as_slice(), "b,a,;a,b,"),
-        (["a", "a"].as_slice(), ["c", "d"].as_slice(), "c,b,;a,b,"),
-        (["z"].as_slice(), ["a"].as_slice(), "a,b,;a,b,"),
-        (none, none, "a,b,;a,b,"),
-        (["b"].as_slice(), ["c"].as_slice(), "a,c,;a,b,"),
-    ] {
-        let mut ex = Arena::new(alloc);
-        let node = sum(alloc, &mut ex)?;
-        assert_eq!(rt; told(alloc, node, &mut ex, from, to)?.as_str(), wanted);
-        assert_eq!(rt; ex.len(), 6);
+    for (from, to, wanted) in SUMS {
+        assert!(rt; sum_is_told(rt.alloc(), from, to, wanted)?);
     }
     Ok(())
 }
 
-#[test]
-fn all_kinds_of_operands_are_copied(rt: HostRuntime) -> Result<(), Fail> {
-    let alloc = rt.alloc();
-    let mut ex = Arena::new(alloc);
-    let total = sum(alloc, &mut ex)?;
+// Adds the total of `a + b` over the rows with the same `c`.
+fn window(alloc: Global, ex: &mut Arena<AExpr>) -> Result<Node, AllocError> {
+    let total = sum(alloc, ex)?;
     let function = ex.add(AExpr::Agg(IRAggExpr::Sum(total)))?;
+    let key = column(alloc, "c", ex)?;
     let mut partition_by = Items::new(alloc);
-    partition_by.push(column(alloc, "c", &mut ex)?)?;
-    let truthy = ex.add(AExpr::Window {
+    partition_by.push(key)?;
+    ex.add(AExpr::Window {
         function,
         partition_by,
-    })?;
+    })
+}
+
+// Adds a choice by `a` between that and a literal.
+fn choice(alloc: Global, ex: &mut Arena<AExpr>) -> Result<Node, AllocError> {
+    let truthy = window(alloc, ex)?;
     let falsy = ex.add(AExpr::Literal(LiteralValue::Int64(1)))?;
-    let predicate = column(alloc, "a", &mut ex)?;
-    let choice = ex.add(AExpr::Ternary {
+    let predicate = column(alloc, "a", ex)?;
+    ex.add(AExpr::Ternary {
         predicate,
         truthy,
         falsy,
-    })?;
-    let wanted = "x,b,y,x,;a,b,c,a,";
-    assert_eq!(rt;
-        told(alloc, choice, &mut ex, &["a", "c"], &["x", "y"])?.as_str(),
-        wanted
-    );
-    Ok(())
+    })
+}
+
+// Whether operands of each kind get their names.
+fn choice_is_told(alloc: Global) -> Result<bool, AllocError> {
+    let mut ex = Arena::new(alloc);
+    let node = choice(alloc, &mut ex)?;
+    let text = told(alloc, node, &mut ex, &["a", "c"], &["x", "y"])?;
+    Ok(text.as_str() == "x,b,y,x,;a,b,c,a,")
+}
+
+// Adds `a` under its own name as an alias.
+fn alias(alloc: Global, ex: &mut Arena<AExpr>) -> Result<Node, AllocError> {
+    let input = column(alloc, "a", ex)?;
+    ex.add(AExpr::Alias(input, PlSmallStr::new(alloc, "a")?))
+}
+
+// Whether a column of this name stands at a number.
+fn is_column(ex: &Arena<AExpr>, number: usize, wanted: &str) -> bool {
+    number < ex.len()
+        && match ex.get(Node(number)) {
+            AExpr::Column(name) => name.as_str() == wanted,
+            _ => false,
+        }
+}
+
+// Whether an alias of this name for another expression stands at a number.
+fn is_alias(ex: &Arena<AExpr>, number: usize, input: Node, wanted: &str) -> bool {
+    number < ex.len()
+        && match ex.get(Node(number)) {
+            AExpr::Alias(of, name) => *of == input && name.as_str() == wanted,
+            _ => false,
+        }
+}
+
+// Whether a copied alias keeps its name, over a column with another.
+fn alias_is_kept(alloc: Global) -> Result<bool, AllocError> {
+    let mut ex = Arena::new(alloc);
+    let node = alias(alloc, &mut ex)?;
+    let copy = copied(alloc, node, &mut ex, &["a"], &["b"])?;
+    Ok(
+        copy == Some(Node(3))
+            && is_column(&ex, 0, "a")
+            && is_column(&ex, 2, "b")
+            && is_alias(&ex, 3, Node(2), "a"),
+    )
 }
 
 #[test]
-fn aliases_keep_their_names(rt: HostRuntime) -> Result<(), Fail> {
-    let alloc = rt.alloc();
-    let mut ex = Arena::new(alloc);
-    let input = column(alloc, "a", &mut ex)?;
-    let name = PlSmallStr::new(alloc, "a")?;
-    let node = ex.add(AExpr::Alias(input, name))?;
-    let copy = copied(alloc, node, &mut ex, &["a"], &["b"])?;
-    assert!(rt; copy == Some(Node(3)));
-    for (number, wanted) in [(2, "b"), (0, "a")] {
-        assert!(rt; number < ex.len());
-        let name = PlSmallStr::new(alloc, wanted)?;
-        assert!(rt; *ex.get(Node(number)) == AExpr::Column(name));
-    }
-    assert!(rt; 3 < ex.len());
-    let name = PlSmallStr::new(alloc, "a")?;
-    assert!(rt; *ex.get(Node(3)) == AExpr::Alias(Node(2), name));
+fn copies_have_other_names(rt: HostRuntime) -> Result<(), Fail> {
+    assert!(rt; choice_is_told(rt.alloc())?);
+    assert!(rt; alias_is_kept(rt.alloc())?);
     Ok(())
 }
