@@ -9,6 +9,9 @@ use Rattle.plan_ir.specs.Plans.{op_at}
 use Rattle.plan_prune_parts.specs.declared.kept.Kept.{Kept}
 use Rattle.plan_meaning.specs.Counting.{is_count}
 use Rattle.plan_prune_parts.specs.declared.step.Step.{Step}
+use Rattle.plan_prune_parts.specs.declared.step.Step.TheVariants as steps
+use Rattle.plan_prune.specs.declared.taken.Taken.{Taken}
+use Rattle.plan_prune.specs.declared.taken.Taken.TheVariants.{Leaf, Over, Closed, Each}
 use Rattle.plan_prune_parts.specs.Steps.{with_kept}
 use Rattle.plan_prune_steps.specs.Steps.{step_of}
 use Rattle.plan_prune_joins.specs.Joined.{IsKept}
@@ -17,6 +20,13 @@ use Rattle.plan_prune_joins.specs.Joined.{IsKept}
 abbrev pub top_columns : Bool → Option Columns → Option Columns
 top_columns true columns = columns
 top_columns false columns = None
+
+-- the step whose node stands in a box
+abbrev pub step_told : Taken → Step
+step_told (Leaf columns entry) = steps.Leaf columns entry.value
+step_told (Over input asked entry) = steps.Over input asked entry.value
+step_told (Closed columns entry) = steps.Closed columns entry.value
+step_told (Each inputs lists covers kept entry) = steps.Each inputs lists covers kept entry.value
 
 -- a node that is asked names was taken: what is to be done at it is its step with what is to be kept of it, and the mark is set where it was or where the node counts rows
 pub record IsTaken (before after : Bool) (lp new : List IR) (ex : List AExpr) (asked : List Name) (n : Node) (step : Step) : Type 0 where

@@ -2,5 +2,6 @@
 #![tactic(auto)]
 
 mod push_down;
+mod taken;
 
 pub use push_down::ProjectionPushDown;

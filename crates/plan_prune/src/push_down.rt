@@ -1,8 +1,10 @@
 //! The pass that prunes a plan to the columns that it needs.
 //! Each node is told the names that are asked of it, and asks its inputs the names that it needs;
 //! no names stand for every column. The rule of a node kind is in a file of its own of plan_prune_steps, and its `step` finds it.
-ghost use Rattle.std.specs.Prelude.{◌≡◌, ◌<◌, ◌≤◌, ◌+◌, [], ◌∷◌, Err, IfOk, OnOk, ◌||◌, false, length, not, slice_set, true};
-ghost use Rattle.plan_ir.specs.Parts.{IsPlan};
+ghost use Rattle.std.specs.Prelude.{◌≡◌, ◌<◌, ◌≤◌, ◌+◌, List, [], ◌∷◌, Err, IfOk, IsTrue, OnOk, Some, ◌||◌, false, length, not, slice_set, true};
+ghost use Rattle.plan_tree.specs.Stands.{Trees, StandsOnce};
+ghost use Rattle.plan_ir.specs.declared.ir.IR.{IR as IRType};
+ghost use Rattle.plan_ir.specs.Parts.{IsPlan, inputs_of, is_join, plan_shape, roots_of};
 ghost use Rattle.plan_ir.specs.Plans.{bare, plans_at};
 ghost use Rattle.plan_meaning.specs.Caches.{AreShared};
 ghost use Rattle.plan_meaning.specs.PlanAt.{plan_at};
@@ -15,33 +17,40 @@ ghost use Rattle.plan_meaning.specs.Work.{made, kept};
 ghost use Rattle.plan_narrowing.specs.Pruned.{pruned_all};
 ghost use Rattle.plan_narrowing.specs.Reads.{ReadWithin, tops};
 ghost use Rattle.plan_renamed.specs.Renamed.{IsLonger};
+ghost use Rattle.plan_prune_parts.specs.declared.kept.Kept.{Kept as KeptType};
+ghost use Rattle.plan_prune_parts.specs.Places.{StandExprs};
 ghost use Rattle.plan_prune_parts.specs.Tops.{with_columns_on};
-ghost use Rattle.plan_prune.specs.Taken.{IsTaken, top_columns};
+ghost use Rattle.plan_prune_steps.specs.Steps.{IsPutBack, put_back};
+ghost use Rattle.plan_expr.specs.declared.aexpr.AExpr.{AExpr as AExprType};
+ghost use Rattle.plan_prune.specs.Taken.{IsTaken, step_told, top_columns};
 ghost use Rattle.plan_prune.specs.Prunes.{AreInputs, InputsPruned, MarksAt, PrunesAt, PrunesUnder};
 
+use crate::taken::{Taken, boxed};
 use plan_core::{Arena, Names, Node, Schema};
 use plan_expr::AExpr;
 use plan_ir::IR;
 use plan_narrowing::copied_names;
 use plan_prune_joins::join;
 use plan_prune_parts::cover::cover;
-use plan_prune_parts::{Step, cover};
+use plan_prune_parts::{Kept, cover};
 use plan_prune_steps::{select, step};
 use std::alloc::{AllocError, Global};
 
 /// Puts a node without inputs at `node`, under a projection where there are columns and projections go on top. Refuses for want of
 /// memory alone, and then nothing is known of what stands at `node`.
+#[inline(never)]
 fn put_leaf(
     node: Node,
-    entry: IR,
+    entry: Box<IR>,
     on_top: bool,
     columns: Option<Schema>,
     lp: &mut Arena<IR>,
 ) -> Result<(), AllocError>
     requires { node.0 < length lp.old }
-    ensures placed { OnOk result (lp.new ≡ with_columns_on (top_columns on_top columns) lp.old node entry) }
+    ensures placed { OnOk result (lp.new ≡ with_columns_on (top_columns on_top columns) lp.old node entry.value) }
     ensures grows { length lp.old ≤ length lp.new }
 {
+    let entry = Box::into_inner(entry);
     if on_top {
         return cover::put(node, entry, columns, lp);
     }
@@ -49,19 +58,77 @@ fn put_leaf(
     Ok(())
 }
 
+/// Puts a node back at `node`, once its input is pruned. It is told whether names are asked of it. Refuses for want of memory alone,
+/// and then nothing is known of what stands at `node`.
+#[inline(never)]
+fn put(
+    alloc: Global,
+    node: Node,
+    entry: Box<IR>,
+    is_asked: bool,
+    lp: &mut Arena<IR>,
+) -> Result<(), AllocError>
+    requires node { node.0 < length lp.old }
+    requires inputs { (t : Trees IRType) × StandsOnce plan_shape lp.old (inputs_of entry.value) t }
+    ensures placed { OnOk result ((ex : List AExprType) → lp.new ≡ put_back is_asked lp.old ex node entry.value) }
+    ensures grows { length lp.old ≤ length lp.new }
+{
+    step::put(alloc, node, Box::into_inner(entry), is_asked, lp)
+}
+
+/// Puts a node below which all stays at `node`, under a projection where there are columns. Refuses for want of memory alone, and
+/// then nothing is known of what stands at `node`.
+#[inline(never)]
+fn put_closed(
+    node: Node,
+    entry: Box<IR>,
+    columns: Option<Schema>,
+    lp: &mut Arena<IR>,
+) -> Result<(), AllocError>
+    requires { node.0 < length lp.old }
+    ensures placed { OnOk result (lp.new ≡ with_columns_on columns lp.old node entry.value) }
+    ensures grows { length lp.old ≤ length lp.new }
+{
+    cover::put(node, Box::into_inner(entry), columns, lp)
+}
+
+/// Puts a node back at `node`, once each of its inputs is pruned, by what was kept of it. It is told whether names are asked of it.
+/// Expressions are only added. Refuses for want of memory alone, and then nothing is known of what stands at `node`.
+#[inline(never)]
+fn put_over(
+    alloc: Global,
+    node: Node,
+    entry: Box<IR>,
+    kept: Option<Kept>,
+    is_asked: bool,
+    lp: &mut Arena<IR>,
+    ex: &mut Arena<AExpr>,
+) -> Result<(), AllocError>
+    requires kind { (k : KeptType) → kept ≡ Some k → IsTrue (is_join entry.value) }
+    requires node { node.0 < length lp.old }
+    requires exprs { StandExprs ex.old (roots_of entry.value) }
+    requires inputs { (t : Trees IRType) × StandsOnce plan_shape lp.old (inputs_of entry.value) t }
+    ensures placed { OnOk result (IsPutBack is_asked kept lp.old lp.new ex.old ex.new node entry.value) }
+    ensures grows { length lp.old ≤ length lp.new }
+    ensures longer { IsLonger ex.old ex.new }
+{
+    step::put_over(alloc, node, Box::into_inner(entry), kept, is_asked, lp, ex)
+}
+
 /// Puts a node back at `node` whose inputs could not be pruned, and refuses as they did.
+#[inline(never)]
 fn given_back(
     node: Node,
-    entry: IR,
+    entry: Box<IR>,
     refused: AllocError,
     lp: &mut Arena<IR>,
 ) -> Result<(), AllocError>
     requires { node.0 < length lp.old }
     ensures refused { result ≡ Err refused }
-    ensures back { lp.new ≡ slice_set lp.old node.0 entry }
+    ensures back { lp.new ≡ slice_set lp.old node.0 entry.value }
     ensures grows { length lp.old ≤ length lp.new }
 {
-    lp.put(node, entry);
+    lp.put(node, Box::into_inner(entry));
     Err(refused)
 }
 
@@ -120,6 +187,7 @@ impl ProjectionPushDown {
 
     /// Takes what stands at `node` and is asked these names, and marks whether it counts rows: what is to be done at it. Refuses for
     /// want of memory alone.
+    #[inline(never)]
     fn take(
         &mut self,
         alloc: Global,
@@ -127,9 +195,9 @@ impl ProjectionPushDown {
         asked: Names,
         lp: &mut Arena<IR>,
         ex: &Arena<AExpr>,
-    ) -> Result<Step, AllocError>
+    ) -> Result<Taken, AllocError>
         requires { IsPlan lp.old ex.now node }
-        ensures taken { IfOk result (λ step. IsTaken self.old.is_count_star self.new.is_count_star lp.old lp.new ex.now asked node step) }
+        ensures taken { IfOk result (λ taken. IsTaken self.old.is_count_star self.new.is_count_star lp.old lp.new ex.now asked node (step_told taken)) }
         ensures stays { self.old.is_count_star ≡ true → self.new.is_count_star ≡ true }
         ensures grows { length lp.old ≤ length lp.new }
     {
@@ -139,7 +207,7 @@ impl ProjectionPushDown {
         }
         let kept = join::keep(alloc, &entry, &asked, lp, ex)?;
         let step = step::prepare(alloc, entry, asked, &kept, lp, ex)?;
-        Ok(step.keeping(kept))
+        boxed(alloc, step.keeping(kept))
     }
 
     /// Prunes the plan at `node` to the asked names, and marks whether it counts rows; no names stand for every column.
@@ -162,19 +230,19 @@ impl ProjectionPushDown {
         let is_asked = asked.len() > 0;
         let on_top = !self.is_count_star;
         match self.take(alloc, node, asked, lp, ex)? {
-            Step::Leaf { columns, entry } => put_leaf(node, entry, on_top, columns, lp),
-            Step::Over {
+            Taken::Leaf { columns, entry } => put_leaf(node, entry, on_top, columns, lp),
+            Taken::Over {
                 input,
                 asked,
                 entry,
             } => {
                 match self.push_down(alloc, input, asked, lp, ex) {
-                    Ok(()) => step::put(alloc, node, entry, is_asked, lp),
+                    Ok(()) => put(alloc, node, entry, is_asked, lp),
                     Err(refused) => given_back(node, entry, refused, lp),
                 }
             }
-            Step::Closed { columns, entry } => cover::put(node, entry, columns, lp),
-            Step::Each {
+            Taken::Closed { columns, entry } => put_closed(node, entry, columns, lp),
+            Taken::Each {
                 inputs,
                 asked,
                 covered,
@@ -183,7 +251,7 @@ impl ProjectionPushDown {
             } => {
                 let (own, lists) = (inputs.as_slice(), asked.as_slice());
                 match self.push_inputs(alloc, own, lists, &covered, lp, ex) {
-                    Ok(()) => step::put_over(alloc, node, entry, kept, is_asked, lp, ex),
+                    Ok(()) => put_over(alloc, node, entry, kept, is_asked, lp, ex),
                     Err(refused) => given_back(node, entry, refused, lp),
                 }
             }

@@ -11,6 +11,7 @@ use Rattle.plan_prune_steps.specs.Steps.{put_back, IsPutBack}
 use Rattle.plan_prune.proofs.PruneLemmas.{input_asks, is_entry, entry_stays, stands_after}
 use Rattle.plan_expr.specs.Leaves.{Name}
 use Rattle.plan_prune.specs.Prunes.{AreInputs, InputsPruned, PrunesAt}
+use Rattle.plan_prune.specs.Taken.{step_told}
 use Rattle.plan_tree.proofs.TreeLemmas.{height, tallest}
 use Rattle.plan_prune.proofs.EachLemmas.{SoFar, each_marks, next_asks, places, so_far_all, so_far_next, so_far_none}
 use Rattle.plan_prune_parts.proofs.LongerLemmas.{longer_trans, plan_trees}
@@ -30,20 +31,20 @@ push_down-put_leaf-requires t c = entry_stays c.args.lp.now c.take.new.lp c.take
 pub push_down-returns-in-Leaf-clause-prunes : goal.push_down-returns-in-Leaf-clause-prunes
 push_down-returns-in-Leaf-clause-prunes t c = on_ok_weaker c.put_leaf.result (λ back t' h.
     let top = not c.args.self.now.is_count_star in
-    leaf_pruned top c.args.asked c.args.lp.now c.take.new.lp c.put_leaf.new.lp c.args.ex.now c.args.node c.in-Leaf.columns c.in-Leaf.entry c.in_ok-columns.ensures.taken.left t' h c.in_ok-columns.ensures.taken.taken
+    leaf_pruned top c.args.asked c.args.lp.now c.take.new.lp c.put_leaf.new.lp c.args.ex.now c.args.node c.in-Leaf.columns c.in-Leaf.entry.value c.in_ok-columns.ensures.taken.left t' h c.in_ok-columns.ensures.taken.taken
     back
-    c.in_ok-columns.ensures.taken.entry c.in_ok-columns.ensures.taken.there (leaf_taken c.args.self.now.is_count_star c.take.new.self.is_count_star c.args.lp.now c.take.new.lp c.args.ex.now c.args.asked c.args.node c.in_ok-columns.field-0 c.in_ok-columns.ensures.taken c.in-Leaf.columns c.in-Leaf.entry c.in-Leaf.is)) c.put_leaf.ensures.placed
+    c.in_ok-columns.ensures.taken.entry c.in_ok-columns.ensures.taken.there (leaf_taken c.args.self.now.is_count_star c.take.new.self.is_count_star c.args.lp.now c.take.new.lp c.args.ex.now c.args.asked c.args.node (step_told c.in_ok-columns.field-0) c.in_ok-columns.ensures.taken c.in-Leaf.columns c.in-Leaf.entry.value (ap step_told c.in-Leaf.is))) c.put_leaf.ensures.placed
 
 pub push_down-returns-in-Leaf-clause-marks : goal.push_down-returns-in-Leaf-clause-marks
 push_down-returns-in-Leaf-clause-marks t c = on_ok_weaker c.put_leaf.result (λ back.
-    marks_leaf c.args.self.now.is_count_star c.take.new.self.is_count_star c.args.lp.now c.take.new.lp c.args.ex.now c.args.asked c.args.node c.in-Leaf.columns c.in_ok-columns.ensures.taken.entry c.in-Leaf.entry c.in_ok-columns.ensures.taken.there
-    (leaf_taken c.args.self.now.is_count_star c.take.new.self.is_count_star c.args.lp.now c.take.new.lp c.args.ex.now c.args.asked c.args.node c.in_ok-columns.field-0 c.in_ok-columns.ensures.taken c.in-Leaf.columns c.in-Leaf.entry c.in-Leaf.is) c.in_ok-columns.ensures.taken.marked) c.put_leaf.ensures.placed
+    marks_leaf c.args.self.now.is_count_star c.take.new.self.is_count_star c.args.lp.now c.take.new.lp c.args.ex.now c.args.asked c.args.node c.in-Leaf.columns c.in_ok-columns.ensures.taken.entry c.in-Leaf.entry.value c.in_ok-columns.ensures.taken.there
+    (leaf_taken c.args.self.now.is_count_star c.take.new.self.is_count_star c.args.lp.now c.take.new.lp c.args.ex.now c.args.asked c.args.node (step_told c.in_ok-columns.field-0) c.in_ok-columns.ensures.taken c.in-Leaf.columns c.in-Leaf.entry.value (ap step_told c.in-Leaf.is)) c.in_ok-columns.ensures.taken.marked) c.put_leaf.ensures.placed
 
 -- Over
 
 pub push_down-push_down-requires : goal.push_down-push_down-requires
 push_down-push_down-requires t c =
-    let o = is_over c.take.new.lp c.args.ex.now c.args.asked c.in-Over.asked c.in_ok-columns.ensures.taken.entry c.in-Over.entry c.in-Over.input (over_taken c.args.self.now.is_count_star c.take.new.self.is_count_star c.args.lp.now c.take.new.lp c.args.ex.now c.args.asked c.args.node c.in_ok-columns.field-0 c.in_ok-columns.ensures.taken c.in-Over.input c.in-Over.asked c.in-Over.entry c.in-Over.is) in
+    let o = is_over c.take.new.lp c.args.ex.now c.args.asked c.in-Over.asked c.in_ok-columns.ensures.taken.entry c.in-Over.entry.value c.in-Over.input (over_taken c.args.self.now.is_count_star c.take.new.self.is_count_star c.args.lp.now c.take.new.lp c.args.ex.now c.args.asked c.args.node (step_told c.in_ok-columns.field-0) c.in_ok-columns.ensures.taken c.in-Over.input c.in-Over.asked c.in-Over.entry.value (ap step_told c.in-Over.is)) in
     let k = input_asks c.args.lp.now c.take.new.lp c.args.ex.now c.args.node c.in-Over.input c.in_ok-columns.ensures.taken.entry c.in_ok-columns.ensures.taken.left 0 c.requires c.in_ok-columns.ensures.taken.there c.in_ok-columns.ensures.taken.taken o.first in
     (omega (arith, k.falls, c.decreases), k.plan)
 
@@ -52,40 +53,40 @@ push_down-put-requires-clause-node t c = entry_stays c.args.lp.now c.take.new.lp
 
 pub push_down-put-requires-clause-inputs : goal.push_down-put-requires-clause-inputs
 push_down-put-requires-clause-inputs t c =
-    over_stands (not c.take.new.self.is_count_star) c.args.asked c.in-Over.asked c.args.lp.now c.take.new.lp c.push_down.new.lp c.args.ex.now c.push_down.new.ex c.args.node c.in-Over.input c.in_ok-columns.ensures.taken.entry c.in-Over.entry c.in_ok-columns.ensures.taken.left c.requires.nodes c.requires.stands.nodes
-    c.in_ok-columns.ensures.taken.there c.in_ok-columns.ensures.taken.taken (over_taken c.args.self.now.is_count_star c.take.new.self.is_count_star c.args.lp.now c.take.new.lp c.args.ex.now c.args.asked c.args.node c.in_ok-columns.field-0 c.in_ok-columns.ensures.taken c.in-Over.input c.in-Over.asked c.in-Over.entry c.in-Over.is) c.in-Ok.ensures.prunes
+    over_stands (not c.take.new.self.is_count_star) c.args.asked c.in-Over.asked c.args.lp.now c.take.new.lp c.push_down.new.lp c.args.ex.now c.push_down.new.ex c.args.node c.in-Over.input c.in_ok-columns.ensures.taken.entry c.in-Over.entry.value c.in_ok-columns.ensures.taken.left c.requires.nodes c.requires.stands.nodes
+    c.in_ok-columns.ensures.taken.there c.in_ok-columns.ensures.taken.taken (over_taken c.args.self.now.is_count_star c.take.new.self.is_count_star c.args.lp.now c.take.new.lp c.args.ex.now c.args.asked c.args.node (step_told c.in_ok-columns.field-0) c.in_ok-columns.ensures.taken c.in-Over.input c.in-Over.asked c.in-Over.entry.value (ap step_told c.in-Over.is)) c.in-Ok.ensures.prunes
 
 pub push_down-returns-in-Ok-clause-prunes : goal.push_down-returns-in-Ok-clause-prunes
 push_down-returns-in-Ok-clause-prunes t c = on_ok_weaker c.put.result (λ back t' h.
     let top = not c.args.self.now.is_count_star in
     let is = c.in_ok-columns.ensures.taken.marked in
-    over_pruned top (not c.take.new.self.is_count_star) c.args.asked c.in-Over.asked c.args.lp.now c.take.new.lp c.push_down.new.lp c.put.new.lp c.args.ex.now c.push_down.new.ex c.in-Ok.ensures.longer c.args.node c.in-Over.input c.in-Over.entry c.in_ok-columns.ensures.taken.left t' h (plan_trees c.args.lp.now c.args.ex.now c.args.node t' c.requires h) c.in_ok-columns.ensures.taken.taken
+    over_pruned top (not c.take.new.self.is_count_star) c.args.asked c.in-Over.asked c.args.lp.now c.take.new.lp c.push_down.new.lp c.put.new.lp c.args.ex.now c.push_down.new.ex c.in-Ok.ensures.longer c.args.node c.in-Over.input c.in-Over.entry.value c.in_ok-columns.ensures.taken.left t' h (plan_trees c.args.lp.now c.args.ex.now c.args.node t' c.requires h) c.in_ok-columns.ensures.taken.taken
     c.in-Ok.ensures.prunes
-    (back c.push_down.new.ex ∙ ap (λ (some : Bool). put_back some c.push_down.new.lp c.push_down.new.ex c.args.node c.in-Over.entry) (some_len c.args.asked c.len-is_asked.result c.len-is_asked.ensures.value))
-    c.in_ok-columns.ensures.taken.entry c.in_ok-columns.ensures.taken.there (top_marked c.args.self.now.is_count_star (is_count (op_at c.args.ex.now c.in_ok-columns.ensures.taken.entry)) c.take.new.self.is_count_star is) (over_taken c.args.self.now.is_count_star c.take.new.self.is_count_star c.args.lp.now c.take.new.lp c.args.ex.now c.args.asked c.args.node c.in_ok-columns.field-0 c.in_ok-columns.ensures.taken c.in-Over.input c.in-Over.asked c.in-Over.entry c.in-Over.is)) c.put.ensures.placed
+    (back c.push_down.new.ex ∙ ap (λ (some : Bool). put_back some c.push_down.new.lp c.push_down.new.ex c.args.node c.in-Over.entry.value) (some_len c.args.asked c.len-is_asked.result c.len-is_asked.ensures.value))
+    c.in_ok-columns.ensures.taken.entry c.in_ok-columns.ensures.taken.there (top_marked c.args.self.now.is_count_star (is_count (op_at c.args.ex.now c.in_ok-columns.ensures.taken.entry)) c.take.new.self.is_count_star is) (over_taken c.args.self.now.is_count_star c.take.new.self.is_count_star c.args.lp.now c.take.new.lp c.args.ex.now c.args.asked c.args.node (step_told c.in_ok-columns.field-0) c.in_ok-columns.ensures.taken c.in-Over.input c.in-Over.asked c.in-Over.entry.value (ap step_told c.in-Over.is))) c.put.ensures.placed
 
 pub push_down-returns-in-Ok-clause-marks : goal.push_down-returns-in-Ok-clause-marks
 push_down-returns-in-Ok-clause-marks t c = on_ok_weaker c.put.result (λ back.
     let is = c.in_ok-columns.ensures.taken.marked in
-    let o = is_over c.take.new.lp c.args.ex.now c.args.asked c.in-Over.asked c.in_ok-columns.ensures.taken.entry c.in-Over.entry c.in-Over.input (over_taken c.args.self.now.is_count_star c.take.new.self.is_count_star c.args.lp.now c.take.new.lp c.args.ex.now c.args.asked c.args.node c.in_ok-columns.field-0 c.in_ok-columns.ensures.taken c.in-Over.input c.in-Over.asked c.in-Over.entry c.in-Over.is) in
+    let o = is_over c.take.new.lp c.args.ex.now c.args.asked c.in-Over.asked c.in_ok-columns.ensures.taken.entry c.in-Over.entry.value c.in-Over.input (over_taken c.args.self.now.is_count_star c.take.new.self.is_count_star c.args.lp.now c.take.new.lp c.args.ex.now c.args.asked c.args.node (step_told c.in_ok-columns.field-0) c.in_ok-columns.ensures.taken c.in-Over.input c.in-Over.asked c.in-Over.entry.value (ap step_told c.in-Over.is)) in
     each_marks c.args.self.now.is_count_star c.take.new.self.is_count_star c.push_down.new.self.is_count_star c.args.lp.now c.take.new.lp c.args.ex.now c.args.node (c.in-Over.input ∷ []) c.in_ok-columns.ensures.taken.entry c.in_ok-columns.ensures.taken.left
     c.requires c.in_ok-columns.ensures.taken.there c.in_ok-columns.ensures.taken.taken o.one (o.opens c.args.ex.now) is (λ kids under stand. c.in-Ok.ensures.marks kids under)) c.put.ensures.placed
 
 -- Closed
 
-pub push_down-put-requires-in-Closed : goal.push_down-put-requires-in-Closed
-push_down-put-requires-in-Closed t c = entry_stays c.args.lp.now c.take.new.lp c.take.new.lp c.args.node c.in_ok-columns.ensures.taken.entry c.in_ok-columns.ensures.taken.left c.in_ok-columns.ensures.taken.there c.in_ok-columns.ensures.taken.taken (omega arith)
+pub push_down-put_closed-requires : goal.push_down-put_closed-requires
+push_down-put_closed-requires t c = entry_stays c.args.lp.now c.take.new.lp c.take.new.lp c.args.node c.in_ok-columns.ensures.taken.entry c.in_ok-columns.ensures.taken.left c.in_ok-columns.ensures.taken.there c.in_ok-columns.ensures.taken.taken (omega arith)
 
 pub push_down-returns-in-Closed-clause-prunes : goal.push_down-returns-in-Closed-clause-prunes
-push_down-returns-in-Closed-clause-prunes t c = on_ok_weaker c.put-in-Closed.result (λ back.
-    closed_step c.args.asked c.args.lp.now c.take.new.lp c.args.ex.now c.args.node c.in_ok-columns.ensures.taken.entry c.in-Closed.entry c.in_ok-columns.ensures.taken.left c.in-Closed.columns c.in_ok-columns.ensures.taken.there c.in_ok-columns.ensures.taken.taken
-    (closed_taken c.args.self.now.is_count_star c.take.new.self.is_count_star c.args.lp.now c.take.new.lp c.args.ex.now c.args.asked c.args.node c.in_ok-columns.field-0 c.in_ok-columns.ensures.taken c.in-Closed.columns c.in-Closed.entry c.in-Closed.is) (not c.args.self.now.is_count_star) c.put-in-Closed.new.lp back) c.put-in-Closed.ensures.placed
+push_down-returns-in-Closed-clause-prunes t c = on_ok_weaker c.put_closed.result (λ back.
+    closed_step c.args.asked c.args.lp.now c.take.new.lp c.args.ex.now c.args.node c.in_ok-columns.ensures.taken.entry c.in-Closed.entry.value c.in_ok-columns.ensures.taken.left c.in-Closed.columns c.in_ok-columns.ensures.taken.there c.in_ok-columns.ensures.taken.taken
+    (closed_taken c.args.self.now.is_count_star c.take.new.self.is_count_star c.args.lp.now c.take.new.lp c.args.ex.now c.args.asked c.args.node (step_told c.in_ok-columns.field-0) c.in_ok-columns.ensures.taken c.in-Closed.columns c.in-Closed.entry.value (ap step_told c.in-Closed.is)) (not c.args.self.now.is_count_star) c.put_closed.new.lp back) c.put_closed.ensures.placed
 
 pub push_down-returns-in-Closed-clause-marks : goal.push_down-returns-in-Closed-clause-marks
-push_down-returns-in-Closed-clause-marks t c = on_ok_weaker c.put-in-Closed.result (λ back.
+push_down-returns-in-Closed-clause-marks t c = on_ok_weaker c.put_closed.result (λ back.
     let is = c.in_ok-columns.ensures.taken.marked in
-    closed_mark c.args.asked c.args.lp.now c.take.new.lp c.args.ex.now c.args.node c.in_ok-columns.ensures.taken.entry c.in-Closed.entry c.in_ok-columns.ensures.taken.left c.in-Closed.columns c.in_ok-columns.ensures.taken.there c.in_ok-columns.ensures.taken.taken
-    (closed_taken c.args.self.now.is_count_star c.take.new.self.is_count_star c.args.lp.now c.take.new.lp c.args.ex.now c.args.asked c.args.node c.in_ok-columns.field-0 c.in_ok-columns.ensures.taken c.in-Closed.columns c.in-Closed.entry c.in-Closed.is) c.args.self.now.is_count_star c.take.new.self.is_count_star is) c.put-in-Closed.ensures.placed
+    closed_mark c.args.asked c.args.lp.now c.take.new.lp c.args.ex.now c.args.node c.in_ok-columns.ensures.taken.entry c.in-Closed.entry.value c.in_ok-columns.ensures.taken.left c.in-Closed.columns c.in_ok-columns.ensures.taken.there c.in_ok-columns.ensures.taken.taken
+    (closed_taken c.args.self.now.is_count_star c.take.new.self.is_count_star c.args.lp.now c.take.new.lp c.args.ex.now c.args.asked c.args.node (step_told c.in_ok-columns.field-0) c.in_ok-columns.ensures.taken c.in-Closed.columns c.in-Closed.entry.value (ap step_told c.in-Closed.is)) c.args.self.now.is_count_star c.take.new.self.is_count_star is) c.put_closed.ensures.placed
 
 -- Each
 
@@ -93,15 +94,15 @@ pub push_down-push_inputs-requires : goal.push_down-push_inputs-requires
 push_down-push_inputs-requires t c =
     let own : c.as_slice-own.result.now ≡ c.in-Each.inputs = c.as_slice-own.ensures in
     let listed : c.as_slice-lists.result.now ≡ c.in-Each.asked = c.as_slice-lists.ensures in
-    let low = each_falls c.args.asked c.args.lp.now c.take.new.lp c.args.ex.now c.args.node c.in-Each.inputs c.in-Each.asked c.in-Each.covered c.in_ok-columns.ensures.taken.entry c.in-Each.entry c.in_ok-columns.ensures.taken.left c.requires
-    c.in_ok-columns.ensures.taken.there c.in_ok-columns.ensures.taken.taken (each_taken c.args.self.now.is_count_star c.take.new.self.is_count_star c.args.lp.now c.take.new.lp c.args.ex.now c.args.asked c.args.node c.in_ok-columns.field-0 c.in_ok-columns.ensures.taken c.in-Each.inputs c.in-Each.asked c.in-Each.covered c.in-Each.kept c.in-Each.entry c.in-Each.is) in
+    let low = each_falls c.args.asked c.args.lp.now c.take.new.lp c.args.ex.now c.args.node c.in-Each.inputs c.in-Each.asked c.in-Each.covered c.in_ok-columns.ensures.taken.entry c.in-Each.entry.value c.in_ok-columns.ensures.taken.left c.requires
+    c.in_ok-columns.ensures.taken.there c.in_ok-columns.ensures.taken.taken (each_taken c.args.self.now.is_count_star c.take.new.self.is_count_star c.args.lp.now c.take.new.lp c.args.ex.now c.args.asked c.args.node (step_told c.in_ok-columns.field-0) c.in_ok-columns.ensures.taken c.in-Each.inputs c.in-Each.asked c.in-Each.covered c.in-Each.kept c.in-Each.entry.value (ap step_told c.in-Each.is)) in
     let same : tallest plan_shape (height plan_shape (length c.take.new.lp) c.take.new.lp) c.as_slice-own.result.now ≡ tallest plan_shape (height plan_shape (length c.take.new.lp) c.take.new.lp) c.in-Each.inputs = ap (tallest plan_shape (height plan_shape (length c.take.new.lp) c.take.new.lp)) own in (
       omega (arith, low, same, c.decreases),
       (
-        subst (λ (ns : List Node). AreInputs c.take.new.lp c.args.ex.now ns) (sym own) (each_inputs c.args.asked c.args.lp.now c.take.new.lp c.args.ex.now c.args.node c.in-Each.inputs c.in-Each.asked c.in-Each.covered c.in_ok-columns.ensures.taken.entry c.in-Each.entry c.in_ok-columns.ensures.taken.left c.requires
-            c.in_ok-columns.ensures.taken.there c.in_ok-columns.ensures.taken.taken (each_taken c.args.self.now.is_count_star c.take.new.self.is_count_star c.args.lp.now c.take.new.lp c.args.ex.now c.args.asked c.args.node c.in_ok-columns.field-0 c.in_ok-columns.ensures.taken c.in-Each.inputs c.in-Each.asked c.in-Each.covered c.in-Each.kept c.in-Each.entry c.in-Each.is)),
-        ap length listed ∙ each_long c.args.asked c.args.lp.now c.take.new.lp c.args.ex.now c.args.node c.in-Each.inputs c.in-Each.asked c.in-Each.covered c.in_ok-columns.ensures.taken.entry c.in-Each.entry c.in_ok-columns.ensures.taken.left c.requires
-            c.in_ok-columns.ensures.taken.there c.in_ok-columns.ensures.taken.taken (each_taken c.args.self.now.is_count_star c.take.new.self.is_count_star c.args.lp.now c.take.new.lp c.args.ex.now c.args.asked c.args.node c.in_ok-columns.field-0 c.in_ok-columns.ensures.taken c.in-Each.inputs c.in-Each.asked c.in-Each.covered c.in-Each.kept c.in-Each.entry c.in-Each.is) ∙ sym (ap length own),
+        subst (λ (ns : List Node). AreInputs c.take.new.lp c.args.ex.now ns) (sym own) (each_inputs c.args.asked c.args.lp.now c.take.new.lp c.args.ex.now c.args.node c.in-Each.inputs c.in-Each.asked c.in-Each.covered c.in_ok-columns.ensures.taken.entry c.in-Each.entry.value c.in_ok-columns.ensures.taken.left c.requires
+            c.in_ok-columns.ensures.taken.there c.in_ok-columns.ensures.taken.taken (each_taken c.args.self.now.is_count_star c.take.new.self.is_count_star c.args.lp.now c.take.new.lp c.args.ex.now c.args.asked c.args.node (step_told c.in_ok-columns.field-0) c.in_ok-columns.ensures.taken c.in-Each.inputs c.in-Each.asked c.in-Each.covered c.in-Each.kept c.in-Each.entry.value (ap step_told c.in-Each.is))),
+        ap length listed ∙ each_long c.args.asked c.args.lp.now c.take.new.lp c.args.ex.now c.args.node c.in-Each.inputs c.in-Each.asked c.in-Each.covered c.in_ok-columns.ensures.taken.entry c.in-Each.entry.value c.in_ok-columns.ensures.taken.left c.requires
+            c.in_ok-columns.ensures.taken.there c.in_ok-columns.ensures.taken.taken (each_taken c.args.self.now.is_count_star c.take.new.self.is_count_star c.args.lp.now c.take.new.lp c.args.ex.now c.args.asked c.args.node (step_told c.in_ok-columns.field-0) c.in_ok-columns.ensures.taken c.in-Each.inputs c.in-Each.asked c.in-Each.covered c.in-Each.kept c.in-Each.entry.value (ap step_told c.in-Each.is)) ∙ sym (ap length own),
       ),
     )
 
@@ -112,35 +113,35 @@ pub push_down-put_over-requires-clause-inputs : goal.push_down-put_over-requires
 push_down-put_over-requires-clause-inputs t c =
     let own : c.as_slice-own.result.now ≡ c.in-Each.inputs = c.as_slice-own.ensures in
     let listed : c.as_slice-lists.result.now ≡ c.in-Each.asked = c.as_slice-lists.ensures in
-    each_left c.args.asked c.args.lp.now c.take.new.lp c.args.ex.now c.args.node c.in-Each.inputs c.in-Each.asked c.in-Each.covered c.in_ok-columns.ensures.taken.entry c.in-Each.entry c.in_ok-columns.ensures.taken.left c.requires
-    c.in_ok-columns.ensures.taken.there c.in_ok-columns.ensures.taken.taken (each_taken c.args.self.now.is_count_star c.take.new.self.is_count_star c.args.lp.now c.take.new.lp c.args.ex.now c.args.asked c.args.node c.in_ok-columns.field-0 c.in_ok-columns.ensures.taken c.in-Each.inputs c.in-Each.asked c.in-Each.covered c.in-Each.kept c.in-Each.entry c.in-Each.is)
+    each_left c.args.asked c.args.lp.now c.take.new.lp c.args.ex.now c.args.node c.in-Each.inputs c.in-Each.asked c.in-Each.covered c.in_ok-columns.ensures.taken.entry c.in-Each.entry.value c.in_ok-columns.ensures.taken.left c.requires
+    c.in_ok-columns.ensures.taken.there c.in_ok-columns.ensures.taken.taken (each_taken c.args.self.now.is_count_star c.take.new.self.is_count_star c.args.lp.now c.take.new.lp c.args.ex.now c.args.asked c.args.node (step_told c.in_ok-columns.field-0) c.in_ok-columns.ensures.taken c.in-Each.inputs c.in-Each.asked c.in-Each.covered c.in-Each.kept c.in-Each.entry.value (ap step_told c.in-Each.is))
     c.take.new.self.is_count_star c.push_inputs.new.self.is_count_star c.push_inputs.new.lp c.push_inputs.new.ex (subst (λ (l : List (List Name)). InputsPruned c.take.new.self.is_count_star c.push_inputs.new.self.is_count_star c.in-Each.covered l c.take.new.lp c.push_inputs.new.lp c.args.ex.now c.push_inputs.new.ex c.in-Each.inputs) listed (subst (λ (ns : List Node). InputsPruned c.take.new.self.is_count_star c.push_inputs.new.self.is_count_star c.in-Each.covered c.as_slice-lists.result.now c.take.new.lp c.push_inputs.new.lp c.args.ex.now c.push_inputs.new.ex ns) own c.in-Ok-push_inputs.ensures.pruned))
 
 pub push_down-put_over-requires-clause-exprs : goal.push_down-put_over-requires-clause-exprs
-push_down-put_over-requires-clause-exprs t c = each_exprs c.args.asked c.args.lp.now c.take.new.lp c.args.ex.now c.args.node c.in-Each.inputs c.in-Each.asked c.in-Each.covered c.in_ok-columns.ensures.taken.entry c.in-Each.entry c.in_ok-columns.ensures.taken.left c.requires
-    c.in_ok-columns.ensures.taken.there c.in_ok-columns.ensures.taken.taken (each_taken c.args.self.now.is_count_star c.take.new.self.is_count_star c.args.lp.now c.take.new.lp c.args.ex.now c.args.asked c.args.node c.in_ok-columns.field-0 c.in_ok-columns.ensures.taken c.in-Each.inputs c.in-Each.asked c.in-Each.covered c.in-Each.kept c.in-Each.entry c.in-Each.is) c.push_inputs.new.ex c.in-Ok-push_inputs.ensures.longer
+push_down-put_over-requires-clause-exprs t c = each_exprs c.args.asked c.args.lp.now c.take.new.lp c.args.ex.now c.args.node c.in-Each.inputs c.in-Each.asked c.in-Each.covered c.in_ok-columns.ensures.taken.entry c.in-Each.entry.value c.in_ok-columns.ensures.taken.left c.requires
+    c.in_ok-columns.ensures.taken.there c.in_ok-columns.ensures.taken.taken (each_taken c.args.self.now.is_count_star c.take.new.self.is_count_star c.args.lp.now c.take.new.lp c.args.ex.now c.args.asked c.args.node (step_told c.in_ok-columns.field-0) c.in_ok-columns.ensures.taken c.in-Each.inputs c.in-Each.asked c.in-Each.covered c.in-Each.kept c.in-Each.entry.value (ap step_told c.in-Each.is)) c.push_inputs.new.ex c.in-Ok-push_inputs.ensures.longer
 
 pub push_down-put_over-requires-clause-kind : goal.push_down-put_over-requires-clause-kind
 push_down-put_over-requires-clause-kind t c = λ k some.
-    kept_join c.take.new.lp c.args.ex.now c.args.asked c.in-Each.inputs c.in-Each.asked c.in-Each.covered c.in-Each.kept k c.in_ok-columns.ensures.taken.entry c.in-Each.entry (kept_taken c.args.self.now.is_count_star c.take.new.self.is_count_star c.args.lp.now c.take.new.lp c.args.ex.now c.args.asked c.args.node c.in_ok-columns.field-0 c.in_ok-columns.ensures.taken c.in-Each.inputs c.in-Each.asked c.in-Each.covered c.in-Each.kept c.in-Each.entry c.in-Each.is) some (each_taken c.args.self.now.is_count_star c.take.new.self.is_count_star c.args.lp.now c.take.new.lp c.args.ex.now c.args.asked c.args.node c.in_ok-columns.field-0 c.in_ok-columns.ensures.taken c.in-Each.inputs c.in-Each.asked c.in-Each.covered c.in-Each.kept c.in-Each.entry c.in-Each.is)
+    kept_join c.take.new.lp c.args.ex.now c.args.asked c.in-Each.inputs c.in-Each.asked c.in-Each.covered c.in-Each.kept k c.in_ok-columns.ensures.taken.entry c.in-Each.entry.value (kept_taken c.args.self.now.is_count_star c.take.new.self.is_count_star c.args.lp.now c.take.new.lp c.args.ex.now c.args.asked c.args.node (step_told c.in_ok-columns.field-0) c.in_ok-columns.ensures.taken c.in-Each.inputs c.in-Each.asked c.in-Each.covered c.in-Each.kept c.in-Each.entry.value (ap step_told c.in-Each.is)) some (each_taken c.args.self.now.is_count_star c.take.new.self.is_count_star c.args.lp.now c.take.new.lp c.args.ex.now c.args.asked c.args.node (step_told c.in_ok-columns.field-0) c.in_ok-columns.ensures.taken c.in-Each.inputs c.in-Each.asked c.in-Each.covered c.in-Each.kept c.in-Each.entry.value (ap step_told c.in-Each.is))
 
 pub push_down-returns-in-Ok-push_inputs-clause-prunes : goal.push_down-returns-in-Ok-push_inputs-clause-prunes
 push_down-returns-in-Ok-push_inputs-clause-prunes t c = on_ok_weaker c.put_over.result (λ back.
     let own : c.as_slice-own.result.now ≡ c.in-Each.inputs = c.as_slice-own.ensures in
     let listed : c.as_slice-lists.result.now ≡ c.in-Each.asked = c.as_slice-lists.ensures in
     let top = not c.args.self.now.is_count_star in
-    each_step c.args.asked c.args.lp.now c.take.new.lp c.args.ex.now c.args.node c.in-Each.inputs c.in-Each.asked c.in-Each.covered c.in_ok-columns.ensures.taken.entry c.in-Each.entry c.in_ok-columns.ensures.taken.left c.requires
-    c.in_ok-columns.ensures.taken.there c.in_ok-columns.ensures.taken.taken (each_taken c.args.self.now.is_count_star c.take.new.self.is_count_star c.args.lp.now c.take.new.lp c.args.ex.now c.args.asked c.args.node c.in_ok-columns.field-0 c.in_ok-columns.ensures.taken c.in-Each.inputs c.in-Each.asked c.in-Each.covered c.in-Each.kept c.in-Each.entry c.in-Each.is)
+    each_step c.args.asked c.args.lp.now c.take.new.lp c.args.ex.now c.args.node c.in-Each.inputs c.in-Each.asked c.in-Each.covered c.in_ok-columns.ensures.taken.entry c.in-Each.entry.value c.in_ok-columns.ensures.taken.left c.requires
+    c.in_ok-columns.ensures.taken.there c.in_ok-columns.ensures.taken.taken (each_taken c.args.self.now.is_count_star c.take.new.self.is_count_star c.args.lp.now c.take.new.lp c.args.ex.now c.args.asked c.args.node (step_told c.in_ok-columns.field-0) c.in_ok-columns.ensures.taken c.in-Each.inputs c.in-Each.asked c.in-Each.covered c.in-Each.kept c.in-Each.entry.value (ap step_told c.in-Each.is))
     top c.take.new.self.is_count_star c.push_inputs.new.self.is_count_star c.in-Each.kept c.push_inputs.new.lp c.put_over.new.lp c.push_inputs.new.ex c.put_over.new.ex
-    (top_marked c.args.self.now.is_count_star (is_count (op_at c.args.ex.now c.in_ok-columns.ensures.taken.entry)) c.take.new.self.is_count_star c.in_ok-columns.ensures.taken.marked) (kept_taken c.args.self.now.is_count_star c.take.new.self.is_count_star c.args.lp.now c.take.new.lp c.args.ex.now c.args.asked c.args.node c.in_ok-columns.field-0 c.in_ok-columns.ensures.taken c.in-Each.inputs c.in-Each.asked c.in-Each.covered c.in-Each.kept c.in-Each.entry c.in-Each.is) (subst (λ (l : List (List Name)). InputsPruned c.take.new.self.is_count_star c.push_inputs.new.self.is_count_star c.in-Each.covered l c.take.new.lp c.push_inputs.new.lp c.args.ex.now c.push_inputs.new.ex c.in-Each.inputs) listed (subst (λ (ns : List Node). InputsPruned c.take.new.self.is_count_star c.push_inputs.new.self.is_count_star c.in-Each.covered c.as_slice-lists.result.now c.take.new.lp c.push_inputs.new.lp c.args.ex.now c.push_inputs.new.ex ns) own c.in-Ok-push_inputs.ensures.pruned)) c.in-Ok-push_inputs.ensures.longer c.put_over.ensures.longer
-    (subst (λ (some : Bool). IsPutBack some c.in-Each.kept c.push_inputs.new.lp c.put_over.new.lp c.push_inputs.new.ex c.put_over.new.ex c.args.node c.in-Each.entry) (some_len c.args.asked c.len-is_asked.result c.len-is_asked.ensures.value) back)) c.put_over.ensures.placed
+    (top_marked c.args.self.now.is_count_star (is_count (op_at c.args.ex.now c.in_ok-columns.ensures.taken.entry)) c.take.new.self.is_count_star c.in_ok-columns.ensures.taken.marked) (kept_taken c.args.self.now.is_count_star c.take.new.self.is_count_star c.args.lp.now c.take.new.lp c.args.ex.now c.args.asked c.args.node (step_told c.in_ok-columns.field-0) c.in_ok-columns.ensures.taken c.in-Each.inputs c.in-Each.asked c.in-Each.covered c.in-Each.kept c.in-Each.entry.value (ap step_told c.in-Each.is)) (subst (λ (l : List (List Name)). InputsPruned c.take.new.self.is_count_star c.push_inputs.new.self.is_count_star c.in-Each.covered l c.take.new.lp c.push_inputs.new.lp c.args.ex.now c.push_inputs.new.ex c.in-Each.inputs) listed (subst (λ (ns : List Node). InputsPruned c.take.new.self.is_count_star c.push_inputs.new.self.is_count_star c.in-Each.covered c.as_slice-lists.result.now c.take.new.lp c.push_inputs.new.lp c.args.ex.now c.push_inputs.new.ex ns) own c.in-Ok-push_inputs.ensures.pruned)) c.in-Ok-push_inputs.ensures.longer c.put_over.ensures.longer
+    (subst (λ (some : Bool). IsPutBack some c.in-Each.kept c.push_inputs.new.lp c.put_over.new.lp c.push_inputs.new.ex c.put_over.new.ex c.args.node c.in-Each.entry.value) (some_len c.args.asked c.len-is_asked.result c.len-is_asked.ensures.value) back)) c.put_over.ensures.placed
 
 pub push_down-returns-in-Ok-push_inputs-clause-marks : goal.push_down-returns-in-Ok-push_inputs-clause-marks
 push_down-returns-in-Ok-push_inputs-clause-marks t c = on_ok_weaker c.put_over.result (λ back.
     let own : c.as_slice-own.result.now ≡ c.in-Each.inputs = c.as_slice-own.ensures in
     let listed : c.as_slice-lists.result.now ≡ c.in-Each.asked = c.as_slice-lists.ensures in
-    each_mark c.args.asked c.args.lp.now c.take.new.lp c.args.ex.now c.args.node c.in-Each.inputs c.in-Each.asked c.in-Each.covered c.in_ok-columns.ensures.taken.entry c.in-Each.entry c.in_ok-columns.ensures.taken.left c.requires
-    c.in_ok-columns.ensures.taken.there c.in_ok-columns.ensures.taken.taken (each_taken c.args.self.now.is_count_star c.take.new.self.is_count_star c.args.lp.now c.take.new.lp c.args.ex.now c.args.asked c.args.node c.in_ok-columns.field-0 c.in_ok-columns.ensures.taken c.in-Each.inputs c.in-Each.asked c.in-Each.covered c.in-Each.kept c.in-Each.entry c.in-Each.is)
+    each_mark c.args.asked c.args.lp.now c.take.new.lp c.args.ex.now c.args.node c.in-Each.inputs c.in-Each.asked c.in-Each.covered c.in_ok-columns.ensures.taken.entry c.in-Each.entry.value c.in_ok-columns.ensures.taken.left c.requires
+    c.in_ok-columns.ensures.taken.there c.in_ok-columns.ensures.taken.taken (each_taken c.args.self.now.is_count_star c.take.new.self.is_count_star c.args.lp.now c.take.new.lp c.args.ex.now c.args.asked c.args.node (step_told c.in_ok-columns.field-0) c.in_ok-columns.ensures.taken c.in-Each.inputs c.in-Each.asked c.in-Each.covered c.in-Each.kept c.in-Each.entry.value (ap step_told c.in-Each.is))
     c.args.self.now.is_count_star c.take.new.self.is_count_star c.push_inputs.new.self.is_count_star c.push_inputs.new.lp c.push_inputs.new.ex c.in_ok-columns.ensures.taken.marked (subst (λ (l : List (List Name)). InputsPruned c.take.new.self.is_count_star c.push_inputs.new.self.is_count_star c.in-Each.covered l c.take.new.lp c.push_inputs.new.lp c.args.ex.now c.push_inputs.new.ex c.in-Each.inputs) listed (subst (λ (ns : List Node). InputsPruned c.take.new.self.is_count_star c.push_inputs.new.self.is_count_star c.in-Each.covered c.as_slice-lists.result.now c.take.new.lp c.push_inputs.new.lp c.args.ex.now c.push_inputs.new.ex ns) own c.in-Ok-push_inputs.ensures.pruned))) c.put_over.ensures.placed
 
 pub push_down-returns-in-Ok-push_inputs-clause-stays : goal.push_down-returns-in-Ok-push_inputs-clause-stays

@@ -1,4 +1,5 @@
 use Rattle.std.proofs.Common.{◌∙◌, sym, ap}
+use Rattle.std.proofs.lemmas.Result.{IfOk-weaker}
 use Rattle.plan_ir.proofs.PlanLemmas.{plan_exprs}
 use Rattle.plan_prune.specs.declared.push_down.ProjectionPushDown.{ProjectionPushDown}
 use Rattle.plan_prune_parts.specs.Steps.{with_kept}
@@ -31,7 +32,7 @@ prepare-requires-clause-plans c = λ j i at.
     k.plan
 
 pub returns-clause-taken : goal.returns-clause-taken
-returns-clause-taken c = record {
+returns-clause-taken c = IfOk-weaker c.boxed.result _ _ (λ step told. record {
   entry = c.take-entry.result;
   left = c.take-entry.ensures.after.0;
   kept = c.in_ok-kept.kept;
@@ -42,8 +43,8 @@ returns-clause-taken c = record {
     | else-is_count w ↦ mark_kept c.args.self.now.is_count_star (sym c.is_count.ensures ∙ w.if-is_count.false) (ap (λ (p : ProjectionPushDown). p.is_count_star) w.self-is)
   ];
   kept_is = c.in_ok-kept.ensures;
-  step_is = c.keeping.ensures ∙ ap (with_kept c.in_ok-kept.kept) c.in_ok-step.ensures;
-}
+  step_is = told ∙ c.keeping.ensures ∙ ap (with_kept c.in_ok-kept.kept) c.in_ok-step.ensures;
+}) c.boxed.ensures
 
 pub returns-in_err-kept-clause-stays : goal.returns-in_err-kept-clause-stays
 returns-in_err-kept-clause-stays c = λ e. elim c.if-is_count.branch [
