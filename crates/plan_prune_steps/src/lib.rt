@@ -9,6 +9,7 @@ mod function;
 mod group_by;
 mod hconcat;
 mod hstack;
+mod known;
 mod projection;
 mod scan;
 pub mod select;
