@@ -6,5 +6,6 @@ mod functions;
 mod overlay;
 mod walk;
 
+pub use functions::only_name;
 pub use overlay::Overlay;
 pub use walk::overlay_at;

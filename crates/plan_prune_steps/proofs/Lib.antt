@@ -4,3 +4,4 @@ mod AskedParts
 mod GroupParts
 mod ConcatParts
 mod ScanParts
+mod RenamingParts

@@ -11,6 +11,7 @@ mod hconcat;
 mod hstack;
 mod known;
 mod projection;
+mod renaming;
 mod scan;
 pub mod select;
 mod sink;
