@@ -1,3 +1,4 @@
 -- The definitions that contracts cite.
+pub mod Renaming
 pub mod Scans
 pub mod Steps

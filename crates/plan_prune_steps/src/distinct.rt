@@ -1,8 +1,9 @@
 //! Distinct rows stay as they are.
 //! Asked something, they ask their input that, and the names by which rows are told apart, each last unless it is asked
 //! already: without names all of the input's. Asked nothing, they ask nothing.
-ghost use Rattle.std.specs.Prelude.{◌≡◌, List, [], ◌∷◌, IfOk};
+ghost use Rattle.std.specs.Prelude.{◌≡◌, List, [], ◌∷◌, IfOk, OnOk};
 ghost use Rattle.plan_core.specs.Columns.{names_of};
+ghost use Rattle.plan_core.specs.Names.{with_names};
 ghost use Rattle.plan_tree.specs.Stands.{Trees, StandsOnce};
 ghost use Rattle.plan_expr.specs.declared.aexpr.AExpr.{AExpr};
 ghost use Rattle.plan_ir.specs.declared.ir.IR.{IR};
@@ -13,7 +14,7 @@ ghost use Rattle.plan_narrowing.specs.Pruned.{asked_with};
 ghost use Rattle.plan_prune_parts.specs.declared.step.Step.TheVariants.{Over};
 ghost use Rattle.plan_prune_parts.specs.Said.{columns_at};
 
-use plan_core::{Arena, Items, Names, Node, PlSmallStr, Schema};
+use plan_core::{Arena, Items, Names, Node, PlSmallStr};
 use plan_ir::IR;
 use plan_narrowing::{add_columns, add_listed};
 use plan_options::DistinctOptionsIR;
@@ -21,22 +22,55 @@ use plan_prune_parts::Step;
 use plan_schema::stored_schema;
 use std::alloc::{AllocError, Global};
 
+/// Adds the names of the columns that the plan at a number says it has. Refuses for want of memory alone, and then nothing is known
+/// of the names.
+fn add_columns_at(
+    alloc: Global,
+    names: &mut Names,
+    input: Node,
+    lp: &Arena<IR>,
+) -> Result<(), AllocError>
+    requires { (t : Trees IR) × StandsOnce plan_shape lp.now (input ∷ []) t }
+    ensures { OnOk result ((ex : List AExpr) → names.new ≡ with_names names.old (names_of (columns_at lp.now ex input))) }
+{
+    let stored = stored_schema(alloc, input, lp)?;
+    add_columns(names, stored.columns())?;
+    Ok(())
+}
+
+/// Adds the names by which rows are told apart: all of the input's where none are told. Refuses for want of memory alone, and then
+/// nothing is known of the names.
+fn add_subset(
+    alloc: Global,
+    names: &mut Names,
+    subset: &Option<Items<PlSmallStr>>,
+    input: Node,
+    lp: &Arena<IR>,
+) -> Result<(), AllocError>
+    requires { (t : Trees IR) × StandsOnce plan_shape lp.now (input ∷ []) t }
+    ensures { OnOk result ((ex : List AExpr) → names.new ≡ with_names names.old (names_or subset.now (names_of (columns_at lp.now ex input)))) }
+{
+    match subset {
+        Some(told) => add_listed(names, told.as_slice()),
+        None => add_columns_at(alloc, names, input, lp),
+    }
+}
+
 /// What distinct rows ask their input: the asked names, and then the other names by which rows are told apart; no names
 /// stand for every column, and then they ask none.
 fn asks(
+    alloc: Global,
     asked: Names,
     subset: &Option<Items<PlSmallStr>>,
-    columns: &Schema,
+    input: Node,
+    lp: &Arena<IR>,
 ) -> Result<Names, AllocError>
-    ensures { IfOk result (λ names. names ≡ asked_with asked (names_or subset.now (names_of columns.now))) }
+    requires { (t : Trees IR) × StandsOnce plan_shape lp.now (input ∷ []) t }
+    ensures { IfOk result (λ names. (ex : List AExpr) → names ≡ asked_with asked (names_or subset.now (names_of (columns_at lp.now ex input)))) }
 {
     let mut names = asked;
-    if names.len() == 0 {
-        return Ok(names);
-    }
-    match subset {
-        Some(told) => add_listed(&mut names, told.as_slice())?,
-        None => add_columns(&mut names, columns)?,
+    if names.len() > 0 {
+        add_subset(alloc, &mut names, subset, input, lp)?;
     }
     Ok(names)
 }
@@ -52,8 +86,7 @@ pub fn prepare(
     requires { (t : Trees IR) × StandsOnce plan_shape lp.now (input ∷ []) t }
     ensures { IfOk result (λ step. (ex : List AExpr) → step ≡ Over input (asked_with asked (names_or options.subset (names_of (columns_at lp.now ex input)))) (Distinct input options)) }
 {
-    let stored = stored_schema(alloc, input, lp)?;
-    let asked = asks(asked, &options.subset, stored.columns())?;
+    let asked = asks(alloc, asked, &options.subset, input, lp)?;
     Ok(Step::Over {
         input,
         asked,

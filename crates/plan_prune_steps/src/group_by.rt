@@ -1,7 +1,7 @@
 //! A grouping keeps its keys, and of its aggregates those that are asked, in its own order. It stores the columns of these.
 //! It asks its input the asked names that this has, and then the names that the kept aggregates read, and the keys.
 //! Asked nothing, it stays as it is, and asks the names that its aggregates and its keys read.
-ghost use Rattle.std.specs.Prelude.{◌≡◌, ◌++◌, All, [], IfOk, IsTrue};
+ghost use Rattle.std.specs.Prelude.{◌≡◌, ◌++◌, All, [], ◌∷◌, IfOk, IsTrue};
 ghost use Rattle.plan_tree.specs.Stands.{Trees, StandsOnce};
 ghost use Rattle.plan_ir.specs.declared.ir.IR.{IR};
 ghost use Rattle.plan_expr.specs.Operands.{IsExpr};
@@ -10,15 +10,15 @@ ghost use Rattle.plan_ir.specs.Parts.{inputs_of, is_group_by, plan_shape, roots_
 ghost use Rattle.plan_meaning.specs.Asked.{grouping_names};
 ghost use Rattle.plan_prune_parts.specs.Kept.{is_some_name, names_at, stored_after};
 ghost use Rattle.plan_prune_parts.specs.Places.{StandExprs};
+ghost use Rattle.plan_prune_parts.specs.Said.{columns_at};
 ghost use Rattle.plan_prune_steps.specs.Steps.{step_of};
 
-use plan_core::{Arena, Names, Schema};
+use crate::known::known_at;
+use plan_core::{Arena, Names, Node, Schema};
 use plan_expr::{AExpr, ExprIR};
 use plan_ir::IR;
-use plan_narrowing::known_names;
 use plan_prune_parts::Step;
 use plan_prune_parts::exprs::{add_all_names, kept_exprs, with_typed};
-use plan_schema::stored_schema;
 use std::alloc::{AllocError, Global};
 
 /// The columns that a grouping stores that keeps these keys and aggregates.
@@ -38,20 +38,22 @@ fn columns(
     Ok(with_typed(alloc, of_keys, aggs, &schema)?)
 }
 
-/// What a grouping asks that keeps these keys and aggregates, over an input of these columns.
+/// What a grouping asks that keeps these keys and aggregates.
 fn asks(
     alloc: Global,
     asked: &Names,
     keys: &[ExprIR],
     aggs: &[ExprIR],
-    columns: &Schema,
+    input: Node,
+    lp: &Arena<IR>,
     ex: &Arena<AExpr>,
 ) -> Result<Names, AllocError>
     requires keys { All (λ e. IsExpr ex.now e.node) keys.now }
     requires aggs { All (λ e. IsExpr ex.now e.node) aggs.now }
-    ensures { IfOk result (λ names. names ≡ grouping_names (all_named_at ex.now keys.now) (all_named_at ex.now aggs.now) asked.now columns.now) }
+    requires input { (t : Trees IR) × StandsOnce plan_shape lp.now (input ∷ []) t }
+    ensures { IfOk result (λ names. names ≡ grouping_names (all_named_at ex.now keys.now) (all_named_at ex.now aggs.now) asked.now (columns_at lp.now ex.now input)) }
 {
-    let mut names = known_names(alloc, asked, columns)?;
+    let mut names = known_at(alloc, asked, input, lp)?;
     add_all_names(&mut names, aggs, ex)?;
     add_all_names(&mut names, keys, ex)?;
     Ok(names)
@@ -81,9 +83,15 @@ pub fn prepare(
         } => {
             let aggs = kept_exprs(alloc, aggs, asked)?;
             let schema = columns(alloc, schema, keys.as_slice(), aggs.as_slice(), asked)?;
-            let stored = stored_schema(alloc, input, lp)?;
-            let read = stored.columns();
-            let asked = asks(alloc, asked, keys.as_slice(), aggs.as_slice(), read, ex)?;
+            let asked = asks(
+                alloc,
+                asked,
+                keys.as_slice(),
+                aggs.as_slice(),
+                input,
+                lp,
+                ex,
+            )?;
             Ok(Step::Over {
                 input,
                 asked,

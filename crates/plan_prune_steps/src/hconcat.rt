@@ -12,9 +12,9 @@ ghost use Rattle.plan_prune_parts.specs.Kept.{beside_after};
 ghost use Rattle.plan_prune_parts.specs.Said.{columns_at};
 ghost use Rattle.plan_prune_steps.specs.Steps.{held_at, is_hconcat, step_of};
 
+use crate::known::known_at;
 use plan_core::{Arena, Items, Names, Node, PlSmallStr, Schema, TryClone};
 use plan_ir::IR;
-use plan_narrowing::known_names;
 use plan_options::HConcatOptions;
 use plan_prune_parts::Step;
 use plan_schema::stored_schema;
@@ -32,8 +32,7 @@ fn asks(
 {
     let mut lists = Items::new(alloc);
     for input in inputs {
-        let stored = stored_schema(alloc, *input, lp)?;
-        lists.push(known_names(alloc, asked, stored.columns())?)?;
+        lists.push(known_at(alloc, asked, *input, lp)?)?;
     }
     Ok(lists)
 }

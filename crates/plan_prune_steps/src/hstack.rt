@@ -14,27 +14,30 @@ ghost use Rattle.plan_meaning.specs.Typing.{first_schema};
 ghost use Rattle.plan_schema.specs.Stored.{stored_all};
 ghost use Rattle.plan_prune_parts.specs.Kept.{asks_after, with_stacked};
 ghost use Rattle.plan_prune_parts.specs.Places.{StandExprs};
+ghost use Rattle.plan_prune_parts.specs.Said.{columns_at};
 ghost use Rattle.plan_prune_steps.specs.Steps.{step_of};
 
+use crate::known::known_at;
 use plan_core::{Arena, Items, Names, Node, ProjectionOptions, Schema};
 use plan_expr::{AExpr, ExprIR};
 use plan_ir::IR;
-use plan_narrowing::known_names;
 use plan_prune_parts::Step;
 use plan_prune_parts::exprs::{add_all_names, kept_exprs, with_typed};
 use plan_schema::stored_schema;
 use std::alloc::{AllocError, Global};
 
-/// What an addition asks that keeps these expressions, over an input of these columns.
+/// What an addition asks that keeps these expressions.
 fn asks(
     alloc: Global,
     asked: Names,
     exprs: &[ExprIR],
-    columns: &Schema,
+    input: Node,
+    lp: &Arena<IR>,
     ex: &Arena<AExpr>,
 ) -> Result<Names, AllocError>
-    requires { All (λ e. IsExpr ex.now e.node) exprs.now }
-    ensures { IfOk result (λ names. names ≡ asks_after asked (all_named_at ex.now exprs.now) columns.now) }
+    requires exprs { All (λ e. IsExpr ex.now e.node) exprs.now }
+    requires input { (t : Trees IR) × StandsOnce plan_shape lp.now (input ∷ []) t }
+    ensures { IfOk result (λ names. names ≡ asks_after asked (all_named_at ex.now exprs.now) (columns_at lp.now ex.now input)) }
 {
     if asked.len() == 0 {
         return Ok(asked);
@@ -42,7 +45,7 @@ fn asks(
     if exprs.len() == 0 {
         return Ok(asked);
     }
-    let mut names = known_names(alloc, &asked, columns)?;
+    let mut names = known_at(alloc, &asked, input, lp)?;
     add_all_names(&mut names, exprs, ex)?;
     Ok(names)
 }
@@ -68,8 +71,7 @@ pub fn prepare(
             options,
         } => {
             let exprs = kept_exprs(alloc, exprs, &asked)?;
-            let stored = stored_schema(alloc, input, lp)?;
-            let asked = asks(alloc, asked, exprs.as_slice(), stored.columns(), ex)?;
+            let asked = asks(alloc, asked, exprs.as_slice(), input, lp, ex)?;
             Ok(Step::Over {
                 input,
                 asked,

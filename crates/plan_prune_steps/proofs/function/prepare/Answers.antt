@@ -1,11 +1,10 @@
-use Rattle.std.proofs.Common.{◌∙◌, ap, List}
+use Rattle.std.proofs.Common.{ap, List}
 use Rattle.plan_ir.specs.declared.ir.IR.TheVariants.{MapFunction}
 use Rattle.plan_expr.specs.Leaves.{Name}
-use Rattle.plan_narrowing.specs.Pruned.{mapped_names}
 use Rattle.plan_prune_parts.specs.declared.step.Step.TheVariants.{Over}
 use Rattle.plan_prune_steps.proofs.function.prepare.Goals as goal
 
 pub returns : goal.returns
 returns c = λ ex.
     ap (λ (l : List Name). Over c.args.input l (MapFunction c.args.input c.args.function))
-    (c.in_ok-asked.ensures ∙ ap (mapped_names c.args.asked c.args.function) (c.columns.ensures ∙ c.in_ok-stored.ensures.stored ex))
+    (c.in_ok-asked.ensures ex)

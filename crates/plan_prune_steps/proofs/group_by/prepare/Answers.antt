@@ -35,8 +35,7 @@ returns c =
     let stored : List ExprIR → List ExprIR → Columns = λ ks ls. stored_after (is_some_name asked) [] (names_at (ks ++ ls)) c.in-GroupBy.schema in
     ap₂ (λ (l : List Name) (t : Columns). Over c.in-GroupBy.input l (GroupBy c.in-GroupBy.input c.in-GroupBy.keys aggs t c.in-GroupBy.maintain_order c.in-GroupBy.options))
     (c.in_ok-asked-in-GroupBy.ensures
-    ∙ ap₂ (λ (ks ls : List ExprIR). grouping_names (all_named_at c.args.ex.now ks) (all_named_at c.args.ex.now ls) asked c.columns-read.result.now) c.as_slice-in-GroupBy-2.ensures c.as_slice-in-GroupBy-3.ensures
-    ∙ ap (grouping_names keys (all_named_at c.args.ex.now aggs) asked) (c.columns-read.ensures ∙ c.in_ok-stored-in-GroupBy.ensures.stored c.args.ex.now))
+    ∙ ap₂ (λ (ks ls : List ExprIR). grouping_names (all_named_at c.args.ex.now ks) (all_named_at c.args.ex.now ls) asked s) c.as_slice-in-GroupBy-2.ensures c.as_slice-in-GroupBy-3.ensures)
     (c.in_ok-schema-in-GroupBy.ensures ∙ ap₂ stored c.as_slice.ensures c.as_slice-in-GroupBy.ensures)
     ∙ ap (λ (ks : List ExprIR). Over c.in-GroupBy.input (grouping_names keys (all_named_at c.args.ex.now ks) asked s) (GroupBy c.in-GroupBy.input c.in-GroupBy.keys ks (stored c.in-GroupBy.keys ks) c.in-GroupBy.maintain_order c.in-GroupBy.options)) c.in_ok-aggs-in-GroupBy.ensures
     ∙ ap (step_of c.args.lp.now c.args.ex.now asked) (sym c.in-GroupBy.is)

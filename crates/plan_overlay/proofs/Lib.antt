@@ -1,0 +1,4 @@
+-- The lemmas of this crate.
+pub mod ChangeLemmas
+pub mod FunctionLemmas
+mod WalkLemmas
