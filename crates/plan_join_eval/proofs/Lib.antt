@@ -4,4 +4,6 @@ mod FillLemmas
 mod AlongLemmas
 mod TableLemmas
 mod CompareLemmas
+mod ElementwiseLemmas
+mod ReadLemmas
 pub mod JoinLemmas

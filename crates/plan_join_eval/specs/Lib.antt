@@ -2,4 +2,5 @@
 pub mod Equal
 pub mod Fills
 pub mod Along
+pub mod Reads
 pub mod Compared

@@ -1,5 +1,5 @@
 //! The rows that meet what only some kinds of joins are told: inequalities of keys, or a condition. Each row of a side is
-//! compared with each row of the other.
+//! compared with each row of the other, but where a condition works row by row.
 ghost use Rattle.std.specs.Prelude.{◌≡◌, [], ◌∷◌, IfOk, if◌then◌else◌};
 ghost use Rattle.plan_core.specs.Columns.{HasDistinctNames};
 ghost use Rattle.plan_expr.specs.Exprs.{expr_at};
@@ -8,7 +8,7 @@ ghost use Rattle.plan_frame.specs.Meaning.{operated as operated_of, val, value_a
 ghost use Rattle.plan_frame.specs.Values.{is_true as true_value};
 ghost use Rattle.plan_join.specs.Naming.{join_columns};
 ghost use Rattle.plan_join.specs.Told.{operator_if, operators as operators_of};
-ghost use Rattle.plan_join_eval.specs.Compared.{kind_test, sided, IsConditioned};
+ghost use Rattle.plan_join_eval.specs.Compared.{kind_test, sided, AreLists, AreOwn, IsConditioned};
 ghost use Rattle.plan_joined.specs.Joined.{joined as joined_of};
 ghost use Rattle.plan_joined.specs.Matching.{keys_meet as keys_are_met, operator_of as operator_for};
 ghost use Rattle.plan_pairs.specs.Pairs.{both, passing};
@@ -17,8 +17,9 @@ ghost use Rattle.plan_value.specs.Cells.{cell_of, cells_of};
 ghost use Rattle.plan_value.specs.Shown.{frame_of, schema_of, value_of};
 
 use crate::joined::joined_table;
+use crate::worked::worked_lists;
 use plan_core::{Arena, Items, Node};
-use plan_expr::{AExpr, Operator};
+use plan_expr::{AExpr, Operator, is_elementwise};
 use plan_join::JoinTypeOptionsIR;
 use plan_options::{IEJoinOptions, InequalityOperator, JoinArgs};
 use plan_pairs::{Matches, RowPair};
@@ -235,8 +236,84 @@ fn of_side(of_right: bool, right: usize, left: usize) -> usize
     if of_right { right } else { left }
 }
 
-/// The rows of one side that match each row of the other, which is gone through: the right one or the left. Every pair of
-/// rows is compared. Refuses for want of memory alone.
+/// For each of so many rows of the side that is gone through, the rows of the other that match it: each pair of rows is compared.
+fn compared_lists(
+    alloc: Global,
+    by_right: bool,
+    told: &JoinTypeOptionsIR,
+    args: &JoinArgs,
+    left: &Rows,
+    right: &Rows,
+    ex: &Arena<AExpr>,
+    height: usize,
+    others: usize,
+) -> Result<Vec<Items<usize>>, AllocError>
+    requires { IsConditioned ex.now args.now told.now (schema_of left.now.table.now) (schema_of right.now.table.now) }
+    ensures { IfOk result (λ lists. AreLists (sided by_right (kind_test ex.now args.now told.now (cells_of left.now.keys.now) (cells_of right.now.keys.now) (frame_of left.now.table.now) (frame_of right.now.table.now))) height others lists.items) }
+{
+    let mut lists = Vec::new(alloc);
+    for row in 0..height {
+        let rows = matching_rows(alloc, by_right, told, args, left, right, ex, row, others)?;
+        lists.push(rows)?;
+    }
+    Ok(lists)
+}
+
+/// For each of so many rows of the side that is gone through, the rows of the other that match it. A condition that works row by
+/// row is worked out for all of these at once.
+fn match_lists(
+    alloc: Global,
+    by_right: bool,
+    told: &JoinTypeOptionsIR,
+    args: &JoinArgs,
+    left: &Rows,
+    right: &Rows,
+    ex: &Arena<AExpr>,
+    height: usize,
+    others: usize,
+) -> Result<Vec<Items<usize>>, AllocError>
+    requires { IsConditioned ex.now args.now told.now (schema_of left.now.table.now) (schema_of right.now.table.now) }
+    ensures { IfOk result (λ lists. AreLists (sided by_right (kind_test ex.now args.now told.now (cells_of left.now.keys.now) (cells_of right.now.keys.now) (frame_of left.now.table.now) (frame_of right.now.table.now))) height others lists.items) }
+{
+    if let JoinTypeOptionsIR::Cross { predicate } = told {
+        if is_elementwise(predicate.node, ex) {
+            return worked_lists(
+                alloc,
+                by_right,
+                predicate.node,
+                args,
+                left.table,
+                right.table,
+                ex,
+                height,
+                others,
+            );
+        }
+    }
+    compared_lists(alloc, by_right, told, args, left, right, ex, height, others)
+}
+
+/// Rows of which each has its own list of those that match it.
+fn own_matches(
+    alloc: Global,
+    lists: Vec<Items<usize>>,
+    others: usize,
+) -> Result<Matches, AllocError>
+    ensures { IfOk result (AreOwn lists.items others) }
+{
+    let mut numbers = Items::new(alloc);
+    for row in 0..lists.len() {
+        numbers.push(Some(row))?;
+    }
+    Ok(Matches {
+        lists,
+        numbers,
+        others,
+    })
+}
+
+/// The rows of one side that match each row of the other, which is gone through: the right one or the left. Refuses for want of
+/// memory alone.
 pub fn compared_matches(
     alloc: Global,
     by_right: bool,
@@ -251,16 +328,6 @@ pub fn compared_matches(
 {
     let height = of_side(by_right, right.table.height, left.table.height);
     let others = of_side(by_right, left.table.height, right.table.height);
-    let mut lists = Vec::new(alloc);
-    let mut numbers = Items::new(alloc);
-    for row in 0..height {
-        let rows = matching_rows(alloc, by_right, told, args, left, right, ex, row, others)?;
-        lists.push(rows)?;
-        numbers.push(Some(row))?;
-    }
-    Ok(Matches {
-        lists,
-        numbers,
-        others,
-    })
+    let lists = match_lists(alloc, by_right, told, args, left, right, ex, height, others)?;
+    own_matches(alloc, lists, others)
 }

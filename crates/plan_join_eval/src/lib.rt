@@ -6,5 +6,7 @@ mod equal;
 mod fills;
 mod join;
 mod joined;
+mod reads;
+mod worked;
 
 pub use join::evaluate_join;
