@@ -141,28 +141,24 @@ module _ (args : JoinArgs) (left right : Table) (ps : List RowPair) where
       ∙ same_each (under (length ps) renamed (λ a. map (side_value fill f g (sides.Right, a)) ps)) (right_column renamed g ps) (names_of rights) (λ a. ap (λ (vs : List Value). record { name = renamed a; values = vs }) (sym (right_values fill f g a ps))))
 
   -- those of them that are read, the left ones first
-  module _ (N names : List Name) (ls rs : Columns) (sx : Name) (none one all : List Read) (n : N ≡ names) (l : ls ≡ lefts) (r : rs ≡ rights) (x : sx ≡ suffix_of args) (start : none ≡ []) where
-    pub columns-read : map (read_column ps) one ≡ map (read_column ps) none ++ only_where (is_read N) (map (left_along f ps) (names_of ls))
-        → map (read_column ps) all ≡ map (read_column ps) one ++ only_where (is_read N) (map (right_column (right_name sx (names_of ls)) g ps) (names_of rs))
+  module _ (N names : List Name) (ls rs : Columns) (sx : Name) (all : List Read) (n : N ≡ names) (l : ls ≡ lefts) (r : rs ≡ rights) (x : sx ≡ suffix_of args) where
+    pub columns-read : map (read_column ps) all ≡ only_where (is_read N) (map (left_along f ps) (names_of ls)) ++ only_where (is_read N) (map (right_column (right_name sx (names_of ls)) g ps) (names_of rs))
         → map (read_column ps) all ≡ only_where (is_read names) (joined args [] [] ps f g).columns
-    columns-read first second =
+    columns-read both =
         let lefts_along : Columns → List Column = λ (cs : Columns). map (left_along f ps) (names_of cs) in
         let rights_along : Name → Columns → Columns → List Column = λ (s : Name) (cs ds : Columns). map (right_column (right_name s (names_of cs)) g ps) (names_of ds) in
-        second
-        ∙ ap (λ (cs : List Column). cs ++ only_where (is_read N) (rights_along sx ls rs)) (first ∙ ap (λ (rs : List Read). map (read_column ps) rs ++ only_where (is_read N) (lefts_along ls)) start)
+        both
         ∙ sym (filter-append (is_read N) (lefts_along ls) (rights_along sx ls rs))
         ∙ ap (λ (k : List Name). only_where (is_read k) (lefts_along ls ++ rights_along sx ls rs)) n
         ∙ ap (λ (cs : Columns). only_where (is_read names) (lefts_along cs ++ rights_along sx cs rs)) l
         ∙ ap₂ (λ (s : Name) (cs : Columns). only_where (is_read names) (lefts_along lefts ++ rights_along s lefts cs)) x r
         ∙ ap (only_where (is_read names)) (sym columns-joined)
 
-    pub types-read : map read_type one ≡ map read_type none ++ only_where (is_named N) ls
-        → map read_type all ≡ map read_type one ++ only_where (is_named N) (map (λ (c : Name × DataType). (right_name sx (names_of ls) c.0, c.1)) rs)
+    pub types-read : map read_type all ≡ only_where (is_named N) ls ++ only_where (is_named N) (map (λ (c : Name × DataType). (right_name sx (names_of ls) c.0, c.1)) rs)
         → map read_type all ≡ only_where (is_named names) (join_columns args [] [] (schema_of left) (schema_of right))
-    types-read first second =
+    types-read both =
         let under_new : Name → Columns → Columns → Columns = λ (s : Name) (cs ds : Columns). map (λ (c : Name × DataType). (right_name s (names_of cs) c.0, c.1)) ds in
-        second
-        ∙ ap (λ (cs : Columns). cs ++ only_where (is_named N) (under_new sx ls rs)) (first ∙ ap (λ (rs : List Read). map read_type rs ++ only_where (is_named N) ls) start)
+        both
         ∙ sym (filter-append (is_named N) ls (under_new sx ls rs))
         ∙ ap (λ (k : List Name). only_where (is_named k) (ls ++ under_new sx ls rs)) n
         ∙ ap (λ (cs : Columns). only_where (is_named names) (cs ++ under_new sx cs rs)) l

@@ -13,6 +13,7 @@ ghost use Rattle.plan_joined.specs.Joined.{joined as joined_of};
 ghost use Rattle.plan_joined.specs.Matching.{keys_meet as keys_are_met, operator_of as operator_for};
 ghost use Rattle.plan_pairs.specs.Pairs.{both, passing};
 ghost use Rattle.plan_pairs.specs.Rows.{AreJoined};
+ghost use Rattle.plan_table.specs.declared.value.AnyValue.TheVariants.{Null as null_value};
 ghost use Rattle.plan_value.specs.Cells.{cell_of, cells_of};
 ghost use Rattle.plan_value.specs.Shown.{frame_of, schema_of, value_of};
 
@@ -24,7 +25,7 @@ use plan_join::JoinTypeOptionsIR;
 use plan_options::{IEJoinOptions, InequalityOperator, JoinArgs};
 use plan_pairs::{Matches, RowPair};
 use plan_table::{AnyValue, Table};
-use plan_value::{Values, evaluate_expr, is_true_at, operated, value_at};
+use plan_value::{Values, evaluate_expr, is_true_at, operated};
 use std::alloc::{AllocError, Global};
 
 /// A side of a join: its table, and the values of its keys over the rows of that.
@@ -55,74 +56,72 @@ fn is_true(value: &AnyValue) -> bool
     matches!(value, AnyValue::Boolean(true))
 }
 
+/// The value in a row, which is the one value in every row; null where there is no such row.
+fn value_or<'a>(values: &'a Values, row: usize, null: &'a AnyValue) -> &'a AnyValue
+    requires { null.now ≡ null_value }
+    ensures { value_of result.now ≡ value_of_row (cell_of values.now) row }
+{
+    match values {
+        Values::One(value) => value,
+        Values::Many(values) => match values.as_slice().get(row) {
+            Some(value) => value,
+            None => null,
+        },
+    }
+}
+
 /// Whether the values of two keys in two rows meet an inequality, which null doesn't.
 fn key_meets(
-    alloc: Global,
     operator: InequalityOperator,
     left: &Values,
     left_row: usize,
     right: &Values,
     right_row: usize,
-) -> Result<bool, AllocError>
-    ensures { IfOk result (λ b. b ≡ true_value (operated_of (operator_for operator) (value_of_row (cell_of left.now) left_row) (value_of_row (cell_of right.now) right_row))) }
+) -> bool
+    ensures { result ≡ true_value (operated_of (operator_for operator) (value_of_row (cell_of left.now) left_row) (value_of_row (cell_of right.now) right_row)) }
 {
-    let left = value_at(alloc, left, left_row)?;
-    let right = value_at(alloc, right, right_row)?;
-    Ok(is_true(&operated(operator_of(operator), &left, &right)))
+    let null = AnyValue::Null;
+    let left = value_or(left, left_row, &null);
+    let right = value_or(right, right_row, &null);
+    is_true(&operated(operator_of(operator), left, right))
 }
 
 /// Whether the first of some keys meet an inequality, if one is told.
 fn second_meets(
-    alloc: Global,
     operator: Option<InequalityOperator>,
     left: &[Values],
     left_row: usize,
     right: &[Values],
     right_row: usize,
-) -> Result<bool, AllocError>
-    ensures { IfOk result (λ b. b ≡ keys_are_met (operator_if operator) (cells_of left.now) (cells_of right.now) left_row right_row) }
+) -> bool
+    ensures { result ≡ keys_are_met (operator_if operator) (cells_of left.now) (cells_of right.now) left_row right_row }
 {
     match (operator, left, right) {
         (Some(operator), [first, ..], [second, ..]) => {
-            key_meets(alloc, operator, first, left_row, second, right_row)
+            key_meets(operator, first, left_row, second, right_row)
         }
-        _ => Ok(true),
+        _ => true,
     }
 }
 
 /// Whether the keys of two rows meet the inequalities, each pair of keys its own.
 fn keys_meet(
-    alloc: Global,
     operators: &IEJoinOptions,
     left: &[Values],
     left_row: usize,
     right: &[Values],
     right_row: usize,
-) -> Result<bool, AllocError>
-    ensures { IfOk result (λ b. b ≡ keys_are_met (operators_of operators.now) (cells_of left.now) (cells_of right.now) left_row right_row) }
+) -> bool
+    ensures { result ≡ keys_are_met (operators_of operators.now) (cells_of left.now) (cells_of right.now) left_row right_row }
 {
     match (left, right) {
         ([first, lefts @ ..], [second, rights @ ..]) => {
-            if !key_meets(
-                alloc,
-                operators.operator1,
-                first,
-                left_row,
-                second,
-                right_row,
-            )? {
-                return Ok(false);
+            if !key_meets(operators.operator1, first, left_row, second, right_row) {
+                return false;
             }
-            second_meets(
-                alloc,
-                operators.operator2,
-                lefts,
-                left_row,
-                rights,
-                right_row,
-            )
+            second_meets(operators.operator2, lefts, left_row, rights, right_row)
         }
-        _ => Ok(true),
+        _ => true,
     }
 }
 
@@ -166,9 +165,9 @@ fn is_match(
     ensures { IfOk result (λ b. b ≡ kind_test ex.now args.now told.now (cells_of left.now.keys.now) (cells_of right.now.keys.now) (frame_of left.now.table.now) (frame_of right.now.table.now) left_row right_row) }
 {
     match told {
-        JoinTypeOptionsIR::IEJoin(operators) => {
-            keys_meet(alloc, operators, left.keys, left_row, right.keys, right_row)
-        }
+        JoinTypeOptionsIR::IEJoin(operators) => Ok(keys_meet(
+            operators, left.keys, left_row, right.keys, right_row,
+        )),
         JoinTypeOptionsIR::Cross { predicate } => condition_holds(
             alloc,
             predicate.node,

@@ -130,6 +130,25 @@ fn add_rights<'a>(
     Ok(())
 }
 
+/// The columns that have one of some names, among left ones and right ones that a join puts out.
+fn reads_among<'a>(
+    alloc: Global,
+    suffix: &str,
+    left: &'a Table,
+    lefts: &Schema,
+    right: &'a Table,
+    rights: &Schema,
+    names: &Names,
+) -> Result<Items<Read<'a>>, AllocError>
+    ensures columns { IfOk result (λ reads. (ps : List PairType) → map (column_read ps) reads ≡ only_where (is_read names.now) (map (left_along (frame_of left.now) ps) (names_of lefts.now)) ++ only_where (is_read names.now) (map (right_column (named_right suffix.now (names_of lefts.now)) (frame_of right.now) ps) (names_of rights.now))) }
+    ensures types { IfOk result (λ reads. map read_type reads ≡ only_where (is_named names.now) lefts.now ++ only_where (is_named names.now) (map (λ c. (named_right suffix.now (names_of lefts.now) c.0, c.1)) rights.now)) }
+{
+    let mut reads = Items::new(alloc);
+    add_lefts(alloc, &mut reads, left, lefts, names)?;
+    add_rights(alloc, &mut reads, suffix, lefts, right, rights, names)?;
+    Ok(reads)
+}
+
 /// The columns that an expression reads of those that a join without keys puts out, in order.
 pub fn reads<'a>(
     alloc: Global,
@@ -147,18 +166,7 @@ pub fn reads<'a>(
     let names = names_read(alloc, node, ex)?;
     let lefts = lefts_of(alloc, args, left, ex)?;
     let rights = rights_of(alloc, args, right, ex)?;
-    let mut reads = Items::new(alloc);
-    add_lefts(alloc, &mut reads, left, &lefts, &names)?;
-    add_rights(
-        alloc,
-        &mut reads,
-        args.suffix(),
-        &lefts,
-        right,
-        &rights,
-        &names,
-    )?;
-    Ok(reads)
+    Ok(reads_among(alloc, args.suffix(), left, &lefts, right, &rights, &names)?)
 }
 
 /// A column that is read, along pairs of rows.
