@@ -6,4 +6,5 @@ mod TableLemmas
 mod CompareLemmas
 mod ElementwiseLemmas
 mod ReadLemmas
+mod RunLemmas
 pub mod JoinLemmas

@@ -3,4 +3,5 @@ pub mod Equal
 pub mod Fills
 pub mod Along
 pub mod Reads
+pub mod Runs
 pub mod Compared

@@ -1,11 +1,11 @@
-//! The rows that meet what only some kinds of joins are told: inequalities of keys, or a condition. Each row of a side is
-//! compared with each row of the other, but where a condition works row by row.
+//! The rows that meet what only some kinds of joins are told: inequalities of keys, or a condition.
 ghost use Rattle.std.specs.Prelude.{◌≡◌, [], ◌∷◌, IfOk, if◌then◌else◌};
 ghost use Rattle.plan_core.specs.Columns.{HasDistinctNames};
 ghost use Rattle.plan_expr.specs.Exprs.{expr_at};
 ghost use Rattle.plan_expr.specs.Operands.{IsExpr};
 ghost use Rattle.plan_frame.specs.Meaning.{operated as operated_of, val, value_at as value_of_row};
 ghost use Rattle.plan_frame.specs.Values.{is_true as true_value};
+ghost use Rattle.plan_join.specs.declared.options.JoinTypeOptionsIR.TheVariants.{IEJoin};
 ghost use Rattle.plan_join.specs.Naming.{join_columns};
 ghost use Rattle.plan_join.specs.Told.{operator_if, operators as operators_of};
 ghost use Rattle.plan_join_eval.specs.Compared.{kind_test, sided, AreLists, AreOwn, IsConditioned};
@@ -13,14 +13,15 @@ ghost use Rattle.plan_joined.specs.Joined.{joined as joined_of};
 ghost use Rattle.plan_joined.specs.Matching.{keys_meet as keys_are_met, operator_of as operator_for};
 ghost use Rattle.plan_pairs.specs.Pairs.{both, passing};
 ghost use Rattle.plan_pairs.specs.Rows.{AreJoined};
-ghost use Rattle.plan_table.specs.declared.value.AnyValue.TheVariants.{Null as null_value};
 ghost use Rattle.plan_value.specs.Cells.{cell_of, cells_of};
 ghost use Rattle.plan_value.specs.Shown.{frame_of, schema_of, value_of};
 
 use crate::joined::joined_table;
+use crate::runs::{is_true, operator_of, value_of_key};
+use crate::unequal::near_lists;
 use crate::worked::worked_lists;
 use plan_core::{Arena, Items, Node};
-use plan_expr::{AExpr, Operator, is_elementwise};
+use plan_expr::{AExpr, is_elementwise};
 use plan_join::JoinTypeOptionsIR;
 use plan_options::{IEJoinOptions, InequalityOperator, JoinArgs};
 use plan_pairs::{Matches, RowPair};
@@ -37,39 +38,6 @@ pub struct Rows<'a> {
     pub keys: &'a [Values],
 }
 
-/// The operator that an inequality is.
-fn operator_of(operator: InequalityOperator) -> Operator
-    ensures { result ≡ operator_for operator }
-{
-    match operator {
-        InequalityOperator::Lt => Operator::Lt,
-        InequalityOperator::LtEq => Operator::LtEq,
-        InequalityOperator::Gt => Operator::Gt,
-        InequalityOperator::GtEq => Operator::GtEq,
-    }
-}
-
-/// Whether a value is the truth value true.
-fn is_true(value: &AnyValue) -> bool
-    ensures { result ≡ true_value (value_of value.now) }
-{
-    matches!(value, AnyValue::Boolean(true))
-}
-
-/// The value in a row, which is the one value in every row; null where there is no such row.
-fn value_or<'a>(values: &'a Values, row: usize, null: &'a AnyValue) -> &'a AnyValue
-    requires { null.now ≡ null_value }
-    ensures { value_of result.now ≡ value_of_row (cell_of values.now) row }
-{
-    match values {
-        Values::One(value) => value,
-        Values::Many(values) => match values.as_slice().get(row) {
-            Some(value) => value,
-            None => null,
-        },
-    }
-}
-
 /// Whether the values of two keys in two rows meet an inequality, which null doesn't.
 fn key_meets(
     operator: InequalityOperator,
@@ -81,8 +49,8 @@ fn key_meets(
     ensures { result ≡ true_value (operated_of (operator_for operator) (value_of_row (cell_of left.now) left_row) (value_of_row (cell_of right.now) right_row)) }
 {
     let null = AnyValue::Null;
-    let left = value_or(left, left_row, &null);
-    let right = value_or(right, right_row, &null);
+    let left = value_of_key(left, left_row, &null);
+    let right = value_of_key(right, right_row, &null);
     is_true(&operated(operator_of(operator), left, right))
 }
 
@@ -183,7 +151,7 @@ fn is_match(
 
 /// Whether a row of the side that is gone through, which is the right one or the left, and a row of the other meet what is
 /// told.
-fn is_sided_match(
+pub fn is_sided_match(
     alloc: Global,
     by_right: bool,
     told: &JoinTypeOptionsIR,
@@ -258,6 +226,53 @@ fn compared_lists(
     Ok(lists)
 }
 
+/// The values of the right side, or those of the left.
+fn values_of_side<'a>(of_right: bool, right: &'a Values, left: &'a Values) -> &'a Values
+    ensures { result.now ≡ (if of_right then right.now else left.now) }
+{
+    if of_right { right } else { left }
+}
+
+/// For each of so many rows of the side that is gone through, the rows of the other that meet the inequalities.
+fn unequal_lists(
+    alloc: Global,
+    by_right: bool,
+    told: &JoinTypeOptionsIR,
+    operators: &IEJoinOptions,
+    args: &JoinArgs,
+    left: &Rows,
+    right: &Rows,
+    ex: &Arena<AExpr>,
+    height: usize,
+    others: usize,
+) -> Result<Vec<Items<usize>>, AllocError>
+    requires told { told.now ≡ IEJoin operators.now }
+    requires conditioned { IsConditioned ex.now args.now told.now (schema_of left.now.table.now) (schema_of right.now.table.now) }
+    ensures { IfOk result (λ lists. AreLists (sided by_right (kind_test ex.now args.now told.now (cells_of left.now.keys.now) (cells_of right.now.keys.now) (frame_of left.now.table.now) (frame_of right.now.table.now))) height others lists.items) }
+{
+    if let [first, ..] = left.keys {
+        if let [second, ..] = right.keys {
+            let own = values_of_side(by_right, second, first);
+            let key = values_of_side(by_right, first, second);
+            return near_lists(
+                alloc,
+                by_right,
+                told,
+                args,
+                left,
+                right,
+                ex,
+                operators.operator1,
+                own,
+                key,
+                height,
+                others,
+            );
+        }
+    }
+    compared_lists(alloc, by_right, told, args, left, right, ex, height, others)
+}
+
 /// For each of so many rows of the side that is gone through, the rows of the other that match it. A condition that works row by
 /// row is worked out for all of these at once.
 fn match_lists(
@@ -274,6 +289,11 @@ fn match_lists(
     requires { IsConditioned ex.now args.now told.now (schema_of left.now.table.now) (schema_of right.now.table.now) }
     ensures { IfOk result (λ lists. AreLists (sided by_right (kind_test ex.now args.now told.now (cells_of left.now.keys.now) (cells_of right.now.keys.now) (frame_of left.now.table.now) (frame_of right.now.table.now))) height others lists.items) }
 {
+    if let JoinTypeOptionsIR::IEJoin(operators) = told {
+        return unequal_lists(
+            alloc, by_right, told, operators, args, left, right, ex, height, others,
+        );
+    }
     if let JoinTypeOptionsIR::Cross { predicate } = told {
         if is_elementwise(predicate.node, ex) {
             return worked_lists(

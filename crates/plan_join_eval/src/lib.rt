@@ -7,6 +7,8 @@ mod fills;
 mod join;
 mod joined;
 mod reads;
+mod runs;
+mod unequal;
 mod worked;
 
 pub use join::evaluate_join;

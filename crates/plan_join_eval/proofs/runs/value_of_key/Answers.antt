@@ -4,7 +4,7 @@ use Rattle.plan_value.specs.declared.exprs.Values.{Values}
 use Rattle.plan_value.specs.Cells.{cell_of}
 use Rattle.plan_value.specs.Shown.{value_of}
 use Rattle.plan_value.proofs.RowLemmas.{row-get, row-beyond}
-use Rattle.plan_join_eval.proofs.compared.value_or.Goals as goal
+use Rattle.plan_join_eval.proofs.runs.value_of_key.Goals as goal
 
 pub returns-in-Some : goal.returns-in-Some
 returns-in-Some c =
