@@ -53,6 +53,22 @@ module _ (ex : List AExpr) (h : ℕ) (g : Frame) (schema : Columns) (es : List E
       ∙ sym (fold-append put base (map (stored_column schema) (take i es)) (stored_column schema e ∷ []))
       ∙ ap (with_types base) (sym grown)
 
+  -- the same as a list
+  pub list-next : (done : List Typed) → column_shown c ≡ made e → columns_shown done ≡ made_columns h g (all_named_at ex (take i es)) → columns_shown (done ++ c ∷ []) ≡ made_columns h g (all_named_at ex (take (i + 1) es))
+  list-next done shown before =
+      let column : Named → Column = λ (x : Named). record { name = name_of x.name; values = filled h (val x.expr g) } in
+      map-append column_shown done (c ∷ [])
+      ∙ ap₂ (λ (cs : List Column) (d : Column). cs ++ d ∷ []) before shown
+      ∙ sym (ap (λ (l : List ExprIR). made_columns h g (all_named_at ex l)) upto
+      ∙ ap (map column) (map-append (named_at ex) (take i es) (e ∷ []))
+      ∙ map-append column (all_named_at ex (take i es)) (named_at ex e ∷ []))
+
+  pub typed-next : (done : List Typed) → (c.name, c.dtype) ≡ stored_column schema e → types_of done ≡ map (stored_column schema) (take i es) → types_of (done ++ c ∷ []) ≡ map (stored_column schema) (take (i + 1) es)
+  typed-next done typed before =
+      map-append (λ (d : Typed). (d.name, d.dtype)) done (c ∷ [])
+      ∙ ap₂ (λ (cs : Columns) (d : Name × DataType). cs ++ d ∷ []) before typed
+      ∙ sym (ap (map (stored_column schema)) upto ∙ map-append (stored_column schema) (take i es) (e ∷ []))
+
 -- a column that is put is the first of those that are to be put
 pub put-first : (done : List Typed) (d : Typed) (x : Column) (rest all : List Column) → column_shown d ≡ x → frames.with_columns (columns_shown done) (x ∷ rest) ≡ all → frames.with_columns (columns_shown (with_column done d)) rest ≡ all
 put-first done d x rest all is before =

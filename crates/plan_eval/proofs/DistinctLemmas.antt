@@ -1,5 +1,5 @@
 -- The rows that are kept part by part are kept of all rows.
-use Rattle.std.proofs.Common.{◌≡◌, ◌⊎◌, inl, inr, true≢false, unwrap_or, ℕ, zero, suc, ◌+◌, ◌-◌, ◌<◌, ◌≤◌, ◌||◌, Bool, true, false, not, List, [], ◌∷◌, map, length, get_or, Option, Some, None, refl, sym, ap, ap₂, ◌∙◌, subst, arith, eqb-true, eq-eqb}
+use Rattle.std.proofs.Common.{◌≡◌, ◌⊎◌, inl, inr, true≢false, unwrap_or, add-one, cond, replicate, ℕ, zero, suc, ◌+◌, ◌-◌, ◌<◌, ◌≤◌, ◌||◌, Bool, true, false, not, List, [], ◌∷◌, map, length, get_or, Option, Some, None, refl, sym, ap, ap₂, ◌∙◌, subst, arith, eqb-true, eq-eqb}
 use Rattle.std.specs.Prelude.{nat_eq}
 use Rattle.std.specs.Cmp.{IsEquivalence, nat_cmp_is}
 use Rattle.std.specs.List.{AllByRecursion, IsDistinct, cons_option, filter_map, list_any, range_with_len, slice_get}
@@ -7,20 +7,23 @@ use Rattle.std.specs.List.Sorted.{IsPermutation, IsSorted}
 use Rattle.std.specs.Ordering.{is_lt, nat_cmp}
 use Rattle.std.specs.declared.cmp.Ordering.TheVariants.{Greater}
 use Rattle.std.proofs.lemmas.Bool.{cases_lt}
-use Rattle.std.proofs.lemmas.List.{get_or_default, same_lists}
+use Rattle.std.proofs.lemmas.List.{get_or_default, length-replicate, same_lists}
 use Rattle.std.proofs.lemmas.List.Elements.{All-from_recursion, recursion_from_All}
-use Rattle.std.proofs.lemmas.List.FromFn.{get_or-map-range_with_len, length-map-range_with_len}
-use Rattle.std.proofs.lemmas.List.Sorted.{All-permutation, list_any-IsPermutation}
+use Rattle.std.proofs.lemmas.List.FromFn.{get_or-map-range_with_len, get_or-range_with_len, length-map-range_with_len, length-range_with_len}
+use Rattle.std.proofs.lemmas.Option.{slice_get-get_or}
+use Rattle.std.proofs.lemmas.List.Sorted.{All-permutation, IsPermutation-refl, list_any-IsPermutation}
 use Rattle.std.proofs.lemmas.Map.Keys.{IsDistinct-IsPermutation, IsDistinct-cons}
 use Rattle.plan_options.specs.declared.distinct.UniqueKeepStrategy.{UniqueKeepStrategy}
 use Rattle.plan_options.specs.declared.distinct.UniqueKeepStrategy.TheVariants as keeps
 use Rattle.plan_frame.specs.Meaning.{Cell, are_alike, places_from, rows_alike}
 use Rattle.plan_frame.specs.Orders.{AreKept, has_earlier, has_later, may_be_kept, must_be_kept}
 use Rattle.plan_frame.proofs.KeptRows.{alike_equivalence, none_pass, or_first, or_second}
+use Rattle.plan_value.specs.declared.exprs.Values.{Values}
+use Rattle.plan_value.specs.Cells.{cells_of}
 use Rattle.plan_value.specs.Groups.{AreNumbered, rows_numbered}
 use Rattle.plan_value.proofs.WindowLemmas.{places-same}
 use Rattle.plan_choices.specs.Choices.{AreChosen, first_same, settled}
-use Rattle.plan_eval.specs.Distinct.{kept, kept_of}
+use Rattle.plan_eval.specs.Distinct.{kept, kept_of, only}
 use Rattle.plan_choices.proofs.FarApart.{near-sorted}
 use Rattle.plan_choices.proofs.FirstPassing.{NoneWithin, Passes, first-passes, first-there, later-number, neither}
 use Rattle.plan_eval.proofs.PartLemmas.{last-passes, last-there, only-passes, only-there}
@@ -265,3 +268,88 @@ groups-chosen cells h count numbers parts rows stable keep n many-parts each mov
   kept = groups-kept cells h count numbers parts rows stable (settled keep) n many-parts each (subst (λ (l : List ℕ). IsPermutation l rows) (sym (settled-kept keep parts)) moved) sorted;
   by_firsts = λ e. subst (IsSorted (λ i j. nat_cmp (first_same (are_alike cells) h i) (first_same (are_alike cells) h j))) (sym (by-parts e ∙ ap (kept keep) (parts-are numbers h count parts n.height many-parts each))) (by-firsts cells h count numbers n keep);
 }
+
+-- Without columns all rows are the same
+
+IsDistinct-none : IsDistinct (λ (i j : ℕ). is_lt (nat_cmp j i)) []
+unfolding IsDistinct
+IsDistinct-none = tt
+
+zeros-there : (h i : ℕ) → ◌≡◌ {A = ℕ} (get_or (replicate h 0) i 0) 0
+zeros-there zero i = refl
+zeros-there (suc h) zero = refl
+zeros-there (suc h) (suc i) = zeros-there h i
+
+all-pass : (test : ℕ → Bool) (a n : ℕ) → ((i : ℕ) → test i ≡ true) → places_from test a n ≡ range_with_len a n
+all-pass test a zero t = refl
+all-pass test a (suc n) t =
+    ap (λ (b : Bool). cond b (a ∷ places_from test (suc a) n) (places_from test (suc a) n)) (t a)
+    ∙ ap (λ (l : List ℕ). a ∷ l) (all-pass test (suc a) n t)
+    ∙ ap (λ (k : ℕ). a ∷ range_with_len k n) (sym (add-one a))
+
+alike-numbered : (n : ℕ) → AreNumbered [] (suc n) 1 (replicate (suc n) 0)
+alike-numbered n = record {
+  height = length-replicate (suc n) 0;
+  below = λ i lt. let z = zeros-there (suc n) i in omega (arith, z);
+  same = λ i j p q. ap₂ nat_eq (zeros-there (suc n) i) (zeros-there (suc n) j);
+  first = λ i lt g low. let z = zeros-there (suc n) i in absurd (omega (arith, low, z));
+  all = λ g lt. let q : 0 ≡ g = omega (arith, lt) in (0, omega arith, q);
+}
+
+none-numbered : AreNumbered [] 0 0 []
+none-numbered = record {
+  height = refl;
+  below = λ i lt. absurd (omega (arith, lt));
+  same = λ i j p q. absurd (omega (arith, p));
+  first = λ i lt g low. absurd (omega (arith, lt));
+  all = λ g lt. absurd (omega (arith, lt));
+}
+
+alike-rows : (n g : ℕ) → g < 1 → get_or (range_with_len 0 (suc n) ∷ []) g [] ≡ rows_numbered (replicate (suc n) 0) g
+alike-rows n zero lt =
+    let test : ℕ → Bool = λ (i : ℕ). nat_eq 0 (get_or (replicate (suc n) 0) i 0) in
+    sym (ap (places_from test 0) (length-replicate (suc n) 0) ∙ all-pass test 0 (suc n) (λ i. ap (nat_eq 0) (zeros-there (suc n) i)))
+alike-rows n (suc g) lt = absurd (omega (arith, lt))
+
+one-sorted : (o : Option ℕ) → IsSorted nat_cmp (cons_option o [])
+one-sorted o = near-sorted nat_cmp (cons_option o []) (at o)
+  where
+    at : (o : Option ℕ) → IsDistinct (λ i j. is_lt (nat_cmp j i)) (cons_option o [])
+    at None = IsDistinct-none
+    at (Some i) = IsDistinct-cons (λ i j. is_lt (nat_cmp j i)) i [] tt IsDistinct-none
+
+none-kept : (keep : UniqueKeepStrategy) → kept_of keep [] ≡ None
+none-kept keeps.First = refl
+none-kept keeps.Last = refl
+none-kept keeps.None = refl
+none-kept keeps.Any = refl
+
+-- the last of so many rows, and the only one
+pub last-of-all : (h : ℕ) → 0 < h → slice_get (range_with_len 0 h) (length (range_with_len 0 h) - 1) ≡ Some (h - 1)
+last-of-all h lt =
+    let long = length-range_with_len 0 h in
+    let q : length (range_with_len 0 h) - 1 ≡ h - 1 = omega (arith, long) in
+    let below : h - 1 < h = omega (arith, lt) in
+    let there : h - 1 < length (range_with_len 0 h) = omega (arith, long, below) in
+    let place : 0 + (h - 1) ≡ h - 1 = omega arith in
+    ap (slice_get (range_with_len 0 h)) q ∙ slice_get-get_or (range_with_len 0 h) (h - 1) 0 there ∙ ap (λ (n : ℕ). Some n) (get_or-range_with_len 0 h (h - 1) 0 below ∙ place)
+
+pub none-alone : (h : ℕ) → (h ≡ 1 → ⊥) → None ≡ only (range_with_len 0 h)
+none-alone zero n = refl
+none-alone (suc zero) n = absurd (n refl)
+none-alone (suc (suc h)) n = refl
+
+pub no-cells : (columns : List Values) → length columns < 1 → cells_of columns ≡ []
+no-cells [] lt = refl
+no-cells (c ∷ cs) lt = absurd (omega (arith, lt))
+
+pub alike-chosen : (stable : Bool) (keep : UniqueKeepStrategy) (h : ℕ) → AreChosen stable keep (are_alike []) h (cons_option (kept_of keep (range_with_len 0 h)) [])
+alike-chosen stable keep zero =
+    let rows : List ℕ = cons_option (kept_of keep []) [] in
+    let none : rows ≡ [] = ap (λ (o : Option ℕ). cons_option o []) (none-kept keep) in
+    groups-chosen [] 0 0 [] [] rows stable keep none-numbered refl (λ g lt. absurd (omega (arith, lt)))
+    (subst (IsPermutation []) (sym none) (IsPermutation-refl [])) (λ e. one-sorted (kept_of keep [])) (λ e. none)
+alike-chosen stable keep (suc n) =
+    let all : List ℕ = range_with_len 0 (suc n) in
+    groups-chosen [] (suc n) 1 (replicate (suc n) 0) (all ∷ []) (cons_option (kept_of keep all) []) stable keep (alike-numbered n) refl (alike-rows n)
+    (IsPermutation-refl (cons_option (kept_of keep all) [])) (λ e. one-sorted (kept_of keep all)) (λ e. refl)

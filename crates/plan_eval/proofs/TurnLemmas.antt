@@ -97,7 +97,7 @@ all-columns h (c ∷ cs) (x ∷ s) t =
 all-columns h (c ∷ cs) [] t = absurd t
 
 -- all rows of a frame in order are the frame
-all-rows : (f : Frame) (s : Columns) → HasSchema f s → rows_at (range_with_len 0 f.height) f ≡ f
+pub all-rows : (f : Frame) (s : Columns) → HasSchema f s → rows_at (range_with_len 0 f.height) f ≡ f
 all-rows f s t = ap₂ (λ (n : ℕ) (cs : List Column). record { height = n; columns = cs }) (length-range_with_len 0 f.height) (all-columns f.height f.columns s t)
 
 -- Tables
@@ -136,3 +136,10 @@ union-gives ts valid options first [] t le is good rows d frame types = absurd (
 union-gives ts valid options first (u ∷ tables) t le is good rows d frame types =
     gives ts valid options u tables t good rows (subst (λ (v : Table). HasDistinctNames (schema_of v)) is d)
     (frame ∙ ap (λ (v : Table). stack (names_of (schema_of v)) (map frame_of (u ∷ tables))) is) (types ∙ ap schema_of is)
+
+-- a table alone is what a union of it gives
+pub alone-gives : (ts : List (SourceKey × Table)) (options : UnionOptions) (t : Table) → HasRows t → Gives ts (union options) (t ∷ []) t
+alone-gives ts options t rows = record {
+  step = sym (all-rows (frame_of t) (schema_of t) (columns-have t.height t.columns rows));
+  types = refl;
+}

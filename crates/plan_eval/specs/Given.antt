@@ -7,7 +7,7 @@ use Rattle.plan_expr.specs.declared.expr_ir.ExprIR.{ExprIR}
 use Rattle.plan_expr.specs.Naming.{name_of}
 use Rattle.plan_tree.specs.Rose.{Roses}
 use Rattle.plan_ir.specs.declared.ir.IR.{IR}
-use Rattle.plan_ir.specs.declared.ir.IR.TheVariants.{HConcat, Union}
+use Rattle.plan_ir.specs.declared.ir.IR.TheVariants as nodes
 use Rattle.plan_ir.specs.Plans.{Op, bare}
 use Rattle.plan_meaning.specs.Typing.{schema_by, schemas}
 use Rattle.plan_table.specs.declared.source_key.SourceKey.{SourceKey}
@@ -22,9 +22,28 @@ stored_column s e = (name_of e.output_name, unwrap_or (type_of s (name_of e.outp
 
 -- a union or a concatenation, which has as many inputs as it names
 abbrev pub names_many : IR → Bool
-names_many (Union inputs options) = true
-names_many (HConcat inputs schema options) = true
+names_many (nodes.Union inputs options) = true
+names_many (nodes.HConcat inputs schema options) = true
 names_many other = false
+
+-- a node that gives other rows or columns than its only input
+abbrev pub makes_new : IR → Bool
+makes_new (nodes.Filter input predicate) = true
+makes_new (nodes.SimpleProjection input columns) = true
+makes_new (nodes.Select input expr schema options) = true
+makes_new (nodes.Sort input by_column slice sort_options) = true
+makes_new (nodes.GroupBy input keys aggs schema maintain_order options) = true
+makes_new (nodes.Distinct input options) = true
+makes_new (nodes.MapFunction input function) = true
+makes_new other = false
+
+-- a source, a join or a concatenation
+abbrev pub stands_over_sides : IR → Bool
+stands_over_sides (nodes.Scan sources file_info hive_parts predicate output_schema scan_type file_options) = true
+stands_over_sides (nodes.DataFrameScan df schema output_schema) = true
+stands_over_sides (nodes.Join input_left input_right schema left_on right_on options) = true
+stands_over_sides (nodes.HConcat inputs schema options) = true
+stands_over_sides other = false
 
 -- a node gives this table over tables of its inputs, and its columns have the node's types
 pub record Gives (ts : List (SourceKey × Table)) (op : Op) (inputs : List Table) (t : Table) : Type 0 where

@@ -1,10 +1,13 @@
 //! Distinct rows are those of the input, but that of rows that are the same in some columns the first is kept, or the last,
 //! or only one that is alone.
 ghost use Rattle.std.specs.Prelude.{◌≡◌, true, false, List, [], ◌∷◌, IfOk};
+ghost use Rattle.std.specs.List.{cons_option, range_with_len};
 ghost use Rattle.std.specs.List.Sorted.{IsPermutation, IsSorted};
 ghost use Rattle.std.specs.Ordering.{nat_cmp};
 ghost use Rattle.plan_ir.specs.Plans.{distinct as distinct_op};
 ghost use Rattle.plan_frame.specs.Frames.{column_names};
+ghost use Rattle.plan_choices.specs.Choices.{AreChosen};
+ghost use Rattle.plan_frame.specs.Meaning.{are_alike};
 ghost use Rattle.plan_frame.specs.Orders.{told_columns};
 ghost use Rattle.plan_table.specs.declared.source_key.SourceKey.{SourceKey};
 ghost use Rattle.plan_table.specs.declared.table.Table.{Table as TableType};
@@ -107,6 +110,63 @@ fn rows_in_order(
     Ok(rows)
 }
 
+/// The row that is kept of so many that are all the same, if one is.
+fn kept_of_all(keep: UniqueKeepStrategy, height: usize) -> Option<usize>
+    ensures { result ≡ kept_of keep (range_with_len 0 height) }
+{
+    match keep {
+        UniqueKeepStrategy::First | UniqueKeepStrategy::Any => {
+            if height > 0 { Some(0) } else { None }
+        }
+        UniqueKeepStrategy::Last => { if height > 0 { Some(height - 1) } else { None } }
+        UniqueKeepStrategy::None => { if height == 1 { Some(0) } else { None } }
+    }
+}
+
+/// The rows that are kept of so many that are all the same: one, or none.
+fn rows_of_alike(
+    alloc: Global,
+    keep: UniqueKeepStrategy,
+    height: usize,
+) -> Result<Vec<usize>, AllocError>
+    ensures { IfOk result (λ rows. rows.items ≡ cons_option (kept_of keep (range_with_len 0 height)) []) }
+{
+    let mut rows = Vec::new(alloc);
+    if let Some(row) = kept_of_all(keep, height) {
+        rows.push(row)?;
+    }
+    Ok(rows)
+}
+
+/// The rows that are kept of so many, by the groups of those that are the same in each of some columns.
+fn rows_by_groups(
+    alloc: Global,
+    columns: &[Values],
+    height: usize,
+    options: &DistinctOptionsIR,
+) -> Result<Vec<usize>, AllocError>
+    ensures { IfOk result (λ rows. AreChosen options.now.maintain_order options.now.keep_strategy (are_alike (cells_of columns.now)) height rows.items) }
+{
+    let groups = grouped(alloc, columns, height)?;
+    let parts = rows_of_groups(alloc, &groups)?;
+    Ok(rows_in_order(alloc, options, parts.as_slice())?)
+}
+
+/// The rows that are kept of so many, of those that are the same in each of some columns; without columns all are.
+fn distinct_rows(
+    alloc: Global,
+    columns: &[Values],
+    height: usize,
+    options: &DistinctOptionsIR,
+) -> Result<Vec<usize>, AllocError>
+    ensures { IfOk result (λ rows. AreChosen options.now.maintain_order options.now.keep_strategy (are_alike (cells_of columns.now)) height rows.items) }
+{
+    match columns {
+        [] => rows_of_alike(alloc, options.keep_strategy, height),
+        _ => rows_by_groups(alloc, columns, height, options),
+    }
+}
+
 /// The table of the distinct rows.
 pub fn distinct(
     alloc: Global,
@@ -116,8 +176,6 @@ pub fn distinct(
     ensures { (ts : List (SourceKey × TableType)) → IfOk result (Gives ts (distinct_op options.now) (table.now ∷ [])) }
 {
     let columns = told(alloc, table, &options.subset)?;
-    let groups = grouped(alloc, columns.as_slice(), table.height)?;
-    let parts = rows_of_groups(alloc, &groups)?;
-    let rows = rows_in_order(alloc, options, parts.as_slice())?;
+    let rows = distinct_rows(alloc, columns.as_slice(), table.height, options)?;
     Ok(rows_at(alloc, table, rows.as_slice())?)
 }

@@ -1,6 +1,7 @@
 //! A concatenation gives the columns of its inputs beside one another, as high as the highest input; the others have null in the
 //! rows that they lack.
 ghost use Rattle.std.specs.Prelude.{◌≡◌, List, IfOk, OnOk, fold, map};
+ghost use Rattle.std.specs.List.{range_with_len};
 ghost use Rattle.plan_core.specs.Columns.{Columns as ColumnTypes};
 ghost use Rattle.plan_ir.specs.Plans.{hconcat as hconcat_op};
 ghost use Rattle.plan_frame.specs.Frames.{highest as highest_of, picked, picked_columns, with_new_column};
@@ -12,9 +13,8 @@ ghost use Rattle.plan_table.specs.Tables.{types_of};
 ghost use Rattle.plan_eval.specs.Given.{Gives};
 ghost use Rattle.plan_value.specs.Shown.{columns_shown, frame_of, values_of};
 
-use crate::sort::row_numbers;
+use crate::between::column_between;
 use plan_table::{Column, Columns, Table};
-use plan_value::picked_column;
 use std::alloc::{AllocError, Global};
 
 /// The height of the highest table.
@@ -28,35 +28,35 @@ fn highest(tables: &[Table]) -> usize
     height
 }
 
-/// Appends these rows of a column, unless a column is called like it. Refuses for want of memory alone.
+/// Appends so many rows of a column, null beyond its last, unless a column is called like it. Refuses for want of memory alone.
 fn append_column(
     alloc: Global,
     columns: &mut Columns,
     column: &Column,
-    rows: &[usize],
+    height: usize,
 ) -> Result<(), AllocError>
-    ensures shown { OnOk result (columns_shown columns.new ≡ with_new_column (columns_shown columns.old) (record { name = column.now.name; values = picked rows.now (values_of column.now.values) })) }
+    ensures shown { OnOk result (columns_shown columns.new ≡ with_new_column (columns_shown columns.old) (record { name = column.now.name; values = picked (range_with_len 0 height) (values_of column.now.values) })) }
     ensures types { OnOk result (types_of columns.new ≡ with_new (types_of columns.old) (column.now.name, column.now.dtype)) }
 {
     if columns.get(column.name.as_str()).is_some() {
         return Ok(());
     }
-    columns.with_column(picked_column(alloc, column, rows)?)
+    columns.with_column(column_between(alloc, column, 0, height)?)
 }
 
-/// Appends these rows of columns, in order, but of those that are called like one that is there. Refuses for want of memory
+/// Appends so many rows of columns, in order, but of those that are called like one that is there. Refuses for want of memory
 /// alone.
 fn append_rows(
     alloc: Global,
     columns: &mut Columns,
     more: &Columns,
-    rows: &[usize],
+    height: usize,
 ) -> Result<(), AllocError>
-    ensures shown { OnOk result (columns_shown columns.new ≡ fold with_new_column (columns_shown columns.old) (picked_columns rows.now (columns_shown more.now))) }
+    ensures shown { OnOk result (columns_shown columns.new ≡ fold with_new_column (columns_shown columns.old) (picked_columns (range_with_len 0 height) (columns_shown more.now))) }
     ensures types { OnOk result (types_of columns.new ≡ fold with_new (types_of columns.old) (types_of more.now)) }
 {
     for column in more.iter() {
-        append_column(alloc, columns, column, rows)?;
+        append_column(alloc, columns, column, height)?;
     }
     Ok(())
 }
@@ -66,10 +66,9 @@ pub fn hconcat(alloc: Global, tables: &[Table]) -> Result<Table, AllocError>
     ensures { (ts : List (SourceKey × TableType)) (schema : ColumnTypes) (options : HConcatOptions) → IfOk result (Gives ts (hconcat_op schema options) tables.now) }
 {
     let height = highest(tables);
-    let rows = row_numbers(alloc, height)?;
     let mut columns = Columns::new(alloc);
     for table in tables {
-        append_rows(alloc, &mut columns, &table.columns, rows.as_slice())?;
+        append_rows(alloc, &mut columns, &table.columns, height)?;
     }
     Ok(Table { height, columns })
 }

@@ -1,6 +1,7 @@
 //! The table that a plan gives over tables that fit it.
 #![tactic(auto)]
 
+mod between;
 mod count;
 mod distinct;
 mod explode;
@@ -12,6 +13,7 @@ mod hconcat;
 mod hstack;
 mod join;
 mod made;
+mod only;
 mod plan;
 mod projection;
 mod scan;

@@ -5,7 +5,7 @@ ghost use Rattle.plan_expr.specs.Operands.{IsExpr};
 ghost use Rattle.plan_expr.specs.Exprs.{all_named_at, expr_at};
 ghost use Rattle.plan_expr.specs.Naming.{name_of};
 ghost use Rattle.plan_frame.specs.Meaning.{filled as filled_with, val};
-ghost use Rattle.plan_frame.specs.Made.{made as made_of};
+ghost use Rattle.plan_frame.specs.Made.{made as made_of, made_columns as columns_made};
 ghost use Rattle.plan_table.specs.Tables.{types_of};
 ghost use Rattle.plan_eval.specs.Given.{stored_column};
 ghost use Rattle.plan_value.specs.Shown.{column_shown, columns_shown, frame_of, schema_of, values_of};
@@ -63,6 +63,27 @@ fn made_column(
     let values = evaluate_expr(alloc, expr.node, ex, table)?;
     let values = filled(alloc, values, height)?;
     Ok(named_column(alloc, expr, values, schema)?)
+}
+
+/// The columns that expressions make over the rows of a table, of so many rows, with their types in the schema.
+pub fn made_list(
+    alloc: Global,
+    height: usize,
+    exprs: &[ExprIR],
+    schema: &Schema,
+    ex: &Arena<AExpr>,
+    table: &Table,
+) -> Result<Vec<Column>, AllocError>
+    requires stand { All (λ e. IsExpr ex.now e.node) exprs.now }
+    requires named { All (λ e. is_some (type_of schema.now (name_of e.output_name)) ≡ true) exprs.now }
+    ensures shown { IfOk result (λ cs. columns_shown cs.items ≡ columns_made height (frame_of table.now) (all_named_at ex.now exprs.now)) }
+    ensures types { IfOk result (λ cs. types_of cs.items ≡ map (stored_column schema.now) exprs.now) }
+{
+    let mut made = Vec::new(alloc);
+    for expr in exprs {
+        made.push(made_column(alloc, height, expr, schema, ex, table)?)?;
+    }
+    Ok(made)
 }
 
 /// The columns, of so many rows, and those that the expressions make over a table: each in the place of the one of its

@@ -12,7 +12,7 @@ ghost use Rattle.plan_meaning.specs.Steps.{IsValid, May};
 ghost use Rattle.plan_meaning.specs.Typing.{AllHold, AllValid, checks, schema};
 ghost use Rattle.plan_table.specs.Tables.{HasRows};
 ghost use Rattle.plan_choices.specs.Choices.{Chooses};
-ghost use Rattle.plan_eval.specs.Given.{GiveAll, Gives, names_many};
+ghost use Rattle.plan_eval.specs.Given.{GiveAll, Gives, makes_new, names_many, stands_over_sides};
 ghost use Rattle.plan_value.specs.Shown.{frame_of, schema_of};
 ghost use Rattle.plan_fit.specs.Sources.{contents_of};
 
@@ -24,6 +24,7 @@ use crate::group_by::group_by;
 use crate::hconcat::hconcat;
 use crate::hstack::hstack;
 use crate::join::join;
+use crate::only::only;
 use crate::projection::projection;
 use crate::scan::scan;
 use crate::select::select;
@@ -70,27 +71,24 @@ fn source_table(alloc: Global, node: &IR, tables: &Tables) -> Result<Table, Allo
     }
 }
 
-/// The table of a node over the table of its only input.
-fn one_input_table(
+/// The table of a node that gives other rows or columns than its only input, over the table of that.
+fn new_table(
     alloc: Global,
     node: &IR,
     table: &Table,
     ex: &Arena<AExpr>,
     tables: &Tables,
 ) -> Result<Table, AllocError>
-    requires one { length (inputs_of node.now) ≡ 1 }
-    requires other { names_many node.now ≡ false }
+    requires new { makes_new node.now ≡ true }
     requires stand { All (λ e. IsExpr ex.now e.node) (exprs_of node.now) }
     requires valid { AllHold (checks (op_at ex.now node.now) (schema_of table.now ∷ [])) }
     requires rows { HasRows table.now }
     ensures { IfOk result (Gives tables.now (op_at ex.now node.now) (table.now ∷ [])) }
 {
     match node {
-        IR::Slice { offset, len, .. } => slice(alloc, table, *offset, *len),
         IR::Filter { predicate, .. } => filter(alloc, table, predicate, ex),
         IR::SimpleProjection { columns, .. } => projection(alloc, table, columns),
         IR::Select { expr, schema, .. } => select(alloc, table, expr.as_slice(), schema, ex),
-        IR::HStack { exprs, schema, .. } => hstack(alloc, table, exprs.as_slice(), schema, ex),
         IR::Sort {
             by_column,
             sort_options,
@@ -104,7 +102,40 @@ fn one_input_table(
         } => group_by(alloc, table, keys.as_slice(), aggs.as_slice(), schema, ex),
         IR::Distinct { options, .. } => distinct(alloc, table, options),
         IR::MapFunction { function, .. } => mapped(alloc, table, function, tables),
-        IR::Sink { .. } | IR::Cache { .. } => unchanged(alloc, table),
+        _ => unreachable!(),
+    }
+}
+
+/// The table of a node over the table of its only input.
+fn one_input_table(
+    alloc: Global,
+    node: &IR,
+    table: Table,
+    ex: &Arena<AExpr>,
+    tables: &Tables,
+) -> Result<Table, AllocError>
+    requires one { length (inputs_of node.now) ≡ 1 }
+    requires other { names_many node.now ≡ false }
+    requires stand { All (λ e. IsExpr ex.now e.node) (exprs_of node.now) }
+    requires valid { AllHold (checks (op_at ex.now node.now) (schema_of table ∷ [])) }
+    requires rows { HasRows table }
+    ensures { IfOk result (Gives tables.now (op_at ex.now node.now) (table ∷ [])) }
+{
+    match node {
+        IR::Slice { offset, len, .. } => slice(alloc, table, *offset, *len),
+        IR::HStack { exprs, schema, .. } => hstack(alloc, table, exprs.as_slice(), schema, ex),
+        IR::Sink { .. } | IR::Cache { .. } => unchanged(table),
+        IR::Filter { .. }
+        | IR::SimpleProjection { .. }
+        | IR::Select { .. }
+        | IR::Sort { .. }
+        | IR::GroupBy { .. }
+        | IR::Distinct { .. }
+        | IR::MapFunction { .. } => {
+            let made = new_table(alloc, node, &table, ex, tables);
+            drop(table);
+            made
+        }
         IR::Join { .. }
         | IR::Union { .. }
         | IR::HConcat { .. }
@@ -114,29 +145,18 @@ fn one_input_table(
     }
 }
 
-/// The table of the only input.
-fn only(inputs: &[Table]) -> &Table
-    requires { length inputs.now ≡ 1 }
-    ensures { inputs.now ≡ result.now ∷ [] }
-{
-    match inputs {
-        [table] => table,
-        _ => unreachable!(),
-    }
-}
-
-/// The table of a node over the tables of its inputs, in order.
-fn node_table(
+/// The table of a node over the tables of its inputs, side by side, or over none.
+fn table_over(
     alloc: Global,
     node: &IR,
     inputs: &[Table],
     ex: &Arena<AExpr>,
     tables: &Tables,
 ) -> Result<Table, AllocError>
+    requires beside { stands_over_sides node.now ≡ true }
     requires each { length inputs.now ≡ length (inputs_of node.now) }
     requires stand { All (λ e. IsExpr ex.now e.node) (exprs_of node.now) }
     requires valid { AllHold (checks (op_at ex.now node.now) (map schema_of inputs.now)) }
-    requires rows { AllByRecursion HasRows inputs.now }
     ensures { IfOk result (Gives tables.now (op_at ex.now node.now) inputs.now) }
 {
     match node {
@@ -154,8 +174,32 @@ fn node_table(
             options,
             ex,
         ),
-        IR::Union { .. } => union(alloc, inputs),
         IR::HConcat { .. } => hconcat(alloc, inputs),
+        _ => unreachable!(),
+    }
+}
+
+/// The table of a node over the tables of its inputs, in order.
+fn node_table(
+    alloc: Global,
+    node: &IR,
+    inputs: Items<Table>,
+    ex: &Arena<AExpr>,
+    tables: &Tables,
+) -> Result<Table, AllocError>
+    requires each { length inputs ≡ length (inputs_of node.now) }
+    requires stand { All (λ e. IsExpr ex.now e.node) (exprs_of node.now) }
+    requires valid { AllHold (checks (op_at ex.now node.now) (map schema_of inputs)) }
+    requires rows { AllByRecursion HasRows inputs }
+    ensures { IfOk result (Gives tables.now (op_at ex.now node.now) inputs) }
+{
+    match node {
+        IR::Union { .. } => union(alloc, inputs),
+        IR::Scan { .. } | IR::DataFrameScan { .. } | IR::Join { .. } | IR::HConcat { .. } => {
+            let made = table_over(alloc, node, inputs.as_slice(), ex, tables);
+            drop(inputs);
+            made
+        }
         IR::Slice { .. }
         | IR::Filter { .. }
         | IR::SimpleProjection { .. }
@@ -189,7 +233,7 @@ fn plan_table(
     for place in 0..input_count(entry) {
         given.push(plan_table(alloc, input_at(entry, place), lp, ex, tables)?)?;
     }
-    Ok(node_table(alloc, entry, given.as_slice(), ex, tables)?)
+    Ok(node_table(alloc, entry, given, ex, tables)?)
 }
 
 /// The table that the plan at `root` gives over tables that fit it, its columns of the plan's types: of the frames that it may

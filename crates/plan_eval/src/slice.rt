@@ -1,16 +1,18 @@
 //! A slice gives the rows from a first one on, as many as there are up to its length; an offset below zero counts from the
 //! end.
-ghost use Rattle.std.specs.Prelude.{◌≡◌, [], ◌∷◌, IfOk};
+ghost use Rattle.std.specs.Prelude.{◌≡◌, ◌-◌, List, [], ◌∷◌, IfOk};
+ghost use Rattle.std.specs.List.{range_with_len};
 ghost use Rattle.plan_ir.specs.Plans.{slice as slice_op};
-ghost use Rattle.plan_frame.specs.Rows.{cut_to, slice_rows, start_of as start};
+ghost use Rattle.plan_frame.specs.Frames.{rows_at as rows_of};
+ghost use Rattle.plan_frame.specs.Rows.{cut_to, start_of as start};
 ghost use Rattle.plan_eval.specs.Given.{Gives};
 ghost use Rattle.plan_table.specs.declared.source_key.SourceKey.{SourceKey};
 ghost use Rattle.plan_table.specs.declared.table.Table.{Table as TableType};
-ghost use Rattle.std.specs.Prelude.{List};
+ghost use Rattle.plan_table.specs.Tables.{HasRows};
+ghost use Rattle.plan_value.specs.Shown.{frame_of, schema_of};
 
-use plan_core::Items;
+use crate::between::table_between;
 use plan_table::Table;
-use plan_value::rows_at;
 use std::alloc::{AllocError, Global};
 
 /// A place cut to 0 and the height.
@@ -37,22 +39,28 @@ fn start_of(offset: i64, height: usize) -> i128
     }
 }
 
-/// The numbers of the rows of a slice, over a table of so many rows.
-fn rows(alloc: Global, offset: i64, len: u32, height: usize) -> Result<Items<usize>, AllocError>
-    ensures { IfOk result (λ rows. rows ≡ slice_rows offset len height) }
+/// The rows of a table from one on up to another: the table itself where these are all.
+fn cut_table(alloc: Global, table: Table, first: usize, end: usize) -> Result<Table, AllocError>
+    requires { HasRows table }
+    ensures frame { IfOk result (λ t. frame_of t ≡ rows_of (range_with_len first (end - first)) (frame_of table)) }
+    ensures types { IfOk result (λ t. schema_of t ≡ schema_of table) }
 {
-    let start = start_of(offset, height);
-    let mut rows = Items::new(alloc);
-    for row in cut(start, height)..cut(start + len as i128, height) {
-        rows.push(row)?;
+    if first == 0 && end == table.height {
+        return Ok(table);
     }
-    Ok(rows)
+    let cut = table_between(alloc, &table, first, end);
+    drop(table);
+    cut
 }
 
 /// The table of the slice.
-pub fn slice(alloc: Global, table: &Table, offset: i64, len: u32) -> Result<Table, AllocError>
-    ensures { (ts : List (SourceKey × TableType)) → IfOk result (Gives ts (slice_op offset len) (table.now ∷ [])) }
+pub fn slice(alloc: Global, table: Table, offset: i64, len: u32) -> Result<Table, AllocError>
+    requires { HasRows table }
+    ensures { (ts : List (SourceKey × TableType)) → IfOk result (Gives ts (slice_op offset len) (table ∷ [])) }
 {
-    let rows = rows(alloc, offset, len, table.height)?;
-    Ok(rows_at(alloc, table, rows.as_slice())?)
+    let height = table.height;
+    let start = start_of(offset, height);
+    let first = cut(start, height);
+    let end = cut(start + len as i128, height);
+    Ok(cut_table(alloc, table, first, end)?)
 }

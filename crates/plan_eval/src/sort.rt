@@ -34,7 +34,7 @@ fn ordering(keys: &[Values], options: &SortMultipleOptions, left: usize, right: 
 }
 
 /// The numbers of so many rows.
-pub fn row_numbers(alloc: Global, height: usize) -> Result<Vec<usize>, AllocError>
+fn row_numbers(alloc: Global, height: usize) -> Result<Vec<usize>, AllocError>
     ensures { IfOk result (λ rows. rows.items ≡ range_with_len 0 height) }
 {
     let mut rows = Vec::with_capacity(alloc, height)?;

@@ -6,17 +6,13 @@ ghost use Rattle.plan_table.specs.declared.source_key.SourceKey.{SourceKey};
 ghost use Rattle.plan_table.specs.declared.table.Table.{Table as TableType};
 ghost use Rattle.plan_eval.specs.Given.{Gives};
 
-use plan_core::TryClone;
 use plan_table::Table;
-use std::alloc::{AllocError, Global};
+use std::alloc::AllocError;
 
 /// The table of the input.
-pub fn unchanged(alloc: Global, table: &Table) -> Result<Table, AllocError>
-    ensures sink { (ts : List (SourceKey × TableType)) (payload : SinkType) → IfOk result (Gives ts (sink_op payload) (table.now ∷ [])) }
-    ensures cache { (ts : List (SourceKey × TableType)) (id hits : ℕ) → IfOk result (Gives ts (cache_op id hits) (table.now ∷ [])) }
+pub fn unchanged(table: Table) -> Result<Table, AllocError>
+    ensures sink { (ts : List (SourceKey × TableType)) (payload : SinkType) → IfOk result (Gives ts (sink_op payload) (table ∷ [])) }
+    ensures cache { (ts : List (SourceKey × TableType)) (id hits : ℕ) → IfOk result (Gives ts (cache_op id hits) (table ∷ [])) }
 {
-    Ok(Table {
-        height: table.height,
-        columns: table.columns.try_clone(alloc)?,
-    })
+    Ok(table)
 }

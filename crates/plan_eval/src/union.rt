@@ -11,6 +11,7 @@ ghost use Rattle.plan_value.specs.Shown.{frame_of, schema_of};
 ghost use Rattle.plan_eval.specs.Given.{Gives};
 ghost use Rattle.plan_eval.specs.Stacks.{shown_tables};
 
+use crate::only::only;
 use crate::stack::stack;
 use plan_core::Items;
 use plan_table::Table;
@@ -28,8 +29,8 @@ fn borrowed(alloc: Global, tables: &[Table]) -> Result<Items<&Table>, AllocError
     Ok(borrowed)
 }
 
-/// The table of the union.
-pub fn union(alloc: Global, tables: &[Table]) -> Result<Table, AllocError>
+/// The rows of several tables in turn.
+fn united(alloc: Global, tables: &[Table]) -> Result<Table, AllocError>
     requires valid { (options : UnionOptions) × AllHold (checks (union_op options) (map schema_of tables.now)) }
     requires rows { AllByRecursion HasRows tables.now }
     ensures { (ts : List (SourceKey × TableType)) (options : UnionOptions) → IfOk result (Gives ts (union_op options) tables.now) }
@@ -41,4 +42,18 @@ pub fn union(alloc: Global, tables: &[Table]) -> Result<Table, AllocError>
         }
         [] => unreachable!(),
     }
+}
+
+/// The table of the union: that of its input where it has one alone.
+pub fn union(alloc: Global, tables: Items<Table>) -> Result<Table, AllocError>
+    requires valid { (options : UnionOptions) × AllHold (checks (union_op options) (map schema_of tables)) }
+    requires rows { AllByRecursion HasRows tables }
+    ensures { (ts : List (SourceKey × TableType)) (options : UnionOptions) → IfOk result (Gives ts (union_op options) tables) }
+{
+    if tables.len() == 1 {
+        return Ok(only(tables));
+    }
+    let made = united(alloc, tables.as_slice());
+    drop(tables);
+    made
 }

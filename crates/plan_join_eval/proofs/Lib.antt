@@ -4,4 +4,7 @@ mod FillLemmas
 mod AlongLemmas
 mod TableLemmas
 mod CompareLemmas
+mod ElementwiseLemmas
+mod ReadLemmas
+mod RunLemmas
 pub mod JoinLemmas

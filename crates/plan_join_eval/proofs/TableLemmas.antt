@@ -31,7 +31,7 @@ use Rattle.plan_join_eval.proofs.AlongLemmas.{null-row}
 use Rattle.plan_join_eval.proofs.FillLemmas.{differs, named_at, names_long, place_within}
 
 -- no value stands in no rows
-none_value : (j : Option ℕ) → value_or [] null j ≡ null
+pub none_value : (j : Option ℕ) → value_or [] null j ≡ null
 none_value None = refl
 none_value (Some i) = refl
 
@@ -95,7 +95,7 @@ module _ (s : Columns) (right : Table) (fill : Name → Option Name) (places : L
     left_values a d [] is = refl
     left_values a d (p ∷ ps) is = ap₂ (λ (v : Value) (vs : List Value). v ∷ vs) (ap (λ (v : Value). value_or (column_or f a) v p.left) (fill_value a d p.right (place_of s a) refl is)) (left_values a d ps is)
 
-right_values : (fill : Name → Option Name) (f g : Frame) (a : Name) (ps : List RowPair) → map (value_along true (column_or g a) []) ps ≡ map (side_value fill f g (sides.Right, a)) ps
+pub right_values : (fill : Name → Option Name) (f g : Frame) (a : Name) (ps : List RowPair) → map (value_along true (column_or g a) []) ps ≡ map (side_value fill f g (sides.Right, a)) ps
 right_values fill f g a [] = refl
 right_values fill f g a (p ∷ ps) = ap₂ (λ (v : Value) (vs : List Value). v ∷ vs) (ap (λ (v : Value). value_or (column_or g a) v p.right) (none_value p.left)) (right_values fill f g a ps)
 
@@ -109,7 +109,7 @@ same_where L M q (c ∷ s) h = at (q c) (same_where L M q s h.1)
     at true rest = ap₂ (λ (x : Column) (xs : List Column). x ∷ xs) h.0 rest
     at false rest = rest
 
-same_each : (L M : Name → Column) (names : List Name) → ((a : Name) → L a ≡ M a) → map L names ≡ map M names
+pub same_each : (L M : Name → Column) (names : List Name) → ((a : Name) → L a ≡ M a) → map L names ≡ map M names
 same_each L M [] h = refl
 same_each L M (a ∷ names) h = ap₂ (λ (x : Column) (xs : List Column). x ∷ xs) (h a) (same_each L M names h)
 
@@ -117,7 +117,7 @@ each : (P Q : Name × DataType → Type 0) (s : Columns) → AllByRecursion P s 
 each P Q [] h by = tt
 each P Q (c ∷ s) h by = (by c h.0, each P Q s h.1 by)
 
-names_shown : (cs : List Typed) → column_names (columns_shown cs) ≡ names_of (types_of cs)
+pub names_shown : (cs : List Typed) → column_names (columns_shown cs) ≡ names_of (types_of cs)
 names_shown [] = refl
 names_shown (c ∷ cs) = ap (λ (names : List Name). c.name ∷ names) (names_shown cs)
 

@@ -2,4 +2,6 @@
 pub mod Equal
 pub mod Fills
 pub mod Along
+pub mod Reads
+pub mod Runs
 pub mod Compared

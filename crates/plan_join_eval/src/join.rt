@@ -65,8 +65,9 @@ fn matches(
 
 /// The table of a join of two: rows that match, and rows of one side alone, as its kind says, in the order by the rows of both
 /// sides that keeps to the one that is asked: by the left rows first, or by the right ones where those are asked first; with
-/// the columns that it puts out. Where keys are to be equal, the time is that of the rows and of the pairs that are given;
-/// else each pair of rows is compared. Refuses for want of memory alone.
+/// the columns that it puts out. Where keys are to be equal, the time is that of the rows and of the pairs that are given.
+/// Where they are to meet an inequality, runs of rows that cannot meet it are passed over. A condition is worked out for
+/// each pair of rows. Refuses for want of memory alone.
 pub fn evaluate_join(
     alloc: Global,
     left: &Table,

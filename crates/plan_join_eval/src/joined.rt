@@ -48,7 +48,7 @@ fn value(
 
 /// The values of a column of a side along pairs: those in its rows, and where its row is absent those of a column of the
 /// other side.
-fn along(
+pub fn along(
     alloc: Global,
     of_right: bool,
     values: &[AnyValue],
@@ -65,7 +65,7 @@ fn along(
 }
 
 /// The values of the column of a name, from the first row on; none where there is no such column.
-fn column_values<'a>(table: &'a Table, name: &str) -> &'a [AnyValue]
+pub fn column_values<'a>(table: &'a Table, name: &str) -> &'a [AnyValue]
     ensures { (i : ℕ) → row (values_of result.now) i ≡ row (column_or (frame_of table.now) name.now) i }
 {
     match table.columns.get(name) {
@@ -95,7 +95,7 @@ fn filler_values<'a>(
 }
 
 /// Puts a column behind others, none of which is called like it.
-fn push_column(columns: &mut Columns, column: Column) -> Result<(), AllocError>
+pub fn push_column(columns: &mut Columns, column: Column) -> Result<(), AllocError>
     requires { has (names_of (types_of columns.old)) column.name ≡ false }
     ensures shown { OnOk result (columns_shown columns.new ≡ columns_shown columns.old ++ column_shown column ∷ []) }
     ensures types { OnOk result (types_of columns.new ≡ types_of columns.old ++ (column.name, column.dtype) ∷ []) }

@@ -6,5 +6,9 @@ mod equal;
 mod fills;
 mod join;
 mod joined;
+mod reads;
+mod runs;
+mod unequal;
+mod worked;
 
 pub use join::evaluate_join;

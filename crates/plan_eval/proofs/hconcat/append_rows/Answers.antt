@@ -1,4 +1,5 @@
 use Rattle.std.proofs.Common.{◌∙◌, List, ap, sym, fold}
+use Rattle.std.specs.List.{range_with_len}
 use Rattle.plan_core.specs.Columns.{Columns}
 use Rattle.plan_frame.specs.Frames.{Column, picked_columns, with_new_column}
 use Rattle.plan_frame.specs.Beside.{with_new}
@@ -11,7 +12,7 @@ pub loop-column-preserved : goal.loop-column-preserved
 loop-column-preserved c =
     let rest = c.next.new.self in
     let done = c.loop-column.columns in
-    let rows = c.args.rows.now in
+    let rows = range_with_len 0 c.args.height in
     let inv = c.loop-column.invariant in
     let steps = c.in-Some.ensures.steps in
     record {

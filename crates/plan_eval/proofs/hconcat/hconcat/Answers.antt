@@ -19,12 +19,11 @@ loop-table-preserved c =
     let done = c.loop-table.columns in
     let rest = drop (i + 1) tables in
     let h = c.highest-height.result in
-    let rows : c.as_slice.result.now ≡ range_with_len 0 h = c.as_slice.ensures.value ∙ c.in_ok-rows.ensures in
     let steps : drop i tables ≡ t ∷ rest = drop_more tables i t c.loop-table-test.true ∙ ap (λ (u : Table). u ∷ rest) (sym c.table-item.is) in
     let own : List ℕ → List Column = λ (ns : List ℕ). picked_columns ns (columns_shown t.columns) in
     record {
       shown =
-          ap (λ (cs : List Column). fold with_new_column cs (levelled h (map frame_of rest))) (c.in_ok-append_rows.ensures.shown ∙ ap (λ (ns : List ℕ). fold with_new_column (columns_shown done) (own ns)) rows)
+          ap (λ (cs : List Column). fold with_new_column cs (levelled h (map frame_of rest))) c.in_ok-append_rows.ensures.shown
           ∙ sym (fold-append with_new_column (columns_shown done) (own (range_with_len 0 h)) (levelled h (map frame_of rest)))
           ∙ ap (λ (ts : List Table). fold with_new_column (columns_shown done) (levelled h (map frame_of ts))) (sym steps)
           ∙ inv.shown;

@@ -66,9 +66,7 @@ loop-place-preserved t c =
     )
 
 pub node_table-requires-clause-each : goal.node_table-requires-clause-each
-node_table-requires-clause-each t c =
-    let same = ap (λ (l : List Table). length l) c.as_slice.ensures in
-    omega (arith, same, c.loop-place.invariant.1)
+node_table-requires-clause-each t c = omega (arith, c.loop-place.invariant.1)
 
 pub node_table-requires-clause-stand : goal.node_table-requires-clause-stand
 node_table-requires-clause-stand t c = all_stand c.args.lp.now c.args.ex.now c.args.node c.get-entry.result.now (exprs_of c.get-entry.result.now) c.requires.stands c.get-entry.ensures.entry refl
@@ -78,9 +76,8 @@ node_table-requires-clause-valid t c =
     let lp = c.args.lp.now in
     let ex = c.args.ex.now in
     let p = c.get-entry.result.now in
-    let same : c.as_slice.result.now ≡ c.loop-place.given = search rules in
     let below = give-end lp ex c.args.tables.now (inputs_of p) c.loop-place.place c.loop-place.given c.loop-place.invariant.0 (omega arith) in
-    subst (λ (ss : List Columns). AllHold (checks (op_at ex p) ss)) (sym (ap (map schema_of) same ∙ below.types)) (node-valid lp ex c.args.node p c.requires.stands c.get-entry.ensures.entry c.requires.valid)
+    subst (λ (ss : List Columns). AllHold (checks (op_at ex p) ss)) (sym below.types) (node-valid lp ex c.args.node p c.requires.stands c.get-entry.ensures.entry c.requires.valid)
 
 pub node_table-requires-clause-rows : goal.node_table-requires-clause-rows
 node_table-requires-clause-rows t c =
@@ -88,17 +85,13 @@ node_table-requires-clause-rows t c =
     let ex = c.args.ex.now in
     let p = c.get-entry.result.now in
     let entry = c.get-entry.ensures.entry in
-    let same : c.as_slice.result.now ≡ c.loop-place.given = search rules in
     let below = give-end lp ex c.args.tables.now (inputs_of p) c.loop-place.place c.loop-place.given c.loop-place.invariant.0 (omega arith) in
-    subst (AllByRecursion HasRows) (sym same)
-    (given-rows c.args.tables.now (plans_at lp ex (inputs_of p)) c.loop-place.given (inputs-valid lp ex c.args.node p c.requires.stands entry c.requires.valid) (inputs-frames lp ex c.args.node p c.requires.stands entry (contents_of c.args.tables.now) c.requires.fits) below)
+    given-rows c.args.tables.now (plans_at lp ex (inputs_of p)) c.loop-place.given (inputs-valid lp ex c.args.node p c.requires.stands entry c.requires.valid) (inputs-frames lp ex c.args.node p c.requires.stands entry (contents_of c.args.tables.now) c.requires.fits) below
 
 pub returns : goal.returns
 returns t c =
     let lp = c.args.lp.now in
     let ex = c.args.ex.now in
     let p = c.get-entry.result.now in
-    let same : c.as_slice.result.now ≡ c.loop-place.given = search rules in
     let below = give-end lp ex c.args.tables.now (inputs_of p) c.loop-place.place c.loop-place.given c.loop-place.invariant.0 (omega arith) in
-    plan-gives lp ex c.args.node p c.requires.stands c.get-entry.ensures.entry c.args.tables.now c.loop-place.given c.in_ok-node_table.field-0 below
-    (subst (λ (tables : List Table). Gives c.args.tables.now (op_at ex p) tables c.in_ok-node_table.field-0) same c.in_ok-node_table.ensures)
+    plan-gives lp ex c.args.node p c.requires.stands c.get-entry.ensures.entry c.args.tables.now c.loop-place.given c.in_ok-node_table.field-0 below c.in_ok-node_table.ensures

@@ -12,43 +12,12 @@ use Rattle.plan_eval.specs.Given.{Gives}
 use Rattle.plan_eval.proofs.PlanLemmas.{all-first, all-second}
 use Rattle.plan_eval.proofs.plan.one_input_table.Goals as goal
 
-pub select-requires-clause-stand : goal.select-requires-clause-stand
-select-requires-clause-stand c = rw c.as_slice.ensures (subst (λ (p : IR). All (λ (e : ExprIR). IsExpr c.args.ex.now e.node) (exprs_of p)) c.in-Select.is c.requires.stand)
-
 pub hstack-requires-clause-stand : goal.hstack-requires-clause-stand
-hstack-requires-clause-stand c = rw c.as_slice-in-HStack.ensures (subst (λ (p : IR). All (λ (e : ExprIR). IsExpr c.args.ex.now e.node) (exprs_of p)) c.in-HStack.is c.requires.stand)
-
-pub sort-requires-clause-stand : goal.sort-requires-clause-stand
-sort-requires-clause-stand c = rw c.as_slice-in-Sort.ensures (subst (λ (p : IR). All (λ (e : ExprIR). IsExpr c.args.ex.now e.node) (exprs_of p)) c.in-Sort.is c.requires.stand)
-
-pub sort-requires-clause-valid : goal.sort-requires-clause-valid
-sort-requires-clause-valid c =
-    let valid = subst (λ (p : IR). AllHold (checks (op_at c.args.ex.now p) (schema_of c.args.table.now ∷ []))) c.in-Sort.is c.requires.valid in
-    rw c.as_slice-in-Sort.ensures valid.1
-
-pub group_by-requires-clause-keys : goal.group_by-requires-clause-keys
-group_by-requires-clause-keys c =
-    let all = subst (λ (p : IR). All (λ (e : ExprIR). IsExpr c.args.ex.now e.node) (exprs_of p)) c.in-GroupBy.is c.requires.stand in
-    rw c.as_slice-in-GroupBy.ensures (all-first (λ (e : ExprIR). IsExpr c.args.ex.now e.node) c.in-GroupBy.keys c.in-GroupBy.aggs all)
-
-pub group_by-requires-clause-aggs : goal.group_by-requires-clause-aggs
-group_by-requires-clause-aggs c =
-    let all = subst (λ (p : IR). All (λ (e : ExprIR). IsExpr c.args.ex.now e.node) (exprs_of p)) c.in-GroupBy.is c.requires.stand in
-    rw c.as_slice-in-GroupBy-2.ensures (all-second (λ (e : ExprIR). IsExpr c.args.ex.now e.node) c.in-GroupBy.keys c.in-GroupBy.aggs all)
-
-pub group_by-requires-clause-valid : goal.group_by-requires-clause-valid
-group_by-requires-clause-valid c =
-    let valid = subst (λ (p : IR). AllHold (checks (op_at c.args.ex.now p) (schema_of c.args.table.now ∷ []))) c.in-GroupBy.is c.requires.valid in
-    rw (c.as_slice-in-GroupBy.ensures, c.as_slice-in-GroupBy-2.ensures) valid.1
+hstack-requires-clause-stand c = rw c.as_slice.ensures (subst (λ (p : IR). All (λ (e : ExprIR). IsExpr c.args.ex.now e.node) (exprs_of p)) c.in-HStack.is c.requires.stand)
 
 pub returns-in-Slice : goal.returns-in-Slice
 returns-in-Slice c =
     let ts = c.args.tables.now in
     let fits : SFits w64 c.in-Slice.offset = search rules in
-    subst (λ (p : IR). IfOk c.slice.result (Gives ts (op_at c.args.ex.now p) (c.args.table.now ∷ []))) (sym c.in-Slice.is)
-    (subst (λ (z : ℤ). IfOk c.slice.result (Gives ts (slice z c.in-Slice.len) (c.args.table.now ∷ []))) (to_z-of_z fits) (c.slice.ensures ts))
-
-pub returns-in-Filter : goal.returns-in-Filter
-returns-in-Filter c =
-    let ts = c.args.tables.now in
-    subst (λ (p : IR). IfOk c.filter.result (Gives ts (op_at c.args.ex.now p) (c.args.table.now ∷ []))) (sym c.in-Filter.is) (c.filter.ensures ts)
+    subst (λ (p : IR). IfOk c.slice.result (Gives ts (op_at c.args.ex.now p) (c.args.table ∷ []))) (sym c.in-Slice.is)
+    (subst (λ (z : ℤ). IfOk c.slice.result (Gives ts (slice z c.in-Slice.len) (c.args.table ∷ []))) (to_z-of_z fits) (c.slice.ensures ts))

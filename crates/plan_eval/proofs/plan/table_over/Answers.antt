@@ -8,7 +8,7 @@ use Rattle.plan_ir.specs.Parts.{exprs_of}
 use Rattle.plan_ir.specs.Plans.{join, op_at}
 use Rattle.plan_join.specs.Told.{told_at}
 use Rattle.plan_eval.specs.Given.{Gives}
-use Rattle.plan_eval.proofs.plan.node_table.Goals as goal
+use Rattle.plan_eval.proofs.plan.table_over.Goals as goal
 
 pub join-requires-clause-stand : goal.join-requires-clause-stand
 join-requires-clause-stand c = rw (c.as_slice.ensures, c.as_slice-in-Join.ensures) (subst (λ (p : IR). All (λ (e : ExprIR). IsExpr c.args.ex.now e.node) (exprs_of p)) c.in-Join.is c.requires.stand)

@@ -1,0 +1,13 @@
+use Rattle.std.proofs.Common.{◌≡◌, map, take}
+use Rattle.plan_expr.specs.Exprs.{all_named_at}
+use Rattle.plan_frame.specs.Made.{made_columns}
+use Rattle.plan_table.specs.Tables.{types_of}
+use Rattle.plan_eval.specs.Given.{stored_column}
+use Rattle.plan_value.specs.Shown.{columns_shown, frame_of}
+use Rattle.plan_eval.proofs.made.made_list.Given as goal
+
+-- the columns that the expressions up to here make, and their types
+abbrev pub invariant-loop-expr : goal.invariant-loop-expr
+invariant-loop-expr l =
+    (columns_shown l.made.items ≡ made_columns l.height (frame_of l.table) (all_named_at l.ex (take l.expr-index l.exprs)))
+    × (types_of l.made.items ≡ map (stored_column l.schema) (take l.expr-index l.exprs))
