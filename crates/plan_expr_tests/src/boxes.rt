@@ -211,7 +211,7 @@ fn no_columns_are_copied(alloc: Global) -> Result<bool, AllocError> {
     is_copied(alloc, &none)
 }
 
-const TOLD: [Told; 8] = [
+const TOLD: &[Told] = &[
     Told {
         kind: Kind::Sum,
         walk: "+ab",
@@ -417,10 +417,18 @@ fn is_exchanged(alloc: Global, other: &str, wanted: &str) -> Result<bool, AllocE
     found
 }
 
+/// A number of rows, once a visitor that changes nothing was there.
+fn left() -> PolarsResult<Expr> {
+    let mut mapper = ExprMapper::new(|e: Expr| -> PolarsResult<Expr> { Ok(e) });
+    mapper.mutate(Expr::Len)
+}
+
 /// Whether a visitor that changes nothing leaves a number of rows.
 fn is_left() -> PolarsResult<bool> {
-    let mut mapper = ExprMapper::new(|e: Expr| -> PolarsResult<Expr> { Ok(e) });
-    Ok(mapper.mutate(Expr::Len)? == Expr::Len)
+    let left = left()?;
+    let is_len = matches!(&left, Expr::Len);
+    drop(left);
+    Ok(is_len)
 }
 
 /// Whether expressions are given away and mapped as they should be.

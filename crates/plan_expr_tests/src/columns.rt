@@ -85,7 +85,7 @@ enum Kind {
 }
 
 /// Expressions, and why they are refused.
-const REFUSED: [(Kind, PolarsError); 5] = [
+const REFUSED: &[(Kind, PolarsError)] = &[
     (Kind::Twice, PolarsError::Duplicate(SECOND)),
     (Kind::Wildcard, PolarsError::SchemaFieldNotFound(THIRD)),
     (Kind::Absent, PolarsError::SchemaFieldNotFound(FIRST)),

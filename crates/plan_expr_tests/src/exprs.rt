@@ -82,7 +82,11 @@ fn fill(alloc: Global, ex: &mut Arena<AExpr>) -> Result<(), AllocError> {
     column(alloc, "b", ex)?;
     choice(ex)?;
     function(alloc, FunctionExpr::Not, &[6], ex)?;
-    column(alloc, "c", ex)?;
+    column(alloc, "c", ex)
+}
+
+/// Adds the rest of these expressions.
+fn fill_rest(alloc: Global, ex: &mut Arena<AExpr>) -> Result<(), AllocError> {
     ex.add(AExpr::Len)?;
     ex.add(AExpr::Literal(LiteralValue::Boolean(true)))?;
     function(alloc, FunctionExpr::CumSum, &[10], ex)?;
@@ -95,6 +99,7 @@ fn fill(alloc: Global, ex: &mut Arena<AExpr>) -> Result<(), AllocError> {
 fn kinds(alloc: Global) -> Result<Arena<AExpr>, AllocError> {
     let mut ex = Arena::new(alloc);
     fill(alloc, &mut ex)?;
+    fill_rest(alloc, &mut ex)?;
     Ok(ex)
 }
 
@@ -114,7 +119,7 @@ struct Told {
     tests: [bool; 5],
 }
 
-const TOLD: [Told; 10] = [
+const TOLD: &[Told] = &[
     Told {
         node: 0,
         walk: &[0, 1, 2, 3],
@@ -355,7 +360,7 @@ fn is_told(alloc: Global, ex: &Arena<AExpr>, told: &Told) -> Result<bool, AllocE
 
 /// The first number of an expression that tells something else.
 fn other(alloc: Global, ex: &Arena<AExpr>) -> Result<Option<usize>, AllocError> {
-    for told in &TOLD {
+    for told in TOLD {
         if !is_told(alloc, ex, told)? {
             return Ok(Some(told.node));
         }
@@ -452,7 +457,9 @@ fn copied(alloc: Global) -> Result<[bool; 3], AllocError> {
     let window = over_three(alloc)?;
     let is_no_column = window.column_name().is_none();
     let is_second = window.operand(1) == Some(Node(3));
-    Ok([is_copied(alloc, &window)?, is_no_column, is_second])
+    let is_same = is_copied(alloc, &window);
+    drop(window);
+    Ok([is_same?, is_no_column, is_second])
 }
 
 /// Whether a copy of a count stands over another operand.

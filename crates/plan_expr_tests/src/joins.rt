@@ -56,7 +56,7 @@ struct Asked {
     origin: Option<(Side, usize)>,
 }
 
-const ASKED: [Asked; 5] = [
+const ASKED: &[Asked] = &[
     Asked {
         right: &[A, B],
         how: JoinType::Inner,
@@ -111,7 +111,7 @@ fn is_from_these(alloc: Global, ex: &Arena<AExpr>, asked: &Asked) -> Result<bool
 fn are_from(alloc: Global, ex: &Arena<AExpr>) -> Result<bool, AllocError>
     requires { length ex.now ≡ 1 }
 {
-    for asked in &ASKED {
+    for asked in ASKED {
         if !is_from_these(alloc, ex, asked)? {
             return Ok(false);
         }
