@@ -3,7 +3,10 @@ use plan_core::{At, DataType, Items, PlSmallStr, PolarsError, Schema, TryClone};
 use plan_made::{marks, names, schema};
 use plan_options::*;
 use std::alloc::{AllocError, Global};
-use std::test::Fail;
+
+const A: (&str, DataType) = ("a", DataType::Int64);
+
+const B: (&str, DataType) = ("b", DataType::String);
 
 fn joined(how: JoinType, suffix: Option<PlSmallStr>) -> JoinArgs {
     JoinArgs {
@@ -16,20 +19,26 @@ fn joined(how: JoinType, suffix: Option<PlSmallStr>) -> JoinArgs {
     }
 }
 
-#[test]
-fn function_flags_have_their_numbers(rt: HostRuntime) {
+/// The numbers of flags.
+fn numbers() -> [u8; 6] {
     let scalar = FunctionFlags::RETURNS_SCALAR | FunctionFlags::ALLOW_EMPTY_INPUTS;
-    let bits = [
+    [
         FunctionFlags::default().bits(),
         FunctionFlags::all().bits(),
         FunctionFlags::empty().bits(),
         scalar.bits(),
         FunctionFlags::from_bits_truncate(130).bits(),
         (!scalar & FunctionFlags::from_bits_truncate(130)).bits(),
-    ];
-    assert_eq!(rt; bits, [1, 255, 0, 160, 130, 2]);
-    let read = FunctionFlags::from_bits(160) == Some(scalar);
-    assert!(rt; read && !scalar.contains(FunctionFlags::default()));
+    ]
+}
+
+/// Whether a number is some flags, and whether these contain those by default.
+fn are_flags() -> [bool; 2] {
+    let scalar = FunctionFlags::RETURNS_SCALAR | FunctionFlags::ALLOW_EMPTY_INPUTS;
+    [
+        FunctionFlags::from_bits(160) == Some(scalar),
+        scalar.contains(FunctionFlags::default()),
+    ]
 }
 
 /// Whether a function of these options checks lengths and works row by row, as it is by default, then by its rows, and then as one
@@ -45,42 +54,63 @@ fn by_rows() -> [bool; 4] {
     [lengths, usual, by_rows, options.is_elementwise()]
 }
 
-#[test]
-fn functions_work_row_by_row_where_they_say_so(rt: HostRuntime) {
-    assert_eq!(rt; by_rows(), [true, false, true, false]);
-    assert!(rt; CastingRules::cast_to_supertypes() == CastingRules::Supertype);
-}
-
-#[test]
-fn options_have_their_defaults(rt: HostRuntime) {
+/// Whether unions and hconcats work in parallel and keep orders, and groups are cut, by default.
+fn usual() -> [bool; 5] {
     let union = UnionOptions::from(UnionArgs::default());
-    let marks = [
+    [
         union.parallel,
         union.maintain_order,
         union == UnionOptions::default(),
         HConcatOptions::default().parallel,
         GroupbyOptions::default().slice.is_some(),
-    ];
-    assert_eq!(rt; marks, [true, true, false, false, false]);
-    let keep = UniqueKeepStrategy::default() == DistinctOptionsDSL::default().keep_strategy;
-    let lengths = UnsafeBool::default() == FunctionOptions::default().check_lengths;
-    let coalesce = JoinCoalesce::default() == JoinCoalesce::JoinSpecific;
-    assert_eq!(rt; [keep, lengths, coalesce], [true; 3]);
+    ]
+}
+
+/// Whether defaults agree that stand in several types.
+fn agree() -> [bool; 3] {
+    [
+        UniqueKeepStrategy::default() == DistinctOptionsDSL::default().keep_strategy,
+        UnsafeBool::default() == FunctionOptions::default().check_lengths,
+        JoinCoalesce::default() == JoinCoalesce::JoinSpecific,
+    ]
+}
+
+/// Whether a left join has the usual suffix and puts keys out as one.
+fn left() -> [bool; 2] {
+    let left = joined(JoinType::Left, None);
+    [left.suffix() == "_right", left.should_coalesce()]
+}
+
+/// Whether all these are as they should be.
+fn plain() -> [bool; 6] {
+    [
+        numbers() == [1, 255, 0, 160, 130, 2],
+        are_flags() == [true, false],
+        by_rows() == [true, false, true, false],
+        usual() == [true, true, false, false, false],
+        agree() == [true; 3],
+        left() == [true; 2],
+    ]
 }
 
 /// Whether a value is its copy.
-fn is_copied<T: TryClone + PartialEq + Drop>(alloc: Global, value: &T) -> Result<bool, AllocError> {
-    Ok(value.try_clone(alloc)? == *value)
+fn is_copied<T: TryClone + PartialEq + Drop>(
+    alloc: Global,
+    made: Result<T, AllocError>,
+) -> Result<bool, AllocError> {
+    let value = made?;
+    Ok(value.try_clone(alloc)? == value)
 }
 
-#[test]
-fn joins_have_a_suffix_and_coalesce(rt: HostRuntime) -> Result<(), Fail> {
-    let left = joined(JoinType::Left, None);
-    assert!(rt; left.suffix() == "_right" && left.should_coalesce());
-    let full = joined(JoinType::Full, Some(PlSmallStr::new(rt.alloc(), "_r")?));
-    assert!(rt; full.suffix() == "_r" && !full.should_coalesce());
-    assert!(rt; is_copied(rt.alloc(), &full)?);
-    Ok(())
+/// A full join with a suffix of its own.
+fn full(alloc: Global) -> Result<JoinArgs, AllocError> {
+    Ok(joined(JoinType::Full, Some(PlSmallStr::new(alloc, "_r")?)))
+}
+
+/// Whether a full join has its own suffix and puts keys out as one.
+fn suffixed(alloc: Global) -> Result<[bool; 2], AllocError> {
+    let full = full(alloc)?;
+    Ok([full.suffix() == "_r", full.should_coalesce()])
 }
 
 /// The options of distinct rows by the column a, as they are asked.
@@ -113,28 +143,31 @@ fn sort(alloc: Global) -> Result<SortMultipleOptions, AllocError> {
     })
 }
 
-#[test]
-fn options_are_copied(rt: HostRuntime) -> Result<(), Fail> {
-    assert!(rt; is_copied(rt.alloc(), &asked(rt.alloc())?)?);
-    assert!(rt; is_copied(rt.alloc(), &distinct(rt.alloc())?)?);
-    assert!(rt; is_copied(rt.alloc(), &sort(rt.alloc())?)?);
-    Ok(())
+/// A text with names behind it, between brackets.
+fn delimited(alloc: Global, text: &str, items: &[&str]) -> Result<String, AllocError> {
+    let names = names(alloc, items)?;
+    comma_delimited(alloc, String::from_str(alloc, text)?, names.as_slice())
 }
 
-/// Two names, no text and one text between brackets, behind a name each.
-fn texts(alloc: Global) -> Result<String, AllocError> {
-    let none: [String; 0] = [];
+/// Whether that is the text that it should be.
+fn is_delimited(
+    alloc: Global,
+    text: &str,
+    items: &[&str],
+    wanted: &str,
+) -> Result<bool, AllocError> {
+    Ok(delimited(alloc, text, items)?.as_str() == wanted)
+}
+
+/// A text, with a text between brackets behind it.
+fn delimited_text(alloc: Global) -> Result<String, AllocError> {
     let one = [String::from_str(alloc, "a")?];
-    let text = String::from_str(alloc, "x")?;
-    let text = comma_delimited(alloc, text, names(alloc, &["a", "b"])?.as_slice())?;
-    let text = comma_delimited(alloc, text, &none)?;
-    comma_delimited(alloc, text, &one)
+    comma_delimited(alloc, String::from_str(alloc, "x")?, &one)
 }
 
-#[test]
-fn texts_stand_between_brackets(rt: HostRuntime) -> Result<(), Fail> {
-    assert_eq!(rt; texts(rt.alloc())?.as_str(), "x(a, b)()(a)");
-    Ok(())
+/// Whether that is the text that it should be.
+fn is_text_delimited(alloc: Global) -> Result<bool, AllocError> {
+    Ok(delimited_text(alloc)?.as_str() == "x(a)")
 }
 
 /// The merged columns of two schemas.
@@ -147,15 +180,44 @@ fn merged(
     merge_schemas(alloc, &schemas)
 }
 
+/// Whether the columns of two schemas are merged in order.
+fn are_merged(alloc: Global) -> Result<bool, PolarsError> {
+    let merged = merged(alloc, &[A], &[B])?;
+    Ok(merged == schema(alloc, &[A, B])?)
+}
+
+/// Whether two schemas with one name are refused at the second.
+fn are_refused(alloc: Global) -> bool {
+    let place = 1;
+    merged(alloc, &[A], &[B, A]).err() == Some(PolarsError::Duplicate(At { node: None, place }))
+}
+
+/// Whether a join has its own suffix, and values are their copies.
+fn copies(alloc: Global) -> Result<[bool; 5], AllocError> {
+    Ok([
+        suffixed(alloc)? == [true, false],
+        is_copied(alloc, full(alloc))?,
+        is_copied(alloc, asked(alloc))?,
+        is_copied(alloc, distinct(alloc))?,
+        is_copied(alloc, sort(alloc))?,
+    ])
+}
+
+/// Whether texts stand between brackets as they should.
+fn texts(alloc: Global) -> Result<[bool; 4], AllocError> {
+    Ok([
+        is_delimited(alloc, "", &["a", "b"], "(a, b)")?,
+        is_delimited(alloc, "", &[], "()")?,
+        is_delimited(alloc, "x", &["a"], "x(a)")?,
+        is_text_delimited(alloc)?,
+    ])
+}
+
 #[test]
-fn schemas_are_merged(rt: HostRuntime) -> Result<(), Fail> {
-    let (a, b) = (("a", DataType::Int64), ("b", DataType::String));
-    assert!(rt; merged(rt.alloc(), &[a], &[b])? == schema(rt.alloc(), &[a, b])?);
-    let at = At {
-        node: None,
-        place: 1,
-    };
-    let refused = merged(rt.alloc(), &[a], &[b, a]).err();
-    assert_eq!(rt; refused, Some(PolarsError::Duplicate(at)));
-    Ok(())
+fn options_have_worked_values(rt: HostRuntime) {
+    assert!(rt; plain() == [true; 6]);
+    assert!(rt; copies(rt.alloc()) == Ok([true; 5]));
+    assert!(rt; texts(rt.alloc()) == Ok([true; 4]));
+    assert!(rt; are_merged(rt.alloc()) == Ok(true));
+    assert!(rt; are_refused(rt.alloc()));
 }

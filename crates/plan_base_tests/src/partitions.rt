@@ -1,85 +1,134 @@
 //! Parts that are projected and made.
-use plan_core::{DataType, Items, PlSmallStr, Schema, TryClone};
+use plan_core::{DataType, Items, PlSmallStr, PolarsResult, Schema, TryClone};
 use plan_hive::hive_partitions_from_paths;
 use plan_made::{names, schema};
-use plan_scan::HivePartitions;
+use plan_scan::{ColumnStats, HivePartitions};
 use plan_table::{AnyValue, Column};
 use std::alloc::{AllocError, Global};
-use std::test::Fail;
 
-/// The first part of a path, if it is read.
-fn first(alloc: Global, path: &str, start: usize) -> Result<Option<HivePartitions>, AllocError> {
-    let paths = names(alloc, &[path])?;
+/// The parts of paths whose folders start at 3.
+fn parts(alloc: Global, paths: &[PlSmallStr]) -> PolarsResult<Option<Items<HivePartitions>>> {
     let reader = Schema::new(alloc);
-    match hive_partitions_from_paths(alloc, paths.as_slice(), start, None, &reader, true) {
-        Ok(Some(mut parts)) => Ok(parts.pop()),
-        _ => Ok(None),
+    hive_partitions_from_paths(alloc, paths, 3, None, &reader, true)
+}
+
+/// The columns y and m of a path, if it is read.
+fn part(alloc: Global) -> PolarsResult<Option<HivePartitions>> {
+    let paths = names(alloc, &["/d/y=2020/m=a%20b/f0"])?;
+    match parts(alloc, paths.as_slice())? {
+        Some(mut parts) => Ok(parts.pop()),
+        None => Ok(None),
     }
 }
 
-/// A column of this text.
-fn text(alloc: Global, name: &str, text: &str) -> Result<Column, AllocError> {
-    let mut values = Items::new(alloc);
-    values.push(AnyValue::String(PlSmallStr::new(alloc, text)?))?;
-    Ok(Column {
-        name: PlSmallStr::new(alloc, name)?,
-        dtype: DataType::String,
-        values,
-    })
+/// Whether a part is its copy.
+fn is_copied(alloc: Global, part: &HivePartitions) -> Result<bool, AllocError> {
+    Ok(*part == part.try_clone(alloc)?)
 }
 
-/// Whether the column `m` of a part has this place, and the part is projected to it.
-fn is_projected(
+/// Projects a part to names, and tells whether the first stood at 1.
+fn projected(
     alloc: Global,
     part: &mut HivePartitions,
-    place: usize,
+    wanted: &[PlSmallStr],
 ) -> Result<bool, AllocError> {
-    let wanted = names(alloc, &["m"])?;
-    let (left, places) = part.get_projection_schema_and_indices(alloc, wanted.as_slice())?;
-    let is_there = places.as_slice() == [place].as_slice();
+    let (left, places) = part.get_projection_schema_and_indices(alloc, wanted)?;
+    let is_there = places.as_slice() == [1].as_slice();
     part.apply_projection(alloc, left, places.as_slice())?;
     Ok(is_there)
 }
 
-/// Whether the columns of a part are made as this one alone.
-fn is_made(alloc: Global, part: &HivePartitions, column: Column) -> Result<bool, AllocError> {
-    let made = part.materialize_partition_columns(alloc)?;
-    Ok(made.as_slice() == [column].as_slice())
+/// Projects a part to the column m, and tells whether it stood at 1.
+fn is_projected(alloc: Global, part: &mut HivePartitions) -> Result<bool, AllocError> {
+    let wanted = names(alloc, &["m"])?;
+    projected(alloc, part, wanted.as_slice())
 }
 
-#[test]
-fn partitions_are_projected(rt: HostRuntime) -> Result<(), Fail> {
-    let alloc = rt.alloc();
-    let mut part = first(alloc, "/d/y=2020/m=a%20b/f0", 3)?.ok_or("a part")?;
-    assert!(rt; is_projected(alloc, &mut part, 1)?);
+/// Whether a part has the column m alone.
+fn has_text(alloc: Global, part: &HivePartitions) -> Result<bool, AllocError> {
     let left = schema(alloc, &[("m", DataType::String)])?;
-    assert!(rt; *part.get_statistics().schema() == left);
-    assert!(rt; is_made(alloc, &part, text(alloc, "m", "a b")?)?);
-    Ok(())
+    Ok(*part.get_statistics().schema() == left)
 }
 
-#[test]
-fn partitions_are_copied(rt: HostRuntime) -> Result<(), Fail> {
-    let alloc = rt.alloc();
-    let part = first(alloc, "/d/y=2020/m=a%20b/f0", 3)?.ok_or("a part")?;
-    assert!(rt; part == part.try_clone(alloc)?);
-    Ok(())
+/// The text `a b` alone.
+fn text(alloc: Global) -> Result<Items<AnyValue>, AllocError> {
+    let mut values = Items::new(alloc);
+    values.push(AnyValue::String(PlSmallStr::new(alloc, "a b")?))?;
+    Ok(values)
 }
 
-#[test]
-fn partitions_are_made_of_values(rt: HostRuntime) -> Result<(), Fail> {
-    let alloc = rt.alloc();
-    let none = HivePartitions::new(alloc, Schema::new(alloc), Items::new(alloc))?;
-    assert_eq!(rt; none.get_statistics().column_stats().len(), 0);
+/// The column m with this text.
+fn column(alloc: Global) -> Result<Column, AllocError> {
+    let values = text(alloc)?;
+    let name = PlSmallStr::new(alloc, "m")?;
+    let dtype = DataType::String;
+    Ok(Column {
+        name,
+        dtype,
+        values,
+    })
+}
+
+/// Whether the columns of a part are made as this one alone.
+fn is_made(alloc: Global, part: &HivePartitions) -> Result<bool, AllocError> {
+    let made = part.materialize_partition_columns(alloc)?;
+    Ok(made.as_slice() == [column(alloc)?].as_slice())
+}
+
+/// Whether a part is its copy, is projected, has then the column m alone, and makes it.
+fn is_right(alloc: Global, part: &mut HivePartitions) -> Result<bool, AllocError> {
+    Ok(
+        is_copied(alloc, part)?
+            && is_projected(alloc, part)?
+            && has_text(alloc, part)?
+            && is_made(alloc, part)?,
+    )
+}
+
+/// The same of the part of a path, if it is read.
+fn part_is_right(alloc: Global) -> PolarsResult<bool> {
+    match part(alloc)? {
+        Some(mut part) => Ok(is_right(alloc, &mut part)?),
+        None => Ok(false),
+    }
+}
+
+/// The column y with the value 2020.
+fn year(alloc: Global) -> Result<HivePartitions, AllocError> {
     let mut values = Items::new(alloc);
     values.push(AnyValue::Int64(2020))?;
-    let year = HivePartitions::new(alloc, schema(alloc, &[("y", DataType::Int64)])?, values)?;
-    let stats = year.get_statistics().column_stats();
-    assert_eq!(rt; stats.len(), 1);
-    if let Some(stat) = stats.first() {
-        assert_eq!(rt; stat.field.name.as_str(), "y");
-        assert_eq!(rt; stat.field.dtype, DataType::Int64);
-        assert_eq!(rt; stat.value, AnyValue::Int64(2020));
+    HivePartitions::new(alloc, schema(alloc, &[("y", DataType::Int64)])?, values)
+}
+
+/// Whether this is the column y with the value 2020.
+fn is_year(stat: &ColumnStats) -> bool {
+    let is_named = stat.field.name.as_str() == "y" && stat.field.dtype == DataType::Int64;
+    is_named && matches!(&stat.value, AnyValue::Int64(2020))
+}
+
+/// Whether a part has this column alone.
+fn has_year(part: &HivePartitions) -> bool {
+    match part.get_statistics().column_stats() {
+        [stat] => is_year(stat),
+        _ => false,
     }
-    Ok(())
+}
+
+/// Whether the part of this column has it alone.
+fn year_is_made(alloc: Global) -> Result<bool, AllocError> {
+    let year = year(alloc)?;
+    Ok(has_year(&year))
+}
+
+/// Whether a part without columns has none.
+fn none_is_made(alloc: Global) -> Result<bool, AllocError> {
+    let none = HivePartitions::new(alloc, Schema::new(alloc), Items::new(alloc))?;
+    Ok(none.get_statistics().column_stats().is_empty())
+}
+
+#[test]
+fn partitions_are_projected_and_made(rt: HostRuntime) {
+    assert!(rt; part_is_right(rt.alloc()) == Ok(true));
+    assert!(rt; year_is_made(rt.alloc()) == Ok(true));
+    assert!(rt; none_is_made(rt.alloc()) == Ok(true));
 }

@@ -2,9 +2,14 @@
 use plan_core::*;
 use plan_made::schema;
 use std::alloc::{AllocError, Global};
-use std::test::Fail;
 
-/// What an arena of two numbers holds: the numbers of its entries, one that is taken, and what stands in its place.
+const A: (&str, DataType) = ("a", DataType::Int64);
+
+const B: (&str, DataType) = ("b", DataType::Boolean);
+
+const C: (&str, DataType) = ("c", DataType::Int64);
+
+/// Of an arena of two numbers: the numbers of its entries, one that is taken, and what stands in its place.
 fn taken(alloc: Global) -> Result<[u64; 4], AllocError> {
     let mut arena: Arena<u64> = Arena::new(alloc);
     let first = arena.add(7)?;
@@ -25,92 +30,84 @@ fn written(alloc: Global) -> Result<[u64; 3], AllocError> {
     Ok([old, *arena.get(first), *arena.get(second)])
 }
 
-#[test]
-fn arenas_hold_entries(rt: HostRuntime) -> Result<(), Fail> {
-    assert_eq!(rt; taken(rt.alloc())?, [0, 1, 7, 0]);
-    assert_eq!(rt; written(rt.alloc())?, [8, 10, 5]);
-    Ok(())
+/// The items 1 and 2.
+fn two(alloc: Global) -> Result<Items<u32>, AllocError> {
+    let mut items = Items::new(alloc);
+    items.push(1)?;
+    items.push(2)?;
+    Ok(items)
 }
 
 /// The last of two items in a copy, the last one that is popped, and how many are left.
 fn items(alloc: Global) -> Result<(Option<u32>, Option<u32>, usize), AllocError> {
-    let mut items = Items::new(alloc);
-    items.push(1u32)?;
-    items.push(2)?;
+    let mut items = two(alloc)?;
     let last = items.try_clone(alloc)?.pop();
     let popped = items.pop();
     Ok((last, popped, items.len()))
 }
 
-/// The same of a small vector.
-fn unit_vector(alloc: Global) -> Result<(Option<u32>, Option<u32>, usize), AllocError> {
+/// The numbers 1 and 2 in a small vector.
+fn two_units(alloc: Global) -> Result<UnitVec<u32>, AllocError> {
     let mut items = UnitVec::new(alloc);
-    items.push(1u32)?;
+    items.push(1)?;
     items.push(2)?;
+    Ok(items)
+}
+
+/// Of these the last in a copy, the last one that is popped, and how many are left.
+fn units(alloc: Global) -> Result<(Option<u32>, Option<u32>, usize), AllocError> {
+    let mut items = two_units(alloc)?;
     let last = items.try_clone(alloc)?.pop();
     let popped = items.pop();
     Ok((last, popped, items.len()))
 }
 
-#[test]
-fn lists_end_with_what_was_pushed(rt: HostRuntime) -> Result<(), Fail> {
-    let wanted = (Some(2), Some(2), 1);
-    assert_eq!(rt; items(rt.alloc())?, wanted);
-    assert_eq!(rt; unit_vector(rt.alloc())?, wanted);
-    Ok(())
-}
-
-/// The first number of a copied row index.
-fn row_index(alloc: Global) -> Result<Option<u32>, AllocError> {
+/// A row index.
+fn row_index(alloc: Global) -> Result<Option<RowIndex>, AllocError> {
     let name = PlSmallStr::new(alloc, "a")?;
-    let copy = Some(RowIndex { name, offset: 4 }).try_clone(alloc)?;
-    Ok(copy.map(|index| index.offset))
+    Ok(Some(RowIndex { name, offset: 4 }))
 }
 
-/// Whether copied options of scans are the options.
-fn is_copied(alloc: Global, options: &FileScanOptions) -> Result<bool, AllocError> {
-    Ok(options.try_clone(alloc)? == *options)
+/// Whether a value is its copy.
+fn is_copied<T: TryClone + PartialEq + Drop>(
+    alloc: Global,
+    made: Result<T, AllocError>,
+) -> Result<bool, AllocError> {
+    let value = made?;
+    Ok(value.try_clone(alloc)? == value)
 }
 
-#[test]
-fn options_of_scans_are_copied(rt: HostRuntime) -> Result<(), Fail> {
-    assert_eq!(rt; row_index(rt.alloc())?, Some(4));
-    assert!(rt; is_copied(rt.alloc(), &FileScanOptions::default())?);
-    Ok(())
+/// Gives the name a a type, and tells the one that it had.
+fn put(
+    alloc: Global,
+    schema: &mut Schema,
+    dtype: DataType,
+) -> Result<Option<DataType>, AllocError> {
+    schema.with_column(PlSmallStr::new(alloc, "a")?, dtype)
 }
 
-/// The types that a name had before it is given one, and another, and when it is removed.
-fn replaced(alloc: Global) -> Result<[Option<DataType>; 3], AllocError> {
+/// The types that a name had before it is given one, and another, and when it is removed; and how many columns are left.
+fn replaced(alloc: Global) -> Result<([Option<DataType>; 3], usize), AllocError> {
     let mut schema = Schema::new(alloc);
-    let none = schema.with_column(PlSmallStr::new(alloc, "a")?, DataType::Int64)?;
-    let old = schema.with_column(PlSmallStr::new(alloc, "a")?, DataType::String)?;
+    let none = put(alloc, &mut schema, DataType::Int64)?;
+    let old = put(alloc, &mut schema, DataType::String)?;
     let removed = schema.shift_remove("a");
-    Ok([none, old, removed])
+    Ok(([none, old, removed], schema.len()))
 }
 
-/// What is found of a name that is there, and of one that isn't.
-fn found(schema: &Schema) -> [(Result<DataType, PolarsError>, Option<usize>); 2] {
-    [
-        (schema.try_get("a").copied(), schema.index_of("a")),
-        (schema.try_get("z").copied(), schema.index_of("z")),
-    ]
+/// Whether a name that is there is found, and one that isn't is refused at the first item.
+fn are_found(schema: &Schema) -> bool {
+    let has_type = matches!(schema.try_get("a"), Ok(DataType::Int64));
+    let is_refused =
+        matches!(schema.try_get("z"), Err(PolarsError::SchemaFieldNotFound(at)) if at.place == 0);
+    let places = (schema.index_of("a"), schema.index_of("z"));
+    has_type && is_refused && places == (Some(0), None)
 }
 
-#[test]
-fn schemas_find_names(rt: HostRuntime) -> Result<(), Fail> {
-    let types = [None, Some(DataType::Int64), Some(DataType::String)];
-    assert_eq!(rt; replaced(rt.alloc())?, types);
-    let at = At {
-        node: None,
-        place: 0,
-    };
-    let answers = [
-        (Ok(DataType::Int64), Some(0)),
-        (Err(PolarsError::SchemaFieldNotFound(at)), None),
-    ];
-    let only = schema(rt.alloc(), &[("a", DataType::Int64)])?;
-    assert_eq!(rt; found(&only), answers);
-    Ok(())
+/// Whether names are found so in the column a.
+fn names_are_found(alloc: Global) -> Result<bool, AllocError> {
+    let only = schema(alloc, &[A])?;
+    Ok(are_found(&only))
 }
 
 /// Puts a column that is not there at the front.
@@ -122,33 +119,65 @@ fn put_first(alloc: Global, schema: &mut Schema, name: &str) -> Result<(), Alloc
     Ok(())
 }
 
-/// The names of columns, one after another.
-fn names_of(alloc: Global, schema: &Schema) -> Result<String, AllocError> {
-    let mut names = String::new(alloc);
-    for (name, _) in schema.iter() {
-        names.push_str(name)?;
-    }
-    Ok(names)
-}
-
-/// The names of a schema that was given columns at a place and at the end, and copied.
-fn merged(alloc: Global) -> Result<String, AllocError> {
-    let mut columns = schema(alloc, &[("a", DataType::Int64)])?;
+/// The column a, given columns at the front and at the end.
+fn merged(alloc: Global) -> Result<Schema, AllocError> {
+    let mut columns = schema(alloc, &[A])?;
     put_first(alloc, &mut columns, "b")?;
-    columns.merge(schema(alloc, &[("c", DataType::Int64)])?)?;
-    names_of(alloc, &columns.try_clone(alloc)?)
+    columns.merge(schema(alloc, &[C])?)?;
+    Ok(columns)
 }
 
-#[test]
-fn schemas_take_columns_at_a_place_and_at_the_end(rt: HostRuntime) -> Result<(), Fail> {
-    assert_eq!(rt; merged(rt.alloc())?.as_str(), "bac");
-    Ok(())
+/// Whether these are the columns that they should be.
+fn are_merged(alloc: Global) -> Result<bool, AllocError> {
+    let merged = merged(alloc)?;
+    Ok(merged == schema(alloc, &[B, A, C])?)
 }
 
-#[test]
-fn flags_have_their_numbers(rt: HostRuntime) {
+/// The text of an error.
+fn printed(alloc: Global, error: PolarsError) -> Result<String, AllocError> {
+    format!(in alloc; "{error}")
+}
+
+/// Whether the text of an error is the one that it should be.
+fn is_printed(alloc: Global) -> Result<bool, AllocError> {
+    let error = PolarsError::from(AllocError);
+    Ok(printed(alloc, error)?.as_str() == "out of memory")
+}
+
+/// Whether values are their copies.
+fn copies(alloc: Global) -> Result<[bool; 3], AllocError> {
+    Ok([
+        is_copied(alloc, merged(alloc))?,
+        is_copied(alloc, row_index(alloc))?,
+        is_copied(alloc, Ok(FileScanOptions::default()))?,
+    ])
+}
+
+/// Whether arenas and lists hold what they should.
+fn lists(alloc: Global) -> Result<[bool; 4], AllocError> {
+    Ok([
+        taken(alloc)? == [0, 1, 7, 0],
+        written(alloc)? == [8, 10, 5],
+        items(alloc)? == (Some(2), Some(2), 1),
+        units(alloc)? == (Some(2), Some(2), 1),
+    ])
+}
+
+/// Whether schemas hold what they should, and an error is printed.
+fn schemas(alloc: Global) -> Result<[bool; 4], AllocError> {
+    let types = [None, Some(DataType::Int64), Some(DataType::String)];
+    Ok([
+        replaced(alloc)? == (types, 0),
+        names_are_found(alloc)?,
+        are_merged(alloc)?,
+        is_printed(alloc)?,
+    ])
+}
+
+/// The numbers of flags.
+fn numbers() -> [u32; 7] {
     let pushed = OptFlags::PROJECTION_PUSHDOWN | OptFlags::PREDICATE_PUSHDOWN;
-    let bits = [
+    [
         OptFlags::default().bits(),
         OptFlags::schema_only().bits(),
         OptFlags::all().bits(),
@@ -156,64 +185,45 @@ fn flags_have_their_numbers(rt: HostRuntime) {
         pushed.bits(),
         OptFlags::from_bits_truncate(7).bits(),
         (!pushed & OptFlags::from_bits_truncate(13)).bits(),
-    ];
-    assert_eq!(rt; bits, [254909, 131088, 262141, 0, 5, 5, 8]);
-    let read = (OptFlags::from_bits(5), OptFlags::from_bits(2));
-    assert!(rt; read == (Some(pushed), None));
+    ]
 }
 
-#[test]
-fn flags_answer_by_name(rt: HostRuntime) {
-    let flags: AllowedOptimizations = OptFlags::default();
-    let set = [
-        flags.projection_pushdown(),
-        flags.predicate_pushdown(),
-        flags.cluster_with_columns(),
-        flags.collapse_joins(),
-        flags.simplify_expr(),
-        flags.slice_pushdown(),
-        flags.fast_projection(),
-    ];
-    assert_eq!(rt; set, [true; 7]);
-    let unset = [flags.eager(), flags.streaming(), flags.new_streaming()];
-    assert_eq!(rt; unset, [false; 3]);
+/// Whether numbers are flags.
+fn are_flags() -> [bool; 2] {
+    [
+        OptFlags::from_bits(5).is_some(),
+        OptFlags::from_bits(2).is_some(),
+    ]
 }
 
-#[test]
-fn errors_are_printed(rt: HostRuntime) -> Result<(), Fail> {
-    let error = PolarsError::from(AllocError);
-    assert_eq!(rt;
-        format!(in rt.alloc(); "{error}")?.as_str(),
-        "out of memory"
-    );
-    Ok(())
-}
-
-#[test]
-fn projection_options_are_merged(rt: HostRuntime) {
+/// The default marks of a projection, merged with three that are unset.
+fn marks() -> [bool; 3] {
     let none = ProjectionOptions {
         run_parallel: false,
         duplicate_check: false,
         should_broadcast: false,
     };
     let merged = ProjectionOptions::default().merge_options(&none);
-    let marks = [
+    [
         merged.run_parallel,
         merged.duplicate_check,
         merged.should_broadcast,
-    ];
-    assert_eq!(rt; marks, [false, false, true]);
+    ]
+}
+
+/// Whether all these are as they should be.
+fn plain() -> [bool; 3] {
+    [
+        numbers() == [254909, 131088, 262141, 0, 5, 5, 8],
+        are_flags() == [true, false],
+        marks() == [false, false, true],
+    ]
 }
 
 #[test]
-fn plain_types_are_types(rt: HostRuntime) {
-    let types = [
-        DataType::from(PlainType::Int64),
-        DataType::from(PlainType::String),
-        DataType::from(PlainType::Boolean),
-    ];
-    assert_eq!(rt;
-        types,
-        [DataType::Int64, DataType::String, DataType::Boolean]
-    );
+fn calls_give_worked_values(rt: HostRuntime) {
+    assert!(rt; plain() == [true; 3]);
+    assert!(rt; lists(rt.alloc()) == Ok([true; 4]));
+    assert!(rt; schemas(rt.alloc()) == Ok([true; 4]));
+    assert!(rt; copies(rt.alloc()) == Ok([true; 3]));
 }

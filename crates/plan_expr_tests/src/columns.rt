@@ -1,10 +1,9 @@
 //! The columns that small expressions in boxes make.
-use crate::made::{column, item, named};
-use plan_core::{DataType, PlainType, PolarsError, PolarsResult, Schema};
+use crate::made::{boxed, column, named};
+use plan_core::{At, DataType, PlainType, PolarsError, PolarsResult, Schema};
 use plan_dsl::{AggExpr, Context, Expr, FunctionExpr, expressions_to_schema};
 use plan_made::schema;
 use std::alloc::{AllocError, Global};
-use std::test::Fail;
 
 /// What expressions make over a column a of whole numbers.
 fn made(alloc: Global, exprs: &[Expr], context: Context) -> PolarsResult<Schema> {
@@ -14,7 +13,7 @@ fn made(alloc: Global, exprs: &[Expr], context: Context) -> PolarsResult<Schema>
 
 /// The sum of the column a under the name s.
 fn sum_of_a(alloc: Global) -> Result<Expr, AllocError> {
-    let a = Box::new(alloc, column(alloc, "a")?)?;
+    let a = boxed(alloc, "a")?;
     named(alloc, Expr::Agg(AggExpr::Sum(a)), "s")
 }
 
@@ -32,14 +31,6 @@ fn are_made(alloc: Global, context: Context, a: DataType) -> PolarsResult<bool> 
     Ok(found == wanted)
 }
 
-#[test]
-fn lists_are_made_of_groups(rt: HostRuntime) -> Result<(), Fail> {
-    assert!(rt; are_made(rt.alloc(), Context::Default, DataType::Int64)?);
-    let lists = DataType::List(PlainType::Int64);
-    assert!(rt; are_made(rt.alloc(), Context::Aggregation, lists)?);
-    Ok(())
-}
-
 /// Columns.
 fn columns(alloc: Global, names: &[&str]) -> Result<Vec<Expr>, AllocError> {
     let mut exprs = Vec::new(alloc);
@@ -50,14 +41,17 @@ fn columns(alloc: Global, names: &[&str]) -> Result<Vec<Expr>, AllocError> {
 }
 
 /// The function that turns the column a, which is no truth value.
-fn negated(alloc: Global) -> Result<[Expr; 1], AllocError> {
+fn negated(alloc: Global) -> Result<Vec<Expr>, AllocError> {
     let function = FunctionExpr::Not;
     let input = columns(alloc, &["a"])?;
-    Ok([Expr::Function {
+    let options = function.options();
+    let mut exprs = Vec::new(alloc);
+    exprs.push(Expr::Function {
         input,
         function,
-        options: function.options(),
-    }])
+        options,
+    })?;
+    Ok(exprs)
 }
 
 /// What has no columns: a column that stands for all.
@@ -68,56 +62,83 @@ fn wildcard(alloc: Global) -> Result<Vec<Expr>, AllocError> {
 }
 
 /// The column a taken apart.
-fn exploded(alloc: Global) -> Result<[Expr; 1], AllocError> {
-    let a = Box::new(alloc, column(alloc, "a")?)?;
-    Ok([Expr::Explode(a)])
+fn exploded(alloc: Global) -> Result<Vec<Expr>, AllocError> {
+    let a = boxed(alloc, "a")?;
+    let mut exprs = Vec::new(alloc);
+    exprs.push(Expr::Explode(a))?;
+    Ok(exprs)
 }
 
-/// Why expressions make no columns.
-fn refused(alloc: Global, exprs: &[Expr]) -> Option<PolarsError> {
-    made(alloc, exprs, Context::Default).err()
+/// Expressions that are refused.
+#[derive(Clone, Copy)]
+enum Kind {
+    /// The column a, twice.
+    Twice,
+    /// Columns, of which one stands for all.
+    Wildcard,
+    /// A column that is absent.
+    Absent,
+    /// A function of another type.
+    Negated,
+    /// A column taken apart.
+    Exploded,
 }
 
-/// Why columns of these names make none.
-fn columns_refused(alloc: Global, names: &[&str]) -> Result<Option<PolarsError>, AllocError> {
-    let exprs = columns(alloc, names)?;
-    Ok(refused(alloc, exprs.as_slice()))
+/// Expressions, and why they are refused.
+const REFUSED: &[(Kind, PolarsError)] = &[
+    (Kind::Twice, PolarsError::Duplicate(SECOND)),
+    (Kind::Wildcard, PolarsError::SchemaFieldNotFound(THIRD)),
+    (Kind::Absent, PolarsError::SchemaFieldNotFound(FIRST)),
+    (Kind::Negated, PolarsError::SchemaMismatch(FIRST)),
+    (Kind::Exploded, PolarsError::InvalidOperation(FIRST)),
+];
+
+const FIRST: At = At {
+    node: None,
+    place: 0,
+};
+
+const SECOND: At = At {
+    node: None,
+    place: 1,
+};
+
+const THIRD: At = At {
+    node: None,
+    place: 2,
+};
+
+/// The expressions of a kind.
+fn given(alloc: Global, kind: Kind) -> Result<Vec<Expr>, AllocError> {
+    match kind {
+        Kind::Twice => columns(alloc, &["a", "a"]),
+        Kind::Wildcard => wildcard(alloc),
+        Kind::Absent => columns(alloc, &["d"]),
+        Kind::Negated => negated(alloc),
+        Kind::Exploded => exploded(alloc),
+    }
 }
 
-/// Why columns of which one stands for all make none.
-fn wildcard_refused(alloc: Global) -> Result<Option<PolarsError>, AllocError> {
-    let exprs = wildcard(alloc)?;
-    Ok(refused(alloc, exprs.as_slice()))
+/// Why they make no columns.
+fn refused(alloc: Global, kind: Kind) -> Result<Option<PolarsError>, AllocError> {
+    let exprs = given(alloc, kind)?;
+    Ok(made(alloc, exprs.as_slice(), Context::Default).err())
 }
 
-/// Why the column a, turned, makes none.
-fn negated_refused(alloc: Global) -> Result<Option<PolarsError>, AllocError> {
-    let exprs = negated(alloc)?;
-    Ok(refused(alloc, &exprs))
-}
-
-/// Why the column a, taken apart, makes none.
-fn exploded_refused(alloc: Global) -> Result<Option<PolarsError>, AllocError> {
-    let exprs = exploded(alloc)?;
-    Ok(refused(alloc, &exprs))
+/// The place of the first expressions that are refused otherwise.
+fn other(alloc: Global) -> Result<Option<usize>, AllocError> {
+    for place in 0..REFUSED.len() {
+        if refused(alloc, REFUSED[place].0)? != Some(REFUSED[place].1) {
+            return Ok(Some(place));
+        }
+    }
+    Ok(None)
 }
 
 #[test]
-fn refusals_tell_the_first_expression(rt: HostRuntime) -> Result<(), Fail> {
-    let twice = columns_refused(rt.alloc(), &["a", "a"])?;
-    assert!(rt; twice == Some(PolarsError::Duplicate(item(1))));
-    let beside = wildcard_refused(rt.alloc())?;
-    assert!(rt; beside == Some(PolarsError::SchemaFieldNotFound(item(2))));
-    let absent = columns_refused(rt.alloc(), &["d"])?;
-    assert!(rt; absent == Some(PolarsError::SchemaFieldNotFound(item(0))));
-    Ok(())
-}
-
-#[test]
-fn refusals_tell_types_and_forms(rt: HostRuntime) -> Result<(), Fail> {
-    let negated = negated_refused(rt.alloc())?;
-    assert!(rt; negated == Some(PolarsError::SchemaMismatch(item(0))));
-    let exploded = exploded_refused(rt.alloc())?;
-    assert!(rt; exploded == Some(PolarsError::InvalidOperation(item(0))));
-    Ok(())
+fn expressions_make_columns(rt: HostRuntime) {
+    let lists = DataType::List(PlainType::Int64);
+    assert!(rt; are_made(rt.alloc(), Context::Default, DataType::Int64) == Ok(true));
+    assert!(rt; are_made(rt.alloc(), Context::Aggregation, lists) == Ok(true));
+    assert!(rt; other(rt.alloc()) == Ok(None));
 }

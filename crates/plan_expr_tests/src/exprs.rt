@@ -1,5 +1,6 @@
 //! Walks, names and tests of a small arena.
 ghost use Rattle.std.specs.Prelude.{IfOk};
+ghost use Rattle.std.specs.Bool.{OnTrue};
 ghost use Rattle.plan_expr.specs.Operands.{IsExpr};
 
 use plan_core::{Arena, ColumnNode, Node, PlSmallStr, TryClone};
@@ -9,10 +10,10 @@ use plan_expr::{
     column_node_to_name, has_aexpr, has_aexpr_literal, has_aexpr_window, is_elementwise, is_scalar,
     may_be_named, output_name,
 };
-use plan_made::links;
+use plan_made::{links, names};
+use plan_options::ApplyOptions;
 use plan_tree::depth_of;
 use std::alloc::{AllocError, Global};
-use std::test::Fail;
 
 /// Adds a column.
 fn column(alloc: Global, name: &str, ex: &mut Arena<AExpr>) -> Result<(), AllocError> {
@@ -73,184 +74,368 @@ fn sum(alloc: Global, ex: &mut Arena<AExpr>) -> Result<(), AllocError> {
     Ok(())
 }
 
-/// 0 is sum(a) over b; 4 chooses between not(c), with its 5 and 6, and len by the truth value at 8; then functions, and the sum.
-fn kinds(alloc: Global) -> Result<Arena<AExpr>, AllocError> {
-    let mut ex = Arena::new(alloc);
-    window(alloc, &mut ex)?;
-    column(alloc, "a", &mut ex)?;
-    column(alloc, "b", &mut ex)?;
-    choice(&mut ex)?;
-    function(alloc, FunctionExpr::Not, &[6], &mut ex)?;
-    column(alloc, "c", &mut ex)?;
+/// Adds expressions: 0 is sum(a) over b; 4 chooses between not(c), with its 5 and 6, and len by the truth value at 8; then functions,
+/// and the sum.
+fn fill(alloc: Global, ex: &mut Arena<AExpr>) -> Result<(), AllocError> {
+    window(alloc, ex)?;
+    column(alloc, "a", ex)?;
+    column(alloc, "b", ex)?;
+    choice(ex)?;
+    function(alloc, FunctionExpr::Not, &[6], ex)?;
+    column(alloc, "c", ex)
+}
+
+/// Adds the rest of these expressions.
+fn fill_rest(alloc: Global, ex: &mut Arena<AExpr>) -> Result<(), AllocError> {
     ex.add(AExpr::Len)?;
     ex.add(AExpr::Literal(LiteralValue::Boolean(true)))?;
-    function(alloc, FunctionExpr::CumSum, &[10], &mut ex)?;
-    column(alloc, "d", &mut ex)?;
-    function(alloc, FunctionExpr::Reverse, &[], &mut ex)?;
-    sum(alloc, &mut ex)?;
+    function(alloc, FunctionExpr::CumSum, &[10], ex)?;
+    column(alloc, "d", ex)?;
+    function(alloc, FunctionExpr::Reverse, &[], ex)?;
+    sum(alloc, ex)
+}
+
+/// These expressions.
+fn kinds(alloc: Global) -> Result<Arena<AExpr>, AllocError> {
+    let mut ex = Arena::new(alloc);
+    fill(alloc, &mut ex)?;
+    fill_rest(alloc, &mut ex)?;
     Ok(ex)
 }
 
-/// Refuses unless an expression stands at the number.
-fn stands(alloc: Global, node: Node, ex: &Arena<AExpr>) -> Result<(), Fail>
-    ensures { IfOk result (λ _. IsExpr ex.now node) }
+/// What an expression tells.
+struct Told {
+    /// Its number.
+    node: usize,
+    /// The numbers of a walk over it.
+    walk: &'static [usize],
+    /// The names of its leaves, with repeats.
+    leaves: &'static [&'static str],
+    /// Its name.
+    name: &'static str,
+    /// The kind of that name.
+    kind: &'static str,
+    /// Whether it is scalar, works row by row, and has a window, a literal and a column.
+    tests: [bool; 5],
+}
+
+const TOLD: &[Told] = &[
+    Told {
+        node: 0,
+        walk: &[0, 1, 2, 3],
+        leaves: &["a", "b"],
+        name: "a",
+        kind: "column",
+        tests: [false, false, true, false, true],
+    },
+    Told {
+        node: 1,
+        walk: &[1, 2],
+        leaves: &["a"],
+        name: "a",
+        kind: "column",
+        tests: [true, false, false, false, true],
+    },
+    // A choice comes before its predicate.
+    Told {
+        node: 4,
+        walk: &[4, 5, 6, 7, 8],
+        leaves: &["c"],
+        name: "c",
+        kind: "column",
+        tests: [false, false, false, true, true],
+    },
+    Told {
+        node: 5,
+        walk: &[5, 6],
+        leaves: &["c"],
+        name: "c",
+        kind: "column",
+        tests: [false, true, false, false, true],
+    },
+    Told {
+        node: 7,
+        walk: &[7],
+        leaves: &[],
+        name: "len",
+        kind: "literal",
+        tests: [true, false, false, false, false],
+    },
+    Told {
+        node: 8,
+        walk: &[8],
+        leaves: &[],
+        name: "literal",
+        kind: "literal",
+        tests: [true, true, false, true, false],
+    },
+    Told {
+        node: 9,
+        walk: &[9, 10],
+        leaves: &["d"],
+        name: "d",
+        kind: "column",
+        tests: [false, false, false, false, true],
+    },
+    Told {
+        node: 12,
+        walk: &[12, 13, 14],
+        leaves: &["a", "a"],
+        name: "a",
+        kind: "column",
+        tests: [false, true, false, false, true],
+    },
+    Told {
+        node: 15,
+        walk: &[15, 16],
+        leaves: &[],
+        name: "z",
+        kind: "alias",
+        tests: [true, true, false, true, false],
+    },
+    Told {
+        node: 16,
+        walk: &[16],
+        leaves: &[],
+        name: "literal",
+        kind: "literal",
+        tests: [true, true, false, true, false],
+    },
+];
+
+/// Whether an expression stands at the number.
+fn stands(alloc: Global, node: Node, ex: &Arena<AExpr>) -> Result<bool, AllocError>
+    ensures { IfOk result (λ stands. OnTrue stands (IsExpr ex.now node)) }
 {
     match depth_of(alloc, ex, node)? {
-        Some(_) => Ok(()),
-        None => Err(Fail::from("no expression")),
+        Some(_) => Ok(true),
+        None => Ok(false),
     }
 }
 
-/// The numbers of a walk, one after another.
-fn walked(alloc: Global, node: Node, ex: &Arena<AExpr>) -> Result<String, Fail> {
-    stands(alloc, node, ex)?;
-    let mut text = String::new(alloc);
+/// Whether a walk has these numbers.
+fn has_walk(
+    alloc: Global,
+    node: Node,
+    ex: &Arena<AExpr>,
+    wanted: &[usize],
+) -> Result<bool, AllocError>
+    requires { IsExpr ex.now node }
+{
+    let mut left = wanted.iter();
     for (met, _) in ex.iter(alloc, node)? {
-        let number = format!(in alloc; "{} ", met.0)?;
-        text.push_str(number.as_str())?;
+        if left.next() != Some(&met.0) {
+            return Ok(false);
+        }
     }
-    Ok(text)
+    Ok(left.next().is_none())
 }
 
-#[test]
-fn walks_are_in_order(rt: HostRuntime) -> Result<(), Fail> {
-    let ex = kinds(rt.alloc())?;
-    assert_eq!(rt; walked(rt.alloc(), Node(12), &ex)?.as_str(), "12 13 14 ");
-    // A choice comes before its predicate.
-    assert_eq!(rt; walked(rt.alloc(), Node(4), &ex)?.as_str(), "4 5 6 7 8 ");
-    Ok(())
-}
-
-/// The names of the leaves, with repeats; how many there are; and the first one.
-fn leaves(alloc: Global, node: Node, ex: &Arena<AExpr>) -> Result<String, Fail> {
-    stands(alloc, node, ex)?;
-    let mut text = String::new(alloc);
+/// Whether a walk over the leaves has these names.
+fn has_leaves(
+    alloc: Global,
+    node: Node,
+    ex: &Arena<AExpr>,
+    wanted: &[&str],
+) -> Result<bool, AllocError>
+    requires { IsExpr ex.now node }
+{
+    let mut left = wanted.iter();
     for name in aexpr_to_leaf_names_iter(alloc, node, ex)? {
-        text.push_str(name.as_str())?;
+        if left.next() != Some(&name.as_str()) {
+            return Ok(false);
+        }
     }
-    let count = aexpr_to_leaf_names(alloc, node, ex)?.len();
-    text.push_str(format!(in alloc; " {count} ")?.as_str())?;
-    match aexpr_to_leaf_name(alloc, node, ex)? {
-        Some(first) => text.push_str(first.as_str())?,
-        None => text.push_str("none")?,
-    }
-    Ok(text)
+    Ok(left.next().is_none())
 }
 
-#[test]
-fn leaves_have_repeats(rt: HostRuntime) -> Result<(), Fail> {
-    let ex = kinds(rt.alloc())?;
-    assert_eq!(rt; leaves(rt.alloc(), Node(12), &ex)?.as_str(), "aa 2 a");
-    assert_eq!(rt; leaves(rt.alloc(), Node(15), &ex)?.as_str(), " 0 none");
-    Ok(())
+/// Whether these names are listed.
+fn lists_leaves(
+    alloc: Global,
+    node: Node,
+    ex: &Arena<AExpr>,
+    wanted: &[&str],
+) -> Result<bool, AllocError>
+    requires { IsExpr ex.now node }
+{
+    let found = aexpr_to_leaf_names(alloc, node, ex)?;
+    Ok(found.as_slice() == names(alloc, wanted)?.as_slice())
 }
 
-/// The name of an expression, the kind of that name, and the name that is stored.
-fn named(alloc: Global, node: Node, ex: &Arena<AExpr>) -> Result<String, Fail> {
-    stands(alloc, node, ex)?;
-    let own = aexpr_output_name(alloc, node, ex)?;
-    let named = ExprIR::from_node(alloc, node, ex)?;
-    let kind = match named.output_name_inner() {
+/// Whether the first leaf has this name.
+fn has_first_leaf(
+    alloc: Global,
+    node: Node,
+    ex: &Arena<AExpr>,
+    wanted: Option<&str>,
+) -> Result<bool, AllocError>
+    requires { IsExpr ex.now node }
+{
+    let found = aexpr_to_leaf_name(alloc, node, ex)?;
+    Ok(found.as_ref().map(|name| name.as_str()) == wanted)
+}
+
+/// Whether an expression gives itself this name.
+fn has_name(alloc: Global, node: Node, ex: &Arena<AExpr>, wanted: &str) -> bool
+    requires { IsExpr ex.now node }
+{
+    match aexpr_output_name(alloc, node, ex) {
+        Ok(name) => name.as_str() == wanted,
+        Err(_) => false,
+    }
+}
+
+/// The kind of a name.
+fn kind_of(name: &OutputName) -> &'static str {
+    match name {
         OutputName::ColumnLhs(_) => "column",
         OutputName::LiteralLhs(_) => "literal",
         OutputName::Alias(_) => "alias",
         OutputName::None => "none",
-    };
-    let stored = output_name(named.output_name_inner());
-    let alias = named.has_alias() && named.get_alias().is_some();
-    Ok(format!(in alloc; "{} {kind} {stored} {alias}", own.as_str())?)
-}
-
-#[test]
-fn names_are_decided_first(rt: HostRuntime) -> Result<(), Fail> {
-    let ex = kinds(rt.alloc())?;
-    for (node, wanted) in [
-        (12, "a column a false"),
-        (15, "z alias z true"),
-        (16, "literal literal literal false"),
-        (0, "a column a false"),
-        (4, "c column c false"),
-        (7, "len literal len false"),
-        (8, "literal literal literal false"),
-    ] {
-        assert_eq!(rt; named(rt.alloc(), Node(node), &ex)?.as_str(), wanted);
     }
-    Ok(())
 }
 
-/// Whether the name of an expression is refused.
-fn has_no_name(alloc: Global, node: Node, ex: &Arena<AExpr>) -> Result<bool, Fail> {
-    stands(alloc, node, ex)?;
-    Ok(aexpr_output_name(alloc, node, ex).is_err())
+/// Whether an expression is stored under this name of this kind.
+fn is_stored(expr: &ExprIR, wanted: &str, kind: &str) -> bool {
+    let name = expr.output_name_inner();
+    let is_alias = expr.has_alias() && expr.get_alias().is_some();
+    output_name(name) == wanted && kind_of(name) == kind && is_alias == (kind == "alias")
 }
 
-/// Whether an expression may be put out under a name of its own.
-fn may_be_called(alloc: Global, node: Node, ex: &Arena<AExpr>) -> Result<bool, Fail> {
-    stands(alloc, node, ex)?;
-    let name = OutputName::Alias(PlSmallStr::new(alloc, "n")?);
-    Ok(may_be_named(&name, node, ex))
-}
-
-#[test]
-fn a_function_of_nothing_has_no_name(rt: HostRuntime) -> Result<(), Fail> {
-    let ex = kinds(rt.alloc())?;
-    assert!(rt; has_no_name(rt.alloc(), Node(11), &ex)?);
-    assert!(rt; may_be_called(rt.alloc(), Node(7), &ex)?);
-    Ok(())
+/// The same of the expression at a number.
+fn has_kind(alloc: Global, node: Node, ex: &Arena<AExpr>, wanted: &str, kind: &str) -> bool
+    requires { IsExpr ex.now node }
+{
+    match ExprIR::from_node(alloc, node, ex) {
+        Ok(expr) => is_stored(&expr, wanted, kind),
+        Err(_) => false,
+    }
 }
 
 /// Whether an expression is scalar, works row by row, and has a window, a literal and a column.
-fn tests(alloc: Global, node: Node, ex: &Arena<AExpr>) -> Result<[bool; 5], Fail> {
-    stands(alloc, node, ex)?;
+fn tests(node: Node, ex: &Arena<AExpr>) -> [bool; 5]
+    requires { IsExpr ex.now node }
+{
     let column = has_aexpr(node, ex, |e: &AExpr| -> bool {
         matches!(e, AExpr::Column(_))
     });
-    Ok([
+    [
         is_scalar(node, ex),
         is_elementwise(node, ex),
         has_aexpr_window(node, ex),
         has_aexpr_literal(node, ex),
         column,
+    ]
+}
+
+/// Whether an expression has the walk, the leaves by a walk, by a list and as the first one, the name, its kind and the tests that it
+/// should have.
+fn answers(
+    alloc: Global,
+    node: Node,
+    ex: &Arena<AExpr>,
+    told: &Told,
+) -> Result<[bool; 7], AllocError>
+    requires { IsExpr ex.now node }
+{
+    Ok([
+        has_walk(alloc, node, ex, told.walk)?,
+        has_leaves(alloc, node, ex, told.leaves)?,
+        lists_leaves(alloc, node, ex, told.leaves)?,
+        has_first_leaf(alloc, node, ex, told.leaves.first().copied())?,
+        has_name(alloc, node, ex, told.name),
+        has_kind(alloc, node, ex, told.name, told.kind),
+        tests(node, ex) == told.tests,
     ])
 }
 
-#[test]
-fn kinds_are_told_apart(rt: HostRuntime) -> Result<(), Fail> {
-    let ex = kinds(rt.alloc())?;
-    for (node, wanted) in [
-        (0, [false, false, true, false, true]),
-        (1, [true, false, false, false, true]),
-        (4, [false, false, false, true, true]),
-        (5, [false, true, false, false, true]),
-        (7, [true, false, false, false, false]),
-        (9, [false, false, false, false, true]),
-        (12, [false, true, false, false, true]),
-        (15, [true, true, false, true, false]),
-    ] {
-        assert_eq!(rt; tests(rt.alloc(), Node(node), &ex)?, wanted);
+/// Whether an expression tells what it should.
+fn is_told(alloc: Global, ex: &Arena<AExpr>, told: &Told) -> Result<bool, AllocError> {
+    let node = Node(told.node);
+    if !stands(alloc, node, ex)? {
+        return Ok(false);
     }
-    Ok(())
+    Ok(answers(alloc, node, ex, told)? == [true; 7])
 }
 
-/// The name of a column at a number, what is taken from there, and whether it is a number of rows then.
-fn taken(alloc: Global) -> Result<(bool, bool), AllocError> {
+/// The first number of an expression that tells something else.
+fn other(alloc: Global, ex: &Arena<AExpr>) -> Result<Option<usize>, AllocError> {
+    for told in TOLD {
+        if !is_told(alloc, ex, told)? {
+            return Ok(Some(told.node));
+        }
+    }
+    Ok(None)
+}
+
+/// Whether the name of an expression is refused.
+fn has_no_name(alloc: Global, node: Node, ex: &Arena<AExpr>) -> Result<bool, AllocError> {
+    if !stands(alloc, node, ex)? {
+        return Ok(false);
+    }
+    Ok(aexpr_output_name(alloc, node, ex).is_err())
+}
+
+/// Whether an expression may be put out under this name of its own.
+fn may_be_called(
+    alloc: Global,
+    node: Node,
+    ex: &Arena<AExpr>,
+    name: &OutputName,
+) -> Result<bool, AllocError> {
+    if !stands(alloc, node, ex)? {
+        return Ok(false);
+    }
+    Ok(may_be_named(name, node, ex))
+}
+
+/// Whether a number of rows may be put out under a name of its own.
+fn rows_may_be_called(alloc: Global, ex: &Arena<AExpr>) -> Result<bool, AllocError> {
+    let name = OutputName::Alias(PlSmallStr::new(alloc, "n")?);
+    may_be_called(alloc, Node(7), ex, &name)
+}
+
+/// Whether all expressions tell what they should, a function of nothing has no name, and a number of rows may have another one.
+fn kinds_answer(alloc: Global) -> Result<[bool; 3], AllocError> {
+    let ex = kinds(alloc)?;
+    Ok([
+        other(alloc, &ex)? == None,
+        has_no_name(alloc, Node(11), &ex)?,
+        rows_may_be_called(alloc, &ex)?,
+    ])
+}
+
+/// An arena of the column a.
+fn column_alone(alloc: Global) -> Result<Arena<AExpr>, AllocError> {
     let mut ex = Arena::new(alloc);
     column(alloc, "a", &mut ex)?;
-    if ex.len() != 1 {
-        return Ok((false, false));
-    }
-    let is_a = match ex.get(Node(0)) {
-        AExpr::Column(_) => column_node_to_name(ColumnNode(Node(0)), &ex).as_str() == "a",
-        _ => false,
-    };
-    let _ = ex.take(Node(0));
-    Ok((is_a, *ex.get(Node(0)) == AExpr::Len))
+    Ok(ex)
 }
 
-#[test]
-fn taken_entries_are_numbers_of_rows(rt: HostRuntime) -> Result<(), Fail> {
-    assert_eq!(rt; taken(rt.alloc())?, (true, true));
-    Ok(())
+/// Whether the first expression is the column a.
+fn is_a(ex: &Arena<AExpr>) -> bool {
+    if ex.len() != 1 {
+        return false;
+    }
+    match ex.get(Node(0)) {
+        AExpr::Column(_) => column_node_to_name(ColumnNode(Node(0)), ex).as_str() == "a",
+        _ => false,
+    }
+}
+
+/// Takes the first expression, and tells whether a number of rows stands there then.
+fn leaves_rows(ex: &mut Arena<AExpr>) -> bool {
+    if ex.len() != 1 {
+        return false;
+    }
+    let _ = ex.take(Node(0));
+    *ex.get(Node(0)) == AExpr::Len
+}
+
+/// Whether an arena holds a column, and a number of rows once that is taken.
+fn taken(alloc: Global) -> Result<[bool; 2], AllocError> {
+    let mut ex = column_alone(alloc)?;
+    Ok([is_a(&ex), leaves_rows(&mut ex)])
 }
 
 /// A window over what stands at 3.
@@ -264,16 +449,17 @@ fn over_three(alloc: Global) -> Result<AExpr, AllocError> {
 
 /// Whether an expression is its copy.
 fn is_copied(alloc: Global, expr: &AExpr) -> Result<bool, AllocError> {
-    let copy = expr.try_clone(alloc)?;
-    Ok(copy == *expr)
+    Ok(expr.try_clone(alloc)? == *expr)
 }
 
-/// Whether a window is its copy and no column, and which operand it has second.
-fn copied(alloc: Global) -> Result<(bool, Option<Node>), AllocError> {
+/// Whether a window is its copy and no column, and has a second operand.
+fn copied(alloc: Global) -> Result<[bool; 3], AllocError> {
     let window = over_three(alloc)?;
     let is_no_column = window.column_name().is_none();
-    let second = window.operand(1);
-    Ok((is_copied(alloc, &window)? && is_no_column, second))
+    let is_second = window.operand(1) == Some(Node(3));
+    let is_same = is_copied(alloc, &window);
+    drop(window);
+    Ok([is_same?, is_no_column, is_second])
 }
 
 /// Whether a copy of a count stands over another operand.
@@ -282,11 +468,20 @@ fn is_moved(alloc: Global) -> Result<bool, AllocError> {
     Ok(moved == AExpr::Agg(IRAggExpr::Count(Node(9), true)))
 }
 
+/// Whether functions work row by row.
+fn by_rows() -> [bool; 3] {
+    [
+        FunctionExpr::Not.options().collect_groups == ApplyOptions::ElementWise,
+        FunctionExpr::FillNull.options().is_elementwise(),
+        FunctionExpr::CumSum.is_elementwise(),
+    ]
+}
+
 #[test]
-fn copies_stand_over_other_operands(rt: HostRuntime) -> Result<(), Fail> {
-    assert!(rt; copied(rt.alloc())? == (true, Some(Node(3))));
-    assert!(rt; is_moved(rt.alloc())?);
-    assert!(rt; FunctionExpr::FillNull.options().is_elementwise());
-    assert!(rt; !FunctionExpr::CumSum.is_elementwise());
-    Ok(())
+fn expressions_answer(rt: HostRuntime) {
+    assert!(rt; kinds_answer(rt.alloc()) == Ok([true; 3]));
+    assert!(rt; taken(rt.alloc()) == Ok([true; 2]));
+    assert!(rt; copied(rt.alloc()) == Ok([true; 3]));
+    assert!(rt; is_moved(rt.alloc()) == Ok(true));
+    assert!(rt; by_rows() == [true, true, false]);
 }

@@ -7,7 +7,6 @@ use plan_join::{JoinOptions, Side, join_origin, join_schema};
 use plan_made::schema;
 use plan_options::{JoinArgs, JoinCoalesce, JoinType, MaintainOrderJoin};
 use std::alloc::{AllocError, Global};
-use std::test::Fail;
 
 /// Columns that are written here.
 type Typed = &'static [(&'static str, DataType)];
@@ -48,55 +47,110 @@ fn key(alloc: Global) -> Result<Arena<AExpr>, AllocError>
     Ok(ex)
 }
 
-/// Where a column of a join of columns a and b with others on a is from.
-fn origin(
-    alloc: Global,
+/// Columns that are asked for their origin.
+struct Asked {
+    /// The columns of the right side.
     right: Typed,
     how: JoinType,
-    name: &str,
-) -> Result<Option<(Side, usize)>, AllocError> {
-    let ex = key(alloc)?;
+    name: &'static str,
+    origin: Option<(Side, usize)>,
+}
+
+const ASKED: &[Asked] = &[
+    Asked {
+        right: &[A, B],
+        how: JoinType::Inner,
+        name: "b",
+        origin: Some((Side::Left, 1)),
+    },
+    Asked {
+        right: &[A, B],
+        how: JoinType::Inner,
+        name: "b_right",
+        origin: Some((Side::Right, 1)),
+    },
+    Asked {
+        right: &[A, B],
+        how: JoinType::Inner,
+        name: "a_right",
+        origin: None,
+    },
+    Asked {
+        right: &[A, B],
+        how: JoinType::Right,
+        name: "a",
+        origin: Some((Side::Right, 0)),
+    },
+    Asked {
+        right: &[B_RIGHT, B],
+        how: JoinType::Inner,
+        name: "b_right",
+        origin: Some((Side::Right, 0)),
+    },
+];
+
+/// Whether a column of a join of columns on a is from where it should be.
+fn is_from(left: &Schema, right: &Schema, ex: &Arena<AExpr>, asked: &Asked) -> bool
+    requires { length ex.now ≡ 1 }
+{
     let keys = [ExprIR::new(Node(0), OutputName::None)];
+    let options = told(asked.how);
+    join_origin(left, right, &keys, &keys, &options, ex, asked.name) == asked.origin
+}
+
+/// The same of a join of the columns a and b with others.
+fn is_from_these(alloc: Global, ex: &Arena<AExpr>, asked: &Asked) -> Result<bool, AllocError>
+    requires { length ex.now ≡ 1 }
+{
     let left = schema(alloc, &[A, B])?;
-    let right = schema(alloc, right)?;
-    Ok(join_origin(&left, &right, &keys, &keys, &told(how), &ex, name))
+    let right = schema(alloc, asked.right)?;
+    Ok(is_from(&left, &right, ex, asked))
 }
 
-#[test]
-fn columns_have_their_origins(rt: HostRuntime) -> Result<(), Fail> {
-    let sides: Typed = &[A, B];
-    let twice: Typed = &[B_RIGHT, B];
-    for (right, how, name, wanted) in [
-        (sides, JoinType::Inner, "b", Some((Side::Left, 1))),
-        (sides, JoinType::Inner, "b_right", Some((Side::Right, 1))),
-        (sides, JoinType::Inner, "a_right", None),
-        (sides, JoinType::Right, "a", Some((Side::Right, 0))),
-        (twice, JoinType::Inner, "b_right", Some((Side::Right, 0))),
-    ] {
-        assert!(rt; origin(rt.alloc(), right, how, name)? == wanted, "{name}");
+/// Whether all columns are from where they should be.
+fn are_from(alloc: Global, ex: &Arena<AExpr>) -> Result<bool, AllocError>
+    requires { length ex.now ≡ 1 }
+{
+    for asked in ASKED {
+        if !is_from_these(alloc, ex, asked)? {
+            return Ok(false);
+        }
     }
-    Ok(())
+    Ok(true)
 }
 
-/// The columns that an inner join of two sides with the columns a, b and c puts out, with a as the key of both.
-fn joined(alloc: Global) -> Result<Schema, PolarsError> {
-    let ex = key(alloc)?;
+/// The columns that an inner join of two such sides puts out, with a as the key of both.
+fn joined(alloc: Global, side: &Schema, ex: &Arena<AExpr>) -> Result<Schema, PolarsError>
+    requires { length ex.now ≡ 1 }
+{
     let keys = [ExprIR::new(Node(0), OutputName::None)];
+    let options = told(JoinType::Inner);
+    join_schema(alloc, side, side, &keys, &keys, &options, ex)
+}
+
+/// The same of the columns a, b and c.
+fn joined_columns(alloc: Global, ex: &Arena<AExpr>) -> Result<Schema, PolarsError>
+    requires { length ex.now ≡ 1 }
+{
     let side = schema(alloc, &[A, B, C])?;
-    join_schema(
-        alloc,
-        &side,
-        &side,
-        &keys,
-        &keys,
-        &told(JoinType::Inner),
-        &ex,
-    )
+    joined(alloc, &side, ex)
+}
+
+/// Whether these are put out in order.
+fn are_in_order(alloc: Global, ex: &Arena<AExpr>) -> Result<bool, PolarsError>
+    requires { length ex.now ≡ 1 }
+{
+    let joined = joined_columns(alloc, ex)?;
+    Ok(joined == schema(alloc, &[A, B, C, B_RIGHT, C_RIGHT])?)
+}
+
+/// Whether columns are from where they should be, and stand in order.
+fn answers(alloc: Global) -> Result<[bool; 2], PolarsError> {
+    let ex = key(alloc)?;
+    Ok([are_from(alloc, &ex)?, are_in_order(alloc, &ex)?])
 }
 
 #[test]
-fn sides_are_put_out_in_order(rt: HostRuntime) -> Result<(), Fail> {
-    let wanted = schema(rt.alloc(), &[A, B, C, B_RIGHT, C_RIGHT])?;
-    assert!(rt; joined(rt.alloc())? == wanted);
-    Ok(())
+fn joins_name_their_columns(rt: HostRuntime) {
+    assert!(rt; answers(rt.alloc()) == Ok([true; 2]));
 }

@@ -15,13 +15,20 @@ pub fn column(alloc: Global, name: &str) -> Result<Expr, AllocError>
     Ok(Expr::Column(PlSmallStr::new(alloc, name)?))
 }
 
+/// A column, in a box.
+pub fn boxed(alloc: Global, name: &str) -> Result<Box<Expr>, AllocError>
+    ensures { IfOk result (λ boxed. boxed.value ≡ Expr.Column name.now) }
+{
+    Ok(Box::new(alloc, column(alloc, name)?)?)
+}
+
 /// The sum of two columns.
 pub fn sum(alloc: Global, left: &str, right: &str) -> Result<Expr, AllocError>
     ensures sum { IfOk result (λ expr. operator_of expr ≡ Some Operator.Plus) }
     ensures sides { IfOk result (λ expr. children expr ≡ Expr.Column left.now ∷ Expr.Column right.now ∷ []) }
 {
-    let left = Box::new(alloc, column(alloc, left)?)?;
-    let right = Box::new(alloc, column(alloc, right)?)?;
+    let left = boxed(alloc, left)?;
+    let right = boxed(alloc, right)?;
     Ok(Expr::BinaryExpr {
         left,
         op: Operator::Plus,
