@@ -2,12 +2,11 @@
 ghost use Rattle.serde_json.specs.View.{view};
 ghost use Rattle.plan_doc_parts.specs.Gives.{Gives, Shows};
 ghost use Rattle.plan_doc_parts.specs.Members.{object_of};
-ghost use Rattle.plan_doc_nodes.specs.Exprs.{operator_of, column_expr_of, value_of, value_or_null, literal_of, alias_of, binary_of, ternary_keys, ternary_of, agg_kind_of, agg_of, function_name_of, function_of, window_of, len_of, expr_of};
+ghost use Rattle.plan_doc_exprs.specs.Exprs.{operator_of, column_expr_of, value_of, value_or_null, literal_of, alias_of, binary_of, ternary_keys, ternary_of, agg_kind_of, agg_of, function_name_of, function_of, window_of, len_of, expr_of};
 
-use crate::reading::read;
 use plan_core::{Node, PlainType};
 use plan_doc_parts::{
-    Fault, field, integer, link_at, links_at, name, name_at, object, plain_type, text, truth,
+    Fault, field, integer, link_at, links_at, name, name_at, object, plain_type, read, text, truth,
 };
 use plan_expr::{AExpr, FunctionExpr, IRAggExpr, LiteralValue, Operator};
 use serde_json::Value;
@@ -173,7 +172,7 @@ fn function_name(value: &Value) -> Result<FunctionExpr, Fault>
 }
 
 /// The function over inputs of an entry, however many they are, with the options that are its own.
-#[tactic(auto, using(crate::proofs::NoneLemmas::bind_none), unfolding(crate::specs::Exprs::function_of))]
+#[tactic(auto, using(plan_doc_parts::proofs::NoneLemmas::bind_none), unfolding(crate::specs::Exprs::function_of))]
 fn function(alloc: Global, value: &Value) -> Result<AExpr, Fault>
     ensures { Gives result (function_of (view value.now)) }
 {

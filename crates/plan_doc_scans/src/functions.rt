@@ -1,19 +1,18 @@
 //! The readers of functions of whole frames.
 ghost use Rattle.serde_json.specs.View.{view};
 ghost use Rattle.plan_doc_parts.specs.Gives.{Gives};
-ghost use Rattle.plan_doc_nodes.specs.Functions.{count_of, rename_of, numbering_of, unpivot_args_of, unpivot_of, explode_of, frame_function_of};
+ghost use Rattle.plan_doc_scans.specs.Functions.{count_of, rename_of, numbering_of, unpivot_args_of, unpivot_of, explode_of, frame_function_of};
 
-use crate::reading::read;
 use crate::scans::files;
 use plan_doc_parts::{
-    Fault, name_at, names_at, object, only, optional_name_at, optional_number_at, truth_at,
+    Fault, name_at, names_at, object, only, optional_name_at, optional_number_at, read, truth_at,
 };
 use plan_ir::{FunctionIR, UnpivotArgsIR};
 use serde_json::Value;
 use std::alloc::Global;
 
 /// The renaming of an object.
-#[tactic(auto, using(crate::proofs::NoneLemmas::bind_none), unfolding(crate::specs::Functions::rename_of))]
+#[tactic(auto, using(plan_doc_parts::proofs::NoneLemmas::bind_none), unfolding(crate::specs::Functions::rename_of))]
 fn rename(alloc: Global, value: &Value) -> Result<FunctionIR, Fault>
     ensures { Gives result (rename_of (view value.now)) }
 {
@@ -29,7 +28,7 @@ fn rename(alloc: Global, value: &Value) -> Result<FunctionIR, Fault>
 }
 
 /// The numbering of rows of an object.
-#[tactic(auto, using(crate::proofs::NoneLemmas::bind_none), unfolding(crate::specs::Functions::numbering_of))]
+#[tactic(auto, using(plan_doc_parts::proofs::NoneLemmas::bind_none), unfolding(crate::specs::Functions::numbering_of))]
 fn numbering(alloc: Global, value: &Value) -> Result<FunctionIR, Fault>
     ensures { Gives result (numbering_of (view value.now)) }
 {

@@ -1,6 +1,6 @@
 use Rattle.std.proofs.Common.{refl}
-use Rattle.plan_doc_nodes.specs.Functions.{unpivot_args_of}
-use Rattle.plan_doc_nodes.proofs.functions.unpivot_args.Goals as goal
+use Rattle.plan_doc_scans.specs.Functions.{unpivot_args_of}
+use Rattle.plan_doc_scans.proofs.functions.unpivot_args.Goals as goal
 
 pub returns : goal.returns
 unfolding unpivot_args_of

@@ -7,7 +7,7 @@ use Rattle.plan_ir.specs.declared.functions.FunctionIR.TheVariants as functions
 use Rattle.plan_ir.specs.declared.functions.UnpivotArgsIR.{UnpivotArgsIR}
 use Rattle.plan_doc_parts.specs.Parts.{◌>>=◌, nullable, name_of, names_of, number_of, truth_of}
 use Rattle.plan_doc_parts.specs.Members.{object_of, at, only_of}
-use Rattle.plan_doc_nodes.specs.Scans.{files_of}
+use Rattle.plan_doc_scans.specs.Scans.{files_of}
 
 -- columns under other names
 unfoldable pub rename_of : Data → Option FunctionIR

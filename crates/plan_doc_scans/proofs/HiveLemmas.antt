@@ -16,7 +16,7 @@ use Rattle.plan_doc_parts.specs.Values.{any_value_of}
 use Rattle.plan_doc_parts.proofs.ColumnLemmas.{name_twice}
 use Rattle.plan_doc_parts.proofs.EntryLemmas.{bind_some, some_is}
 use Rattle.plan_doc_parts.proofs.TypedLemmas.{any_is}
-use Rattle.plan_doc_nodes.specs.Hive.{hive_column_of, distinct_stats}
+use Rattle.plan_doc_scans.specs.Hive.{hive_column_of, distinct_stats}
 
 -- the value of a column that is read is null or of the type
 pub column_typed : (d : Data) (s : ColumnStats) → hive_column_of d ≡ Some s → HasType s

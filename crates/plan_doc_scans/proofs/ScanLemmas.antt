@@ -2,12 +2,11 @@
 use Rattle.std.proofs.Common.{◌≡◌, Option, Some, None, refl}
 use Rattle.std.specs.Prelude.{codes}
 use Rattle.serde_json.specs.Data.{Data}
-use Rattle.plan_ir.specs.declared.ir.IR.{IR}
 use Rattle.plan_ir.specs.declared.ir.IR.TheVariants as nodes
 use Rattle.plan_doc_parts.specs.Parts.{◌>>=◌, nullable, columns_of, output_of}
 use Rattle.plan_doc_parts.specs.Members.{object_of, at}
-use Rattle.plan_doc_nodes.specs.Hive.{hive_parts_of}
-use Rattle.plan_doc_nodes.specs.Scans.{files_of, file_info_of, file_options_of, read_of, given_of, held_of, scan_keys, scan_of}
+use Rattle.plan_doc_scans.specs.Hive.{hive_parts_of}
+use Rattle.plan_doc_scans.specs.Scans.{files_of, file_info_of, file_options_of, read_of, given_of, held_of, scan_keys, scan_of}
 
 -- two steps as one
 abbrev both : {A B : Type 0} → Option A → Option B → Option (A × B)

@@ -1,7 +1,7 @@
 use Rattle.std.proofs.Common.{rules}
-use Rattle.plan_doc_nodes.specs.Hive.{hive_part_of, hive_parts_of}
+use Rattle.plan_doc_scans.specs.Hive.{hive_part_of, hive_parts_of}
 use Rattle.plan_doc_parts.proofs.PairLemmas.{each_is_read}
-use Rattle.plan_doc_nodes.proofs.hive.hive_parts.Goals as goal
+use Rattle.plan_doc_scans.proofs.hive.hive_parts.Goals as goal
 
 pub returns : goal.returns
 unfolding hive_parts_of

@@ -1,19 +1,21 @@
 //! The readers of hive parts.
+ghost use Rattle.std.specs.Prelude.{Some};
 ghost use Rattle.serde_json.specs.View.{view};
 ghost use Rattle.plan_doc_parts.specs.Gives.{Gives};
 ghost use Rattle.plan_doc_parts.specs.Members.{at};
 ghost use Rattle.plan_doc_parts.specs.Parts.{nullable};
-ghost use Rattle.plan_doc_nodes.specs.Hive.{hive_column_of, hive_part_of, hive_parts_of};
+ghost use Rattle.plan_scan.specs.Stats.{Fits, with_values};
+ghost use Rattle.plan_doc_scans.specs.Hive.{hive_column_of, hive_part_of, hive_parts_of};
 
-use crate::reading::read;
 use plan_core::{Items, Schema};
-use plan_doc_parts::{Fault, any_value, data_type, each, entries, field, name, three};
+use plan_doc_parts::{Fault, any_value, data_type, each, entries, field, name, read, three};
 use plan_scan::{ColumnStats, Field, HivePartitions};
+use plan_table::AnyValue;
 use serde_json::Value;
 use std::alloc::Global;
 
 /// The name, the type and the value of an array of three; the value is null or of the type.
-#[tactic(auto, using(crate::proofs::NoneLemmas::bind_none), unfolding(crate::specs::Hive::hive_column_of))]
+#[tactic(auto, using(plan_doc_parts::proofs::NoneLemmas::bind_none), unfolding(crate::specs::Hive::hive_column_of))]
 fn hive_column(alloc: Global, value: &Value) -> Result<ColumnStats, Fault>
     ensures { Gives result (hive_column_of (view value.now)) }
 {
@@ -27,23 +29,35 @@ fn hive_column(alloc: Global, value: &Value) -> Result<ColumnStats, Fault>
     })
 }
 
+/// The columns of a schema with these values.
+fn partitions(
+    alloc: Global,
+    schema: Schema,
+    values: Items<AnyValue>,
+) -> Result<HivePartitions, Fault>
+    requires { Fits schema values }
+    ensures { Gives result (Some (with_values schema values)) }
+{
+    Ok(HivePartitions::new(alloc, schema, values)?)
+}
+
 /// The hive columns of one source, no name twice.
 #[tactic(auto, unfolding(crate::specs::Hive::hive_part_of))]
 fn hive_part(alloc: Global, value: &Value) -> Result<HivePartitions, Fault>
     ensures { Gives result (hive_part_of (view value.now)) }
 {
-    let entries = entries(value)?;
+    let entries = read!(entries(value));
     let mut schema = Schema::new(alloc);
     let mut values = Items::new(alloc);
     for entry in entries {
-        let ColumnStats { field, value } = hive_column(alloc, entry)?;
+        let ColumnStats { field, value } = read!(hive_column(alloc, entry));
         match schema.with_column(field.name, field.dtype)? {
             None => {}
             Some(_) => return Err(Fault::Form),
         }
         values.push(value)?;
     }
-    Ok(HivePartitions::new(alloc, schema, values)?)
+    partitions(alloc, schema, values)
 }
 
 /// The hive columns of each source.

@@ -17,7 +17,7 @@ use Rattle.plan_ir.specs.declared.ir.IR.{IR}
 use Rattle.plan_ir.specs.declared.ir.IR.TheVariants as nodes
 use Rattle.plan_doc_parts.specs.Parts.{◌>>=◌, nullable, name_of, number_of, numbers_of, truth_of, two_of, names_of, columns_of, output_of, slice_of}
 use Rattle.plan_doc_parts.specs.Members.{object_of, at}
-use Rattle.plan_doc_nodes.specs.Hive.{hive_parts_of}
+use Rattle.plan_doc_scans.specs.Hive.{hive_parts_of}
 
 -- the format of the files
 unfoldable pub kind_of : Data → Option FileScan

@@ -3,15 +3,14 @@ ghost use Rattle.serde_json.specs.View.{view};
 ghost use Rattle.plan_doc_parts.specs.Gives.{Gives, Shows};
 ghost use Rattle.plan_doc_parts.specs.Members.{at, object_of};
 ghost use Rattle.plan_doc_parts.specs.Parts.{nullable};
-ghost use Rattle.plan_doc_nodes.specs.Scans.{kind_of, paths_of, buffers_of, sources_of, files_of, file_info_of, row_index_of, beside_of, file_options_of, read_of, given_of, held_of, scan_keys, scan_of, frame_scan_of};
+ghost use Rattle.plan_doc_scans.specs.Scans.{kind_of, paths_of, buffers_of, sources_of, files_of, file_info_of, row_index_of, beside_of, file_options_of, read_of, given_of, held_of, scan_keys, scan_of, frame_scan_of};
 
 use crate::hive::optional_hive_parts_at;
-use crate::reading::read;
 use plan_core::{FileScanOptions, Items, PlSmallStr, RowIndex, Schema};
 use plan_doc_parts::{
     Fault, columns_at, field, name, names_at, number, numbers_at, object, optional_columns_at,
     optional_name_at, optional_names_at, optional_number_at, optional_output_at, optional_slice_at,
-    text, truth_at, two,
+    read, text, truth_at, two,
 };
 use plan_expr::ExprIR;
 use plan_ir::{FileInfo, FileScan, IR, ScanSources};
@@ -87,7 +86,7 @@ fn file_info(alloc: Global, object: &Value) -> Result<FileInfo, Fault>
 }
 
 /// The name of the column that numbers the rows, and the number of the first row.
-#[tactic(auto, using(crate::proofs::NoneLemmas::bind_none), unfolding(crate::specs::Scans::row_index_of))]
+#[tactic(auto, using(plan_doc_parts::proofs::NoneLemmas::bind_none), unfolding(crate::specs::Scans::row_index_of))]
 fn row_index(alloc: Global, value: &Value) -> Result<RowIndex, Fault>
     ensures { Gives result (row_index_of (view value.now)) }
 {
@@ -125,7 +124,7 @@ fn beside(alloc: Global, object: &Value) -> Result<(Option<RowIndex>, Option<PlS
 }
 
 /// The options of a scan, from the object of the scan; those that a document can't say are the default ones.
-#[tactic(auto, using(crate::proofs::NoneLemmas::bind_none), unfolding(crate::specs::Scans::file_options_of))]
+#[tactic(auto, using(plan_doc_parts::proofs::NoneLemmas::bind_none), unfolding(crate::specs::Scans::file_options_of))]
 fn file_options(alloc: Global, object: &Value) -> Result<FileScanOptions, Fault>
     ensures { Gives result (file_options_of (view object.now)) }
 {
