@@ -8,10 +8,10 @@ use Rattle.plan_options.specs.declared.sink.SinkType.TheVariants as sinks
 use Rattle.plan_doc_parts.specs.Parts.{◌>>=◌, name_of, number_of, link_of}
 use Rattle.plan_doc_parts.specs.Members.{object_of, at}
 use Rattle.plan_doc_nodes.specs.Columns.{simple_projection_of, select_of, hstack_of, group_by_of}
-use Rattle.plan_doc_nodes.specs.Functions.{frame_function_of}
+use Rattle.plan_doc_scans.specs.Functions.{frame_function_of}
 use Rattle.plan_doc_nodes.specs.Joins.{join_of}
 use Rattle.plan_doc_nodes.specs.Rows.{slice_node_of, filter_of, sort_of, distinct_of}
-use Rattle.plan_doc_nodes.specs.Scans.{frame_scan_of, scan_of}
+use Rattle.plan_doc_scans.specs.Scans.{frame_scan_of, scan_of}
 use Rattle.plan_doc_nodes.specs.Several.{union_of, hconcat_of}
 
 -- what a function makes of the whole input

@@ -4,10 +4,9 @@ ghost use Rattle.plan_doc_parts.specs.Gives.{Gives, Shows};
 ghost use Rattle.plan_doc_parts.specs.Members.{object_of};
 ghost use Rattle.plan_doc_nodes.specs.Columns.{simple_projection_of, made_keys, made_of, select_of, hstack_of, group_by_keys, grouped_of, group_by_of};
 
-use crate::reading::read;
 use plan_core::{Items, ProjectionOptions, Schema};
 use plan_doc_parts::{
-    Fault, columns_at, link_at, object, optional_slice_at, options_at, outputs_at, truth_at,
+    Fault, columns_at, link_at, object, optional_slice_at, options_at, outputs_at, read, truth_at,
 };
 use plan_expr::ExprIR;
 use plan_ir::IR;
@@ -16,7 +15,7 @@ use serde_json::Value;
 use std::alloc::Global;
 
 /// The projection of an entry.
-#[tactic(auto, using(crate::proofs::NoneLemmas::bind_none), unfolding(crate::specs::Columns::simple_projection_of))]
+#[tactic(auto, using(plan_doc_parts::proofs::NoneLemmas::bind_none), unfolding(crate::specs::Columns::simple_projection_of))]
 pub fn simple_projection(alloc: Global, value: &Value) -> Result<IR, Fault>
     ensures { Gives result (simple_projection_of (view value.now)) }
 {
@@ -35,7 +34,7 @@ fn made_object(value: &Value) -> Result<&Value, Fault>
 }
 
 /// The columns that a node makes.
-#[tactic(auto, using(crate::proofs::NoneLemmas::bind_none), unfolding(crate::specs::Columns::made_of))]
+#[tactic(auto, using(plan_doc_parts::proofs::NoneLemmas::bind_none), unfolding(crate::specs::Columns::made_of))]
 fn made(alloc: Global, object: &Value) -> Result<(Items<ExprIR>, Schema, ProjectionOptions), Fault>
     ensures { Gives result (made_of (view object.now)) }
 {
@@ -108,7 +107,7 @@ fn grouped(alloc: Global, object: &Value) -> Result<(Items<ExprIR>, Items<ExprIR
 }
 
 /// The grouping of an entry.
-#[tactic(auto, using(crate::proofs::NoneLemmas::bind_none), unfolding(crate::specs::Columns::group_by_of))]
+#[tactic(auto, using(plan_doc_parts::proofs::NoneLemmas::bind_none), unfolding(crate::specs::Columns::group_by_of))]
 pub fn group_by(alloc: Global, value: &Value) -> Result<IR, Fault>
     ensures { Gives result (group_by_of (view value.now)) }
 {

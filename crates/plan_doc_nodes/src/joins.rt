@@ -5,11 +5,10 @@ ghost use Rattle.plan_doc_parts.specs.Members.{object_of, at};
 ghost use Rattle.plan_doc_parts.specs.Parts.{nullable};
 ghost use Rattle.plan_doc_nodes.specs.Joins.{how_of, coalesce_of, order_of, inequality_of, inequalities_of, condition_of, kind_options_of, parallel_of, naming_of, join_args_of, join_options_of, join_keys, key_pairs_of, join_of};
 
-use crate::reading::read;
 use plan_core::{Items, PlSmallStr};
 use plan_doc_parts::{
     Fault, columns_at, entries, field, link_at, object, only, optional_name_at, optional_slice_at,
-    output, outputs_at, text, truth, truth_at, two,
+    output, outputs_at, read, text, truth, truth_at, two,
 };
 use plan_expr::ExprIR;
 use plan_ir::IR;
@@ -158,7 +157,7 @@ fn naming(alloc: Global, object: &Value) -> Result<(JoinCoalesce, Option<PlSmall
 }
 
 /// Which rows a join gives, in which order, and how it names its columns, from the object of the join.
-#[tactic(auto, using(crate::proofs::NoneLemmas::bind_none), unfolding(crate::specs::Joins::join_args_of))]
+#[tactic(auto, using(plan_doc_parts::proofs::NoneLemmas::bind_none), unfolding(crate::specs::Joins::join_args_of))]
 fn join_args(alloc: Global, object: &Value) -> Result<JoinArgs, Fault>
     ensures { Gives result (join_args_of (view object.now)) }
 {

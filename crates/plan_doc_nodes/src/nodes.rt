@@ -4,13 +4,11 @@ ghost use Rattle.plan_doc_parts.specs.Gives.{Gives};
 ghost use Rattle.plan_doc_nodes.specs.Nodes.{map_function_of, sink_of, cache_of, invalid_of, other_node_of, node_of};
 
 use crate::columns::{group_by, hstack, select, simple_projection};
-use crate::functions::frame_function;
 use crate::joins::join;
-use crate::reading::read;
 use crate::rows::{distinct, filter, slice_node, sort};
-use crate::scans::{frame_scan, scan};
 use crate::several::{hconcat, union};
-use plan_doc_parts::{Fault, field, link_at, number_at, object, text};
+use plan_doc_parts::{Fault, field, link_at, number_at, object, read, text};
+use plan_doc_scans::{frame_function, frame_scan, scan};
 use plan_ir::IR;
 use plan_options::SinkType;
 use serde_json::Value;

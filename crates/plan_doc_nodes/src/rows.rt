@@ -4,10 +4,9 @@ ghost use Rattle.plan_doc_parts.specs.Gives.{Gives, Shows};
 ghost use Rattle.plan_doc_parts.specs.Members.{object_of};
 ghost use Rattle.plan_doc_nodes.specs.Rows.{slice_node_of, filter_of, sort_keys, sort_options_of, sort_of, keep_of, distinct_keys, distinct_options_of, distinct_of};
 
-use crate::reading::read;
 use plan_doc_parts::{
     Fault, field, integer_at, link_at, number_at, object, optional_names_at, optional_slice_at,
-    output_at, outputs_at, text, truth_at, truths_at,
+    output_at, outputs_at, read, text, truth_at, truths_at,
 };
 use plan_ir::IR;
 use plan_options::{DistinctOptionsIR, SortMultipleOptions, UniqueKeepStrategy};
@@ -57,7 +56,7 @@ fn sort_object(value: &Value) -> Result<&Value, Fault>
 }
 
 /// How rows are sorted, from the object of a sort: several threads may sort, and all rows are put out.
-#[tactic(auto, using(crate::proofs::NoneLemmas::bind_none), unfolding(crate::specs::Rows::sort_options_of))]
+#[tactic(auto, using(plan_doc_parts::proofs::NoneLemmas::bind_none), unfolding(crate::specs::Rows::sort_options_of))]
 fn sort_options(alloc: Global, object: &Value) -> Result<SortMultipleOptions, Fault>
     ensures { Gives result (sort_options_of (view object.now)) }
 {
@@ -74,7 +73,7 @@ fn sort_options(alloc: Global, object: &Value) -> Result<SortMultipleOptions, Fa
 }
 
 /// The sort of an entry.
-#[tactic(auto, using(crate::proofs::NoneLemmas::bind_none), unfolding(crate::specs::Rows::sort_of))]
+#[tactic(auto, using(plan_doc_parts::proofs::NoneLemmas::bind_none), unfolding(crate::specs::Rows::sort_of))]
 pub fn sort(alloc: Global, value: &Value) -> Result<IR, Fault>
     ensures { Gives result (sort_of (view value.now)) }
 {
@@ -117,7 +116,7 @@ fn distinct_object(value: &Value) -> Result<&Value, Fault>
 }
 
 /// Which rows are distinct, and which of them are kept, from the object of distinct rows.
-#[tactic(auto, using(crate::proofs::NoneLemmas::bind_none), unfolding(crate::specs::Rows::distinct_options_of))]
+#[tactic(auto, using(plan_doc_parts::proofs::NoneLemmas::bind_none), unfolding(crate::specs::Rows::distinct_options_of))]
 fn distinct_options(alloc: Global, object: &Value) -> Result<DistinctOptionsIR, Fault>
     ensures { Gives result (distinct_options_of (view object.now)) }
 {

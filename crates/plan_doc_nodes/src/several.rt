@@ -4,8 +4,7 @@ ghost use Rattle.plan_doc_parts.specs.Gives.{Gives, Shows};
 ghost use Rattle.plan_doc_parts.specs.Members.{object_of};
 ghost use Rattle.plan_doc_nodes.specs.Several.{union_keys, union_options_of, union_of, hconcat_of};
 
-use crate::reading::read;
-use plan_doc_parts::{Fault, columns_at, links_at, object, optional_slice_at, truth_at};
+use plan_doc_parts::{Fault, columns_at, links_at, object, optional_slice_at, read, truth_at};
 use plan_ir::IR;
 use plan_options::{HConcatOptions, UnionOptions};
 use serde_json::Value;
@@ -51,7 +50,7 @@ fn union_options(object: &Value) -> Result<UnionOptions, Fault>
 }
 
 /// The union of an entry, however many its inputs are.
-#[tactic(auto, using(crate::proofs::NoneLemmas::bind_none), unfolding(crate::specs::Several::union_of))]
+#[tactic(auto, using(plan_doc_parts::proofs::NoneLemmas::bind_none), unfolding(crate::specs::Several::union_of))]
 pub fn union(alloc: Global, value: &Value) -> Result<IR, Fault>
     ensures { Gives result (union_of (view value.now)) }
 {
@@ -62,7 +61,7 @@ pub fn union(alloc: Global, value: &Value) -> Result<IR, Fault>
 }
 
 /// The concatenation side by side of an entry, however many its inputs are.
-#[tactic(auto, using(crate::proofs::NoneLemmas::bind_none), unfolding(crate::specs::Several::hconcat_of))]
+#[tactic(auto, using(plan_doc_parts::proofs::NoneLemmas::bind_none), unfolding(crate::specs::Several::hconcat_of))]
 pub fn hconcat(alloc: Global, value: &Value) -> Result<IR, Fault>
     ensures { Gives result (hconcat_of (view value.now)) }
 {

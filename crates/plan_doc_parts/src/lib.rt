@@ -6,6 +6,7 @@ mod fault;
 mod members;
 mod optional;
 mod parts;
+mod reading;
 mod values;
 
 pub use arrays::{arena_of_each, each};

@@ -5,9 +5,9 @@ use Rattle.plan_ir.specs.Parts.{list_of}
 use Rattle.plan_ir.specs.Plans.{Op, cache, distinct, filter, frame_scan, group_by, hconcat, hstack, invalid, join, map_function, scan, select, simple_projection, sink, slice, sort, union}
 use Rattle.plan_scan.specs.Stats.{Stats}
 use Rattle.plan_doc_parts.specs.Parts.{nullable, number_of, integer_of}
-use Rattle.plan_doc_nodes.specs.Functions.{frame_function_of}
-use Rattle.plan_doc_nodes.specs.Hive.{hive_parts_of}
-use Rattle.plan_doc_nodes.specs.Scans.{sources_of}
+use Rattle.plan_doc_scans.specs.Functions.{frame_function_of}
+use Rattle.plan_doc_scans.specs.Hive.{hive_parts_of}
+use Rattle.plan_doc_scans.specs.Scans.{sources_of}
 use Rattle.plan_text_pieces.specs.Functions.{frame_function_data}
 use Rattle.plan_text_pieces.specs.Hive.{hive_parts_data}
 use Rattle.plan_text_pieces.specs.Values.{integer_data, nullable_data, number_data, sources_data}

@@ -14,8 +14,8 @@ use Rattle.plan_meaning.proofs.KeptExprs.{all_where}
 use Rattle.plan_doc_parts.specs.Parts.{◌>>=◌, are_distinct, column_names, distinct_columns, each, nullable}
 use Rattle.plan_doc_parts.proofs.DistinctLemmas.{either_false, none_else, none_of}
 use Rattle.plan_doc_parts.proofs.EntryLemmas.{bind_some, some_is}
-use Rattle.plan_doc_nodes.specs.Hive.{distinct_stats, hive_column_of, hive_part_of, hive_parts_of}
-use Rattle.plan_doc_nodes.specs.Scans.{row_index_of}
+use Rattle.plan_doc_scans.specs.Hive.{distinct_stats, hive_column_of, hive_part_of, hive_parts_of}
+use Rattle.plan_doc_scans.specs.Scans.{row_index_of}
 use Rattle.plan_text_pieces.specs.Hive.{hive_column_data, hive_part_data, hive_parts_data}
 use Rattle.plan_text_pieces.specs.Values.{nullable_data, row_index_data}
 use Rattle.plan_written.proofs.Lists.{each_parts, entries_again, list_parts, list_read, nullable_inner, nullable_read}

@@ -28,10 +28,13 @@ fn literal(value: &LiteralValue) -> Piece<'_>
 fn column<'a>(alloc: Global, name: &'a PlSmallStr) -> Result<Entries<'a>, AllocError>
     ensures { IfOk result (λ es. Tells es.items (expr_data (Column name.now))) }
 {
-    Ok(vec![in alloc;
-        ("name", Piece::Text(name.as_str())),
-        ("op", Piece::Text("Column")),
-    ]?)
+    Vec::from_slice(
+        alloc,
+        &[
+            ("name", Piece::Text(name.as_str())),
+            ("op", Piece::Text("Column")),
+        ],
+    )
 }
 
 /// The entries of a literal.
@@ -39,11 +42,14 @@ fn column<'a>(alloc: Global, name: &'a PlSmallStr) -> Result<Entries<'a>, AllocE
 fn literal_value<'a>(alloc: Global, given: &'a LiteralValue) -> Result<Entries<'a>, AllocError>
     ensures { IfOk result (λ es. Tells es.items (expr_data (Literal given.now))) }
 {
-    Ok(vec![in alloc;
-        ("op", Piece::Text("Literal")),
-        ("type", Piece::Text(literal_type(given))),
-        ("value", literal(given)),
-    ]?)
+    Vec::from_slice(
+        alloc,
+        &[
+            ("op", Piece::Text("Literal")),
+            ("type", Piece::Text(literal_type(given))),
+            ("value", literal(given)),
+        ],
+    )
 }
 
 /// The entries of an expression under another name.
@@ -51,11 +57,14 @@ fn literal_value<'a>(alloc: Global, given: &'a LiteralValue) -> Result<Entries<'
 fn alias<'a>(alloc: Global, input: Node, name: &'a PlSmallStr) -> Result<Entries<'a>, AllocError>
     ensures { IfOk result (λ es. Tells es.items (expr_data (Alias input name.now))) }
 {
-    Ok(vec![in alloc;
-        ("input", Piece::Number(input.0)),
-        ("name", Piece::Text(name.as_str())),
-        ("op", Piece::Text("Alias")),
-    ]?)
+    Vec::from_slice(
+        alloc,
+        &[
+            ("input", Piece::Number(input.0)),
+            ("name", Piece::Text(name.as_str())),
+            ("op", Piece::Text("Alias")),
+        ],
+    )
 }
 
 /// The entries of a binary expression.
@@ -69,12 +78,15 @@ fn binary<'a>(
     ensures { IfOk result (λ es. Tells es.items (expr_data (BinaryExpr left op right))) }
 {
     let operator: &'a str = operator_name(op);
-    Ok(vec![in alloc;
-        ("left", Piece::Number(left.0)),
-        ("op", Piece::Text("BinaryExpr")),
-        ("operator", Piece::Text(operator)),
-        ("right", Piece::Number(right.0)),
-    ]?)
+    Vec::from_slice(
+        alloc,
+        &[
+            ("left", Piece::Number(left.0)),
+            ("op", Piece::Text("BinaryExpr")),
+            ("operator", Piece::Text(operator)),
+            ("right", Piece::Number(right.0)),
+        ],
+    )
 }
 
 /// The entries of a choice.
@@ -101,11 +113,14 @@ fn agg<'a>(alloc: Global, given: IRAggExpr) -> Result<Entries<'a>, AllocError>
     ensures { IfOk result (λ es. Tells es.items (expr_data (Agg given))) }
 {
     let kind: &'a str = agg_name(given);
-    Ok(vec![in alloc;
-        ("input", Piece::Number(given.input().0)),
-        ("kind", Piece::Text(kind)),
-        ("op", Piece::Text("Agg")),
-    ]?)
+    Vec::from_slice(
+        alloc,
+        &[
+            ("input", Piece::Number(given.input().0)),
+            ("kind", Piece::Text(kind)),
+            ("op", Piece::Text("Agg")),
+        ],
+    )
 }
 
 /// The entries of a function over inputs. Its options are its own, and don't stand in it.
@@ -118,11 +133,14 @@ fn function<'a>(
 ) -> Result<Entries<'a>, AllocError>
     ensures { IfOk result (λ es. Tells es.items (expr_data (Function input.now given options))) }
 {
-    Ok(vec![in alloc;
-        ("inputs", Piece::Links(input.as_slice())),
-        ("name", Piece::Text(function_name(given))),
-        ("op", Piece::Text("Function")),
-    ]?)
+    Vec::from_slice(
+        alloc,
+        &[
+            ("inputs", Piece::Links(input.as_slice())),
+            ("name", Piece::Text(function_name(given))),
+            ("op", Piece::Text("Function")),
+        ],
+    )
 }
 
 /// The entries of a window.
@@ -134,11 +152,14 @@ fn window<'a>(
 ) -> Result<Entries<'a>, AllocError>
     ensures { IfOk result (λ es. Tells es.items (expr_data (Window function keys.now))) }
 {
-    Ok(vec![in alloc;
-        ("function", Piece::Number(function.0)),
-        ("op", Piece::Text("Window")),
-        ("partition_by", Piece::Links(keys.as_slice())),
-    ]?)
+    Vec::from_slice(
+        alloc,
+        &[
+            ("function", Piece::Number(function.0)),
+            ("op", Piece::Text("Window")),
+            ("partition_by", Piece::Links(keys.as_slice())),
+        ],
+    )
 }
 
 /// The entries of an expression: of each kind a row or two.

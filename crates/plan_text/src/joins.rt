@@ -26,29 +26,32 @@ pub fn join<'a>(
     ensures { IfOk result (λ es. Tells es.items
         (join_data left right schema.now left_on.now right_on.now options.now)) }
 {
-    Ok(vec![in alloc;
-        (
-            "coalesce",
-            Piece::Text(coalesce_name(options.args.coalesce))
-        ),
-        ("how", Piece::Text(how_name(options.args.how))),
-        ("join_nulls", Piece::Boolean(options.args.join_nulls)),
-        ("left", Piece::Number(left.0)),
-        ("left_on", Piece::Outputs(left_on.as_slice())),
-        (
-            "maintain_order",
-            Piece::Text(order_name(options.args.maintain_order))
-        ),
-        ("op", Piece::Text("Join")),
-        ("options", optional_kind_options(&options.options)),
-        (
-            "parallel",
-            Piece::BooleanPair(options.allow_parallel, options.force_parallel)
-        ),
-        ("right", Piece::Number(right.0)),
-        ("right_on", Piece::Outputs(right_on.as_slice())),
-        ("schema", Piece::Columns(schema)),
-        ("slice", optional_slice(options.args.slice)),
-        ("suffix", optional_name(&options.args.suffix)),
-    ]?)
+    Vec::from_slice(
+        alloc,
+        &[
+            (
+                "coalesce",
+                Piece::Text(coalesce_name(options.args.coalesce)),
+            ),
+            ("how", Piece::Text(how_name(options.args.how))),
+            ("join_nulls", Piece::Boolean(options.args.join_nulls)),
+            ("left", Piece::Number(left.0)),
+            ("left_on", Piece::Outputs(left_on.as_slice())),
+            (
+                "maintain_order",
+                Piece::Text(order_name(options.args.maintain_order)),
+            ),
+            ("op", Piece::Text("Join")),
+            ("options", optional_kind_options(&options.options)),
+            (
+                "parallel",
+                Piece::BooleanPair(options.allow_parallel, options.force_parallel),
+            ),
+            ("right", Piece::Number(right.0)),
+            ("right_on", Piece::Outputs(right_on.as_slice())),
+            ("schema", Piece::Columns(schema)),
+            ("slice", optional_slice(options.args.slice)),
+            ("suffix", optional_name(&options.args.suffix)),
+        ],
+    )
 }

@@ -33,21 +33,24 @@ fn scan<'a>(
     ensures { IfOk result (λ es. Tells es.items
         (scan_data from.now info.now hive.now predicate.now output_schema.now format.now options.now)) }
 {
-    Ok(vec![in alloc;
-        ("columns", optional_names(&options.with_columns)),
-        ("hive", optional_hive_parts(hive)),
-        ("kind", Piece::Text(format.name())),
-        ("op", Piece::Text("Scan")),
-        ("output", optional_columns(output_schema)),
-        ("path_column", optional_name(&options.include_file_paths)),
-        ("predicate", optional_output(predicate)),
-        ("reader", optional_columns(&info.reader_schema)),
-        ("rechunk", Piece::Boolean(options.rechunk)),
-        ("row_index", optional_row_index(&options.row_index)),
-        ("schema", Piece::Columns(&info.schema)),
-        ("slice", optional_slice(options.slice)),
-        ("sources", sources(from)),
-    ]?)
+    Vec::from_slice(
+        alloc,
+        &[
+            ("columns", optional_names(&options.with_columns)),
+            ("hive", optional_hive_parts(hive)),
+            ("kind", Piece::Text(format.name())),
+            ("op", Piece::Text("Scan")),
+            ("output", optional_columns(output_schema)),
+            ("path_column", optional_name(&options.include_file_paths)),
+            ("predicate", optional_output(predicate)),
+            ("reader", optional_columns(&info.reader_schema)),
+            ("rechunk", Piece::Boolean(options.rechunk)),
+            ("row_index", optional_row_index(&options.row_index)),
+            ("schema", Piece::Columns(&info.schema)),
+            ("slice", optional_slice(options.slice)),
+            ("sources", sources(from)),
+        ],
+    )
 }
 
 /// The entries of a slice.
@@ -68,11 +71,14 @@ fn slice<'a>(alloc: Global, input: Node, offset: i64, len: u32) -> Result<Entrie
 fn filter<'a>(alloc: Global, input: Node, predicate: &'a ExprIR) -> Result<Entries<'a>, AllocError>
     ensures { IfOk result (λ es. Tells es.items (node_data (Filter input predicate.now))) }
 {
-    Ok(vec![in alloc;
-        ("input", Piece::Number(input.0)),
-        ("op", Piece::Text("Filter")),
-        ("predicate", Piece::Output(predicate)),
-    ]?)
+    Vec::from_slice(
+        alloc,
+        &[
+            ("input", Piece::Number(input.0)),
+            ("op", Piece::Text("Filter")),
+            ("predicate", Piece::Output(predicate)),
+        ],
+    )
 }
 
 /// The entries of a scan of a frame.
@@ -85,12 +91,15 @@ fn frame_scan<'a>(
 ) -> Result<Entries<'a>, AllocError>
     ensures { IfOk result (λ es. Tells es.items (frame_scan_data df schema.now output_schema.now)) }
 {
-    Ok(vec![in alloc;
-        ("frame", optional_number(df)),
-        ("op", Piece::Text("DataFrameScan")),
-        ("output", optional_columns(output_schema)),
-        ("schema", Piece::Columns(schema)),
-    ]?)
+    Vec::from_slice(
+        alloc,
+        &[
+            ("frame", optional_number(df)),
+            ("op", Piece::Text("DataFrameScan")),
+            ("output", optional_columns(output_schema)),
+            ("schema", Piece::Columns(schema)),
+        ],
+    )
 }
 
 /// The entries of a simple projection.
@@ -102,11 +111,14 @@ fn simple_projection<'a>(
 ) -> Result<Entries<'a>, AllocError>
     ensures { IfOk result (λ es. Tells es.items (node_data (SimpleProjection input columns.now))) }
 {
-    Ok(vec![in alloc;
-        ("columns", Piece::Columns(columns)),
-        ("input", Piece::Number(input.0)),
-        ("op", Piece::Text("SimpleProjection")),
-    ]?)
+    Vec::from_slice(
+        alloc,
+        &[
+            ("columns", Piece::Columns(columns)),
+            ("input", Piece::Number(input.0)),
+            ("op", Piece::Text("SimpleProjection")),
+        ],
+    )
 }
 
 /// The entries of a node of this name that makes a column for each expression.
@@ -122,13 +134,16 @@ fn made<'a>(
     ensures { IfOk result (λ es. Tells es.items
         (made_data op.now input exprs.now schema.now options)) }
 {
-    Ok(vec![in alloc;
-        ("exprs", Piece::Outputs(exprs.as_slice())),
-        ("input", Piece::Number(input.0)),
-        ("op", Piece::Text(op)),
-        ("options", Piece::Options(options)),
-        ("schema", Piece::Columns(schema)),
-    ]?)
+    Vec::from_slice(
+        alloc,
+        &[
+            ("exprs", Piece::Outputs(exprs.as_slice())),
+            ("input", Piece::Number(input.0)),
+            ("op", Piece::Text(op)),
+            ("options", Piece::Options(options)),
+            ("schema", Piece::Columns(schema)),
+        ],
+    )
 }
 
 /// The entries of a sort.
@@ -142,15 +157,18 @@ fn sort<'a>(
 ) -> Result<Entries<'a>, AllocError>
     ensures { IfOk result (λ es. Tells es.items (sort_data input keys.now slice options.now)) }
 {
-    Ok(vec![in alloc;
-        ("by", Piece::Outputs(keys.as_slice())),
-        ("descending", Piece::Booleans(options.descending.as_slice())),
-        ("input", Piece::Number(input.0)),
-        ("maintain_order", Piece::Boolean(options.maintain_order)),
-        ("nulls_last", Piece::Booleans(options.nulls_last.as_slice())),
-        ("op", Piece::Text("Sort")),
-        ("slice", optional_slice(slice)),
-    ]?)
+    Vec::from_slice(
+        alloc,
+        &[
+            ("by", Piece::Outputs(keys.as_slice())),
+            ("descending", Piece::Booleans(options.descending.as_slice())),
+            ("input", Piece::Number(input.0)),
+            ("maintain_order", Piece::Boolean(options.maintain_order)),
+            ("nulls_last", Piece::Booleans(options.nulls_last.as_slice())),
+            ("op", Piece::Text("Sort")),
+            ("slice", optional_slice(slice)),
+        ],
+    )
 }
 
 /// The entries of a grouping.
@@ -167,15 +185,18 @@ fn group_by<'a>(
     ensures { IfOk result (λ es. Tells es.items
         (group_by_data input keys.now aggs.now schema.now maintain_order options)) }
 {
-    Ok(vec![in alloc;
-        ("aggs", Piece::Outputs(aggs.as_slice())),
-        ("input", Piece::Number(input.0)),
-        ("keys", Piece::Outputs(keys.as_slice())),
-        ("maintain_order", Piece::Boolean(maintain_order)),
-        ("op", Piece::Text("GroupBy")),
-        ("schema", Piece::Columns(schema)),
-        ("slice", optional_slice(options.slice)),
-    ]?)
+    Vec::from_slice(
+        alloc,
+        &[
+            ("aggs", Piece::Outputs(aggs.as_slice())),
+            ("input", Piece::Number(input.0)),
+            ("keys", Piece::Outputs(keys.as_slice())),
+            ("maintain_order", Piece::Boolean(maintain_order)),
+            ("op", Piece::Text("GroupBy")),
+            ("schema", Piece::Columns(schema)),
+            ("slice", optional_slice(options.slice)),
+        ],
+    )
 }
 
 /// The entries of distinct rows.
@@ -187,14 +208,17 @@ fn distinct<'a>(
 ) -> Result<Entries<'a>, AllocError>
     ensures { IfOk result (λ es. Tells es.items (distinct_data input options.now)) }
 {
-    Ok(vec![in alloc;
-        ("input", Piece::Number(input.0)),
-        ("keep", Piece::Text(keep_name(options.keep_strategy))),
-        ("maintain_order", Piece::Boolean(options.maintain_order)),
-        ("op", Piece::Text("Distinct")),
-        ("slice", optional_slice(options.slice)),
-        ("subset", optional_names(&options.subset)),
-    ]?)
+    Vec::from_slice(
+        alloc,
+        &[
+            ("input", Piece::Number(input.0)),
+            ("keep", Piece::Text(keep_name(options.keep_strategy))),
+            ("maintain_order", Piece::Boolean(options.maintain_order)),
+            ("op", Piece::Text("Distinct")),
+            ("slice", optional_slice(options.slice)),
+            ("subset", optional_names(&options.subset)),
+        ],
+    )
 }
 
 /// The entries of what a function makes of the whole input.
@@ -206,11 +230,14 @@ fn map_function<'a>(
 ) -> Result<Entries<'a>, AllocError>
     ensures { IfOk result (λ es. Tells es.items (map_function_data input function.now)) }
 {
-    Ok(vec![in alloc;
-        ("function", Piece::Function(function)),
-        ("input", Piece::Number(input.0)),
-        ("op", Piece::Text("MapFunction")),
-    ]?)
+    Vec::from_slice(
+        alloc,
+        &[
+            ("function", Piece::Function(function)),
+            ("input", Piece::Number(input.0)),
+            ("op", Piece::Text("MapFunction")),
+        ],
+    )
 }
 
 /// The entries of a union.
@@ -222,15 +249,18 @@ fn union<'a>(
 ) -> Result<Entries<'a>, AllocError>
     ensures { IfOk result (λ es. Tells es.items (union_data inputs.now options)) }
 {
-    Ok(vec![in alloc;
-        ("flattened", Piece::Boolean(options.flattened_by_opt)),
-        ("inputs", Piece::Links(inputs.as_slice())),
-        ("maintain_order", Piece::Boolean(options.maintain_order)),
-        ("op", Piece::Text("Union")),
-        ("parallel", Piece::Boolean(options.parallel)),
-        ("rechunk", Piece::Boolean(options.rechunk)),
-        ("slice", optional_slice(options.slice)),
-    ]?)
+    Vec::from_slice(
+        alloc,
+        &[
+            ("flattened", Piece::Boolean(options.flattened_by_opt)),
+            ("inputs", Piece::Links(inputs.as_slice())),
+            ("maintain_order", Piece::Boolean(options.maintain_order)),
+            ("op", Piece::Text("Union")),
+            ("parallel", Piece::Boolean(options.parallel)),
+            ("rechunk", Piece::Boolean(options.rechunk)),
+            ("slice", optional_slice(options.slice)),
+        ],
+    )
 }
 
 /// The entries of a concatenation side by side.
@@ -243,12 +273,15 @@ fn hconcat<'a>(
 ) -> Result<Entries<'a>, AllocError>
     ensures { IfOk result (λ es. Tells es.items (hconcat_data inputs.now schema.now options)) }
 {
-    Ok(vec![in alloc;
-        ("inputs", Piece::Links(inputs.as_slice())),
-        ("op", Piece::Text("HConcat")),
-        ("parallel", Piece::Boolean(options.parallel)),
-        ("schema", Piece::Columns(schema)),
-    ]?)
+    Vec::from_slice(
+        alloc,
+        &[
+            ("inputs", Piece::Links(inputs.as_slice())),
+            ("op", Piece::Text("HConcat")),
+            ("parallel", Piece::Boolean(options.parallel)),
+            ("schema", Piece::Columns(schema)),
+        ],
+    )
 }
 
 /// The entries of a cache.

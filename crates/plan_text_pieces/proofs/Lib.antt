@@ -1,4 +1,2 @@
 -- The lemmas of this crate.
-pub mod ListLemmas
-mod ObjectLemmas
 mod TokenLemmas

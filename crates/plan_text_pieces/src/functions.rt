@@ -1,106 +1,24 @@
-//! The objects of functions of whole frames, as JSON values and as text.
-ghost use Rattle.std.specs.Prelude.{◌≡◌, ◌∷◌, ◌++◌, IfOk, OnOk};
+//! The objects of functions of whole frames, as text, and their names.
+ghost use Rattle.std.specs.Prelude.{◌≡◌, ◌∷◌, ◌++◌, OnOk};
 ghost use Rattle.json.specs.Token.{key as key_token};
 ghost use Rattle.json.specs.Tree.{json_tokens};
 ghost use Rattle.serde_json.specs.Data.{string};
-ghost use Rattle.serde_json.specs.View.{view};
 ghost use Rattle.serde_json.specs.Written.{outline};
 ghost use Rattle.plan_text_pieces.specs.Values.{nullable_data, number_data};
-ghost use Rattle.plan_text_pieces.specs.Functions.{count_data, explode_data, frame_function_data, frame_function_name, numbering_data, rename_data, told_data, unpivot_data};
+ghost use Rattle.plan_text_pieces.specs.Functions.{count_data, explode_data, frame_function_data, frame_function_name as function_text, numbering_data, rename_data, told_data, unpivot_data};
 
-use crate::members::{only, put_names, put_optional_name, put_text};
-use crate::passing::done;
-use crate::scan_sources::{sources, write_sources};
-use crate::values::names;
+use crate::done;
+use crate::scan_sources::write_sources;
 use crate::writing::write_names_at;
 use json::Writer;
 use plan_core::PlSmallStr;
-use plan_ir::{FunctionIR, UnpivotArgsIR};
+use plan_ir::FunctionIR;
 use plan_scan::{FileScan, ScanSources};
-use serde_json::{Map, Value, put};
-use std::alloc::{AllocError, Global};
+use std::alloc::AllocError;
 
-/// The object of a renaming.
-#[tactic(auto, unfolding(crate::specs::Functions::rename_data))]
-fn rename(
-    alloc: Global,
-    existing: &[PlSmallStr],
-    new: &[PlSmallStr],
-    swapping: bool,
-) -> Result<Value, AllocError>
-    ensures { IfOk result (λ v. view v ≡ rename_data existing.now new.now swapping) }
-{
-    let mut map = Map::new(alloc);
-    done!(put_names(&mut map, alloc, "existing", existing));
-    done!(put_names(&mut map, alloc, "new", new));
-    done!(put(&mut map, alloc, "swapping", Value::Bool(swapping)));
-    Ok(Value::Object(map))
-}
-
-/// A number, or null.
-fn optional_number(given: Option<u32>) -> Value
-    ensures { view result ≡ nullable_data number_data given }
-{
-    match given {
-        None => Value::Null,
-        Some(number) => Value::from(number),
-    }
-}
-
-/// The object of a numbering of rows.
-#[tactic(auto, unfolding(crate::specs::Functions::numbering_data))]
-fn numbering(alloc: Global, name: &str, offset: Option<u32>) -> Result<Value, AllocError>
-    ensures { IfOk result (λ v. view v ≡ numbering_data name.now offset) }
-{
-    let mut map = Map::new(alloc);
-    done!(put_text(&mut map, alloc, "name", name));
-    done!(put(&mut map, alloc, "offset", optional_number(offset)));
-    Ok(Value::Object(map))
-}
-
-/// The object of an unpivot.
-#[tactic(auto, unfolding(crate::specs::Functions::unpivot_data))]
-fn unpivot(alloc: Global, args: &UnpivotArgsIR) -> Result<Value, AllocError>
-    ensures { IfOk result (λ v. view v ≡ unpivot_data args.now) }
-{
-    let mut map = Map::new(alloc);
-    done!(put_names(&mut map, alloc, "index", args.index.as_slice()));
-    done!(put_names(&mut map, alloc, "on", args.on.as_slice()));
-    done!(put_optional_name(&mut map, alloc, "value_name", &args.value_name));
-    done!(put_optional_name(&mut map, alloc, "variable_name", &args.variable_name));
-    Ok(Value::Object(map))
-}
-
-/// The object of an explode.
-#[tactic(auto, unfolding(crate::specs::Functions::explode_data))]
-fn explode(alloc: Global, columns: &[PlSmallStr]) -> Result<Value, AllocError>
-    ensures { IfOk result (λ v. view v ≡ explode_data columns.now) }
-{
-    let columns = done!(names(alloc, columns));
-    only(alloc, "columns", columns)
-}
-
-/// The object of a count of the rows of files.
-#[tactic(auto, unfolding(crate::specs::Functions::count_data))]
-fn count(
-    alloc: Global,
-    from: &ScanSources,
-    format: &FileScan,
-    alias: &Option<PlSmallStr>,
-) -> Result<Value, AllocError>
-    ensures { IfOk result (λ v. view v ≡ count_data from.now format.now alias.now) }
-{
-    let sources = done!(sources(alloc, from));
-    let mut map = Map::new(alloc);
-    done!(put(&mut map, alloc, "sources", sources));
-    done!(put_optional_name(&mut map, alloc, "alias", alias));
-    done!(put_text(&mut map, alloc, "kind", format.name()));
-    Ok(Value::Object(map))
-}
-
-/// The name of a function.
-fn name_of(function: &FunctionIR) -> &'static str
-    ensures { result.now ≡ frame_function_name function.now }
+/// The name of a function of whole frames in a document, as `Unpivot`.
+pub fn frame_function_name(function: &FunctionIR) -> &'static str
+    ensures { result.now ≡ function_text function.now }
 {
     match function {
         FunctionIR::Rename { .. } => "Rename",
@@ -109,36 +27,6 @@ fn name_of(function: &FunctionIR) -> &'static str
         FunctionIR::Explode { .. } => "Explode",
         FunctionIR::FastCount { .. } => "FastCount",
     }
-}
-
-/// The object of what a function is told.
-fn told(alloc: Global, function: &FunctionIR) -> Result<Value, AllocError>
-    ensures { IfOk result (λ v. view v ≡ told_data function.now) }
-{
-    match function {
-        FunctionIR::Rename {
-            existing,
-            new,
-            swapping,
-        } => rename(alloc, existing.as_slice(), new.as_slice(), *swapping),
-        FunctionIR::RowIndex { name, offset } => numbering(alloc, name.as_str(), *offset),
-        FunctionIR::Unpivot { args } => unpivot(alloc, args),
-        FunctionIR::Explode { columns } => explode(alloc, columns.as_slice()),
-        FunctionIR::FastCount {
-            sources,
-            scan_type,
-            alias,
-        } => count(alloc, sources, scan_type, alias),
-    }
-}
-
-/// The object of a function, under its name.
-#[tactic(auto, unfolding(crate::specs::Functions::frame_function_data))]
-pub fn frame_function(alloc: Global, function: &FunctionIR) -> Result<Value, AllocError>
-    ensures { IfOk result (λ v. view v ≡ frame_function_data function.now) }
-{
-    let told = done!(told(alloc, function));
-    only(alloc, name_of(function), told)
 }
 
 /// Writes the object of a renaming.
@@ -304,7 +192,7 @@ pub fn write_frame_function(writer: &mut Writer, function: &FunctionIR) -> Resul
     ensures before { OnOk result (writer.new.before ≡ writer.old.before) }
 {
     done!(writer.begin_object());
-    done!(writer.key(name_of(function)));
+    done!(writer.key(frame_function_name(function)));
     done!(write_told(writer, function));
     writer.end_object()
 }

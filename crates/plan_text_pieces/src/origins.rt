@@ -5,7 +5,7 @@ ghost use Rattle.plan_text_pieces.specs.Origins.{name_text, origin_text};
 use plan_expr::OutputName;
 
 /// Where an output name comes from: `none`, `lit`, `col` or `alias`.
-pub fn origin(name: &OutputName) -> &'static str
+pub fn origin_name(name: &OutputName) -> &'static str
     ensures { result.now ≡ origin_text name.now }
 {
     match name {
@@ -17,7 +17,7 @@ pub fn origin(name: &OutputName) -> &'static str
 }
 
 /// An output name's text, empty where there is none.
-pub fn name_of(name: &OutputName) -> &str
+pub fn output_text(name: &OutputName) -> &str
     ensures { result.now ≡ name_text name.now }
 {
     match name {

@@ -2,6 +2,7 @@
 
 /// What a step gave; where it refused, the function ends with that. As `?`, but for its conversion of errors: where there
 /// is one type of errors, a function is about a sixth cheaper to prove without it.
+#[macro_export]
 macro_rules! done {
     ($given:expr) => {
         match $given {
@@ -10,5 +11,3 @@ macro_rules! done {
         }
     };
 }
-
-pub(crate) use done;

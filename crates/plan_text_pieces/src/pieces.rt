@@ -13,7 +13,7 @@ use plan_join::JoinTypeOptionsIR;
 use plan_scan::{HivePartitions, ScanSources};
 
 /// A value that is to be written.
-#[derive(Drop)]
+#[derive(Clone, Copy)]
 pub enum Piece<'a> {
     /// Null.
     Null,

@@ -1,45 +1,13 @@
-//! The object of what is read from, as a JSON value and as text.
-ghost use Rattle.std.specs.Prelude.{◌≡◌, ◌++◌, IfOk, OnOk};
+//! The object of what is read from, as text.
+ghost use Rattle.std.specs.Prelude.{◌≡◌, ◌++◌, OnOk};
 ghost use Rattle.json.specs.Tree.{json_tokens};
-ghost use Rattle.serde_json.specs.View.{view};
 ghost use Rattle.serde_json.specs.Written.{outline};
-ghost use Rattle.plan_text_pieces.specs.Values.{buffers_data, paths_data, sources_data};
+ghost use Rattle.plan_text_pieces.specs.Values.{sources_data};
 
-use crate::members::only;
-use crate::passing::done;
-use crate::values::{names, numbers};
 use crate::writing::{write_buffers, write_paths};
 use json::Writer;
-use plan_core::PlSmallStr;
 use plan_scan::ScanSources;
-use serde_json::Value;
-use std::alloc::{AllocError, Global};
-
-/// The object of paths.
-pub fn paths(alloc: Global, given: &[PlSmallStr]) -> Result<Value, AllocError>
-    ensures { IfOk result (λ v. view v ≡ paths_data given.now) }
-{
-    let paths = done!(names(alloc, given));
-    only(alloc, "paths", paths)
-}
-
-/// The object of the numbers of buffers.
-pub fn buffers(alloc: Global, given: &[u32]) -> Result<Value, AllocError>
-    ensures { IfOk result (λ v. view v ≡ buffers_data given.now) }
-{
-    let buffers = done!(numbers(alloc, given));
-    only(alloc, "buffers", buffers)
-}
-
-/// The object of paths, or of the numbers of buffers. Refuses for want of memory alone.
-pub fn sources(alloc: Global, given: &ScanSources) -> Result<Value, AllocError>
-    ensures { IfOk result (λ v. view v ≡ sources_data given.now) }
-{
-    match given {
-        ScanSources::Paths(given) => paths(alloc, given.as_slice()),
-        ScanSources::Buffers(given) => buffers(alloc, given.as_slice()),
-    }
-}
+use std::alloc::AllocError;
 
 /// Writes the object of paths, or of the numbers of buffers.
 pub fn write_sources(writer: &mut Writer, given: &ScanSources) -> Result<(), AllocError>

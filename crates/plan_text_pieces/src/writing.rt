@@ -7,12 +7,12 @@ ghost use Rattle.serde_json.specs.Written.{outline};
 ghost use Rattle.plan_text_pieces.specs.Pieces.{object_of, piece_data};
 ghost use Rattle.plan_text_pieces.specs.Values.{buffers_data, columns_data, field_data, link_data, list_data, names_data, number_data, options_data, output_data, outputs_data, paths_data, row_index_data, slice_data, truths_data, two_data};
 
+use crate::done;
 use crate::functions::write_frame_function;
 use crate::hive::write_hive_parts;
 use crate::join_options::write_kind_options;
 use crate::kinds::type_name;
-use crate::origins::{name_of, origin};
-use crate::passing::done;
+use crate::origins::{origin_name, output_text};
 use crate::pieces::Piece;
 use json::Writer;
 use plan_core::{DataType, Node, PlSmallStr, ProjectionOptions, RowIndex, Schema};
@@ -161,8 +161,8 @@ pub fn write_output(writer: &mut Writer, expr: &ExprIR) -> Result<(), AllocError
 {
     done!(writer.begin_array());
     done!(writer.u64(expr.node.0 as u64));
-    done!(writer.string(origin(&expr.output_name)));
-    done!(writer.string(name_of(&expr.output_name)));
+    done!(writer.string(origin_name(&expr.output_name)));
+    done!(writer.string(output_text(&expr.output_name)));
     writer.end_array()
 }
 

@@ -10,8 +10,8 @@ use Rattle.plan_scan.specs.declared.file_scan.FileScan.{FileScan}
 use Rattle.plan_scan.specs.declared.sources.ScanSources.{ScanSources}
 use Rattle.plan_doc_parts.specs.Parts.{◌>>=◌, nullable, name_of, names_of, number_of, truth_of}
 use Rattle.plan_doc_parts.specs.Members.{object_of, at, only_of}
-use Rattle.plan_doc_nodes.specs.Functions.{rename_of, numbering_of, unpivot_args_of, unpivot_of, explode_of, count_of, frame_function_of}
-use Rattle.plan_doc_nodes.specs.Scans.{files_of}
+use Rattle.plan_doc_scans.specs.Functions.{rename_of, numbering_of, unpivot_args_of, unpivot_of, explode_of, count_of, frame_function_of}
+use Rattle.plan_doc_scans.specs.Scans.{files_of}
 use Rattle.plan_text_pieces.specs.Functions.{rename_data, numbering_data, unpivot_data, explode_data, count_data, frame_function_data}
 use Rattle.plan_text_pieces.specs.Values.{number_data, nullable_data}
 use Rattle.plan_written.proofs.Gives.{gives2, gives3, gives4}

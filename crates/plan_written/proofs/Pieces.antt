@@ -13,7 +13,7 @@ use Rattle.plan_expr.specs.declared.expr_ir.OutputName.{OutputName}
 use Rattle.plan_expr.specs.declared.expr_ir.OutputName.TheVariants as names
 use Rattle.plan_doc_parts.specs.Parts.{◌>>=◌, each, entries_of, nullable, name_of, number_of, numbers_of, link_of, links_of, integer_of, truth_of, truths_of, two_of, three_of, names_of, column_of, column_names, are_distinct, distinct_columns, columns_of, output_name_of, output_of, outputs_of, slice_of, options_of}
 use Rattle.plan_doc_parts.proofs.EntryLemmas.{bind_some, some_is}
-use Rattle.plan_doc_nodes.specs.Scans.{row_index_of}
+use Rattle.plan_doc_scans.specs.Scans.{row_index_of}
 use Rattle.plan_text_pieces.specs.Origins.{origin_text, name_text}
 use Rattle.plan_text_pieces.specs.Values.{number_data, link_data, integer_data, list_data, nullable_data, field_data, columns_data, names_data, truths_data, output_data, outputs_data, options_data, slice_data, row_index_data}
 use Rattle.plan_written.proofs.Gives.{gives3, gives5}

@@ -17,9 +17,9 @@ use Rattle.plan_scan.specs.declared.sources.ScanSources.{ScanSources}
 use Rattle.plan_scan.specs.declared.sources.ScanSources.TheVariants as sources
 use Rattle.plan_doc_parts.specs.Parts.{nullable, name_of, number_of, numbers_of, truth_of, names_of, columns_of, output_of, slice_of}
 use Rattle.plan_doc_parts.specs.Members.{object_of, at}
-use Rattle.plan_doc_nodes.specs.Hive.{hive_parts_of}
+use Rattle.plan_doc_scans.specs.Hive.{hive_parts_of}
 use Rattle.plan_doc_nodes.specs.Nodes.{node_of}
-use Rattle.plan_doc_nodes.specs.Scans.{kind_of, paths_of, buffers_of, sources_of, files_of, file_info_of, row_index_of, beside_of, file_options_of, scan_keys, scan_of, frame_scan_of}
+use Rattle.plan_doc_scans.specs.Scans.{kind_of, paths_of, buffers_of, sources_of, files_of, file_info_of, row_index_of, beside_of, file_options_of, scan_keys, scan_of, frame_scan_of}
 use Rattle.plan_text_pieces.specs.Values.{number_data, list_data, nullable_data, names_data, row_index_data, sources_data}
 use Rattle.plan_text.specs.Nodes.{node_data, scan_data, frame_scan_data}
 use Rattle.plan_written.proofs.Gives.{gives2, gives4, gives7}

@@ -17,7 +17,7 @@ use Rattle.plan_scan.specs.declared.stats.ColumnStats.{ColumnStats}
 use Rattle.plan_doc_parts.specs.Parts.{◌>>=◌, each, entries_of, nullable, name_of, integer_of, truth_of, three_of, type_of, distinct_columns}
 use Rattle.plan_doc_parts.specs.Values.{typed_single_of, single_value_of, single_values_of, typed_value_of, any_value_of}
 use Rattle.plan_doc_parts.proofs.EntryLemmas.{bind_some, some_is}
-use Rattle.plan_doc_nodes.specs.Hive.{hive_column_of, distinct_stats, hive_part_of, hive_parts_of}
+use Rattle.plan_doc_scans.specs.Hive.{hive_column_of, distinct_stats, hive_part_of, hive_parts_of}
 use Rattle.plan_text_pieces.specs.Cells.{single_data, value_data}
 use Rattle.plan_text_pieces.specs.Hive.{hive_column_data, hive_part_data, hive_parts_data}
 use Rattle.plan_text_pieces.specs.Values.{integer_data, list_data, nullable_data}

@@ -13,7 +13,7 @@ unfolding Rattle.plan_text_pieces.specs.Functions.frame_function_data
 returns-clause-tokens c =
     let f = c.args.function.now in
     let told : Members = member (frame_function_name f) (outline (told_data f)) no_members in
-    let named = c.in-Ok-key.ensures.ok ∙ ap (λ (s : List ℕ). c.begin_object.new.self.tokens ++ tokens.key s ∷ []) c.name_of.ensures in
+    let named = c.in-Ok-key.ensures.ok ∙ ap (λ (s : List ℕ). c.begin_object.new.self.tokens ++ tokens.key s ∷ []) c.frame_function_name.ensures in
     on_ok_weaker c.end_object.result (λ ended.
     ended
     ∙ member-done _ _ _ _ (outline (told_data f)) no_members named c.in-Ok-write_told.ensures.tokens
