@@ -26,7 +26,7 @@ abbrev pub step_told : Taken → Step
 step_told (Leaf columns entry) = steps.Leaf columns entry.value
 step_told (Over input asked entry) = steps.Over input asked entry.value
 step_told (Closed columns entry) = steps.Closed columns entry.value
-step_told (Each inputs lists covers kept entry) = steps.Each inputs lists covers kept entry.value
+step_told (Each inputs lists covers rest) = steps.Each inputs lists covers rest.value.kept rest.value.entry
 
 -- a node that is asked names was taken: what is to be done at it is its step with what is to be kept of it, and the mark is set where it was or where the node counts rows
 pub record IsTaken (before after : Bool) (lp new : List IR) (ex : List AExpr) (asked : List Name) (n : Node) (step : Step) : Type 0 where

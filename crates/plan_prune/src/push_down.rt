@@ -25,14 +25,14 @@ ghost use Rattle.plan_expr.specs.declared.aexpr.AExpr.{AExpr as AExprType};
 ghost use Rattle.plan_prune.specs.Taken.{IsTaken, step_told, top_columns};
 ghost use Rattle.plan_prune.specs.Prunes.{AreInputs, InputsPruned, MarksAt, PrunesAt, PrunesUnder};
 
-use crate::taken::{Taken, boxed};
+use crate::taken::{Rest, Taken, boxed};
 use plan_core::{Arena, Names, Node, Schema};
 use plan_expr::AExpr;
 use plan_ir::IR;
 use plan_narrowing::copied_names;
 use plan_prune_joins::join;
+use plan_prune_parts::cover;
 use plan_prune_parts::cover::cover;
-use plan_prune_parts::{Kept, cover};
 use plan_prune_steps::{select, step};
 use std::alloc::{AllocError, Global};
 
@@ -98,21 +98,21 @@ fn put_closed(
 fn put_over(
     alloc: Global,
     node: Node,
-    entry: Box<IR>,
-    kept: Option<Kept>,
+    rest: Box<Rest>,
     is_asked: bool,
     lp: &mut Arena<IR>,
     ex: &mut Arena<AExpr>,
 ) -> Result<(), AllocError>
-    requires kind { (k : KeptType) → kept ≡ Some k → IsTrue (is_join entry.value) }
+    requires kind { (k : KeptType) → rest.value.kept ≡ Some k → IsTrue (is_join rest.value.entry) }
     requires node { node.0 < length lp.old }
-    requires exprs { StandExprs ex.old (roots_of entry.value) }
-    requires inputs { (t : Trees IRType) × StandsOnce plan_shape lp.old (inputs_of entry.value) t }
-    ensures placed { OnOk result (IsPutBack is_asked kept lp.old lp.new ex.old ex.new node entry.value) }
+    requires exprs { StandExprs ex.old (roots_of rest.value.entry) }
+    requires inputs { (t : Trees IRType) × StandsOnce plan_shape lp.old (inputs_of rest.value.entry) t }
+    ensures placed { OnOk result (IsPutBack is_asked rest.value.kept lp.old lp.new ex.old ex.new node rest.value.entry) }
     ensures grows { length lp.old ≤ length lp.new }
     ensures longer { IsLonger ex.old ex.new }
 {
-    step::put_over(alloc, node, Box::into_inner(entry), kept, is_asked, lp, ex)
+    let Rest { kept, entry } = Box::into_inner(rest);
+    step::put_over(alloc, node, entry, kept, is_asked, lp, ex)
 }
 
 /// Puts a node back at `node` whose inputs could not be pruned, and refuses as they did.
@@ -129,6 +129,24 @@ fn given_back(
     ensures grows { length lp.old ≤ length lp.new }
 {
     lp.put(node, Box::into_inner(entry));
+    Err(refused)
+}
+
+/// The same of a node with several inputs.
+#[inline(never)]
+fn rest_given_back(
+    node: Node,
+    rest: Box<Rest>,
+    refused: AllocError,
+    lp: &mut Arena<IR>,
+) -> Result<(), AllocError>
+    requires { node.0 < length lp.old }
+    ensures refused { result ≡ Err refused }
+    ensures back { lp.new ≡ slice_set lp.old node.0 rest.value.entry }
+    ensures grows { length lp.old ≤ length lp.new }
+{
+    let Rest { entry, .. } = Box::into_inner(rest);
+    lp.put(node, entry);
     Err(refused)
 }
 
@@ -246,13 +264,12 @@ impl ProjectionPushDown {
                 inputs,
                 asked,
                 covered,
-                kept,
-                entry,
+                rest,
             } => {
                 let (own, lists) = (inputs.as_slice(), asked.as_slice());
                 match self.push_inputs(alloc, own, lists, &covered, lp, ex) {
-                    Ok(()) => put_over(alloc, node, entry, kept, is_asked, lp, ex),
-                    Err(refused) => given_back(node, entry, refused, lp),
+                    Ok(()) => put_over(alloc, node, rest, is_asked, lp, ex),
+                    Err(refused) => rest_given_back(node, rest, refused, lp),
                 }
             }
         }
@@ -261,6 +278,7 @@ impl ProjectionPushDown {
     /// Prunes the plans at `inputs`, each to a list of names of its own, and marks whether they count rows; no names stand for every
     /// column. A projection to the names that cover them goes on top of each, where there are such.
     #[cycle(push)]
+    #[inline(never)]
     fn push_inputs(
         &mut self,
         alloc: Global,
@@ -286,6 +304,7 @@ impl ProjectionPushDown {
     /// Prunes the plan at `input` to the asked names, and marks whether it counts rows; no names stand for every column. Then a
     /// projection to the names that cover it goes on top, where there are such.
     #[cycle(push)]
+    #[inline(never)]
     fn push_input(
         &mut self,
         alloc: Global,

@@ -33,9 +33,17 @@ pub enum Taken {
         inputs: Items<Node>,
         asked: Items<Names>,
         covered: Option<Names>,
-        kept: Option<Kept>,
-        entry: Box<IR>,
+        rest: Box<Rest>,
     },
+}
+
+/// What stays of a node with several inputs while these are pruned.
+#[derive(Drop)]
+pub struct Rest {
+    /// What is kept of it, if it is a join that is asked names.
+    pub kept: Option<Kept>,
+    /// The node that goes back over its inputs.
+    pub entry: IR,
 }
 
 /// A step with its node in a box. Refuses for want of memory alone.
@@ -71,13 +79,12 @@ pub fn boxed(alloc: Global, step: Step) -> Result<Taken, AllocError>
             kept,
             entry,
         } => {
-            let entry = Box::new(alloc, entry)?;
+            let rest = Box::new(alloc, Rest { kept, entry })?;
             Ok(Taken::Each {
                 inputs,
                 asked,
                 covered,
-                kept,
-                entry,
+                rest,
             })
         }
     }

@@ -94,15 +94,15 @@ pub push_down-push_inputs-requires : goal.push_down-push_inputs-requires
 push_down-push_inputs-requires t c =
     let own : c.as_slice-own.result.now ≡ c.in-Each.inputs = c.as_slice-own.ensures in
     let listed : c.as_slice-lists.result.now ≡ c.in-Each.asked = c.as_slice-lists.ensures in
-    let low = each_falls c.args.asked c.args.lp.now c.take.new.lp c.args.ex.now c.args.node c.in-Each.inputs c.in-Each.asked c.in-Each.covered c.in_ok-columns.ensures.taken.entry c.in-Each.entry.value c.in_ok-columns.ensures.taken.left c.requires
-    c.in_ok-columns.ensures.taken.there c.in_ok-columns.ensures.taken.taken (each_taken c.args.self.now.is_count_star c.take.new.self.is_count_star c.args.lp.now c.take.new.lp c.args.ex.now c.args.asked c.args.node (step_told c.in_ok-columns.field-0) c.in_ok-columns.ensures.taken c.in-Each.inputs c.in-Each.asked c.in-Each.covered c.in-Each.kept c.in-Each.entry.value (ap step_told c.in-Each.is)) in
+    let low = each_falls c.args.asked c.args.lp.now c.take.new.lp c.args.ex.now c.args.node c.in-Each.inputs c.in-Each.asked c.in-Each.covered c.in_ok-columns.ensures.taken.entry c.in-Each.rest.value.entry c.in_ok-columns.ensures.taken.left c.requires
+    c.in_ok-columns.ensures.taken.there c.in_ok-columns.ensures.taken.taken (each_taken c.args.self.now.is_count_star c.take.new.self.is_count_star c.args.lp.now c.take.new.lp c.args.ex.now c.args.asked c.args.node (step_told c.in_ok-columns.field-0) c.in_ok-columns.ensures.taken c.in-Each.inputs c.in-Each.asked c.in-Each.covered c.in-Each.rest.value.kept c.in-Each.rest.value.entry (ap step_told c.in-Each.is)) in
     let same : tallest plan_shape (height plan_shape (length c.take.new.lp) c.take.new.lp) c.as_slice-own.result.now ≡ tallest plan_shape (height plan_shape (length c.take.new.lp) c.take.new.lp) c.in-Each.inputs = ap (tallest plan_shape (height plan_shape (length c.take.new.lp) c.take.new.lp)) own in (
       omega (arith, low, same, c.decreases),
       (
-        subst (λ (ns : List Node). AreInputs c.take.new.lp c.args.ex.now ns) (sym own) (each_inputs c.args.asked c.args.lp.now c.take.new.lp c.args.ex.now c.args.node c.in-Each.inputs c.in-Each.asked c.in-Each.covered c.in_ok-columns.ensures.taken.entry c.in-Each.entry.value c.in_ok-columns.ensures.taken.left c.requires
-            c.in_ok-columns.ensures.taken.there c.in_ok-columns.ensures.taken.taken (each_taken c.args.self.now.is_count_star c.take.new.self.is_count_star c.args.lp.now c.take.new.lp c.args.ex.now c.args.asked c.args.node (step_told c.in_ok-columns.field-0) c.in_ok-columns.ensures.taken c.in-Each.inputs c.in-Each.asked c.in-Each.covered c.in-Each.kept c.in-Each.entry.value (ap step_told c.in-Each.is))),
-        ap length listed ∙ each_long c.args.asked c.args.lp.now c.take.new.lp c.args.ex.now c.args.node c.in-Each.inputs c.in-Each.asked c.in-Each.covered c.in_ok-columns.ensures.taken.entry c.in-Each.entry.value c.in_ok-columns.ensures.taken.left c.requires
-            c.in_ok-columns.ensures.taken.there c.in_ok-columns.ensures.taken.taken (each_taken c.args.self.now.is_count_star c.take.new.self.is_count_star c.args.lp.now c.take.new.lp c.args.ex.now c.args.asked c.args.node (step_told c.in_ok-columns.field-0) c.in_ok-columns.ensures.taken c.in-Each.inputs c.in-Each.asked c.in-Each.covered c.in-Each.kept c.in-Each.entry.value (ap step_told c.in-Each.is)) ∙ sym (ap length own),
+        subst (λ (ns : List Node). AreInputs c.take.new.lp c.args.ex.now ns) (sym own) (each_inputs c.args.asked c.args.lp.now c.take.new.lp c.args.ex.now c.args.node c.in-Each.inputs c.in-Each.asked c.in-Each.covered c.in_ok-columns.ensures.taken.entry c.in-Each.rest.value.entry c.in_ok-columns.ensures.taken.left c.requires
+            c.in_ok-columns.ensures.taken.there c.in_ok-columns.ensures.taken.taken (each_taken c.args.self.now.is_count_star c.take.new.self.is_count_star c.args.lp.now c.take.new.lp c.args.ex.now c.args.asked c.args.node (step_told c.in_ok-columns.field-0) c.in_ok-columns.ensures.taken c.in-Each.inputs c.in-Each.asked c.in-Each.covered c.in-Each.rest.value.kept c.in-Each.rest.value.entry (ap step_told c.in-Each.is))),
+        ap length listed ∙ each_long c.args.asked c.args.lp.now c.take.new.lp c.args.ex.now c.args.node c.in-Each.inputs c.in-Each.asked c.in-Each.covered c.in_ok-columns.ensures.taken.entry c.in-Each.rest.value.entry c.in_ok-columns.ensures.taken.left c.requires
+            c.in_ok-columns.ensures.taken.there c.in_ok-columns.ensures.taken.taken (each_taken c.args.self.now.is_count_star c.take.new.self.is_count_star c.args.lp.now c.take.new.lp c.args.ex.now c.args.asked c.args.node (step_told c.in_ok-columns.field-0) c.in_ok-columns.ensures.taken c.in-Each.inputs c.in-Each.asked c.in-Each.covered c.in-Each.rest.value.kept c.in-Each.rest.value.entry (ap step_told c.in-Each.is)) ∙ sym (ap length own),
       ),
     )
 
@@ -113,35 +113,35 @@ pub push_down-put_over-requires-clause-inputs : goal.push_down-put_over-requires
 push_down-put_over-requires-clause-inputs t c =
     let own : c.as_slice-own.result.now ≡ c.in-Each.inputs = c.as_slice-own.ensures in
     let listed : c.as_slice-lists.result.now ≡ c.in-Each.asked = c.as_slice-lists.ensures in
-    each_left c.args.asked c.args.lp.now c.take.new.lp c.args.ex.now c.args.node c.in-Each.inputs c.in-Each.asked c.in-Each.covered c.in_ok-columns.ensures.taken.entry c.in-Each.entry.value c.in_ok-columns.ensures.taken.left c.requires
-    c.in_ok-columns.ensures.taken.there c.in_ok-columns.ensures.taken.taken (each_taken c.args.self.now.is_count_star c.take.new.self.is_count_star c.args.lp.now c.take.new.lp c.args.ex.now c.args.asked c.args.node (step_told c.in_ok-columns.field-0) c.in_ok-columns.ensures.taken c.in-Each.inputs c.in-Each.asked c.in-Each.covered c.in-Each.kept c.in-Each.entry.value (ap step_told c.in-Each.is))
+    each_left c.args.asked c.args.lp.now c.take.new.lp c.args.ex.now c.args.node c.in-Each.inputs c.in-Each.asked c.in-Each.covered c.in_ok-columns.ensures.taken.entry c.in-Each.rest.value.entry c.in_ok-columns.ensures.taken.left c.requires
+    c.in_ok-columns.ensures.taken.there c.in_ok-columns.ensures.taken.taken (each_taken c.args.self.now.is_count_star c.take.new.self.is_count_star c.args.lp.now c.take.new.lp c.args.ex.now c.args.asked c.args.node (step_told c.in_ok-columns.field-0) c.in_ok-columns.ensures.taken c.in-Each.inputs c.in-Each.asked c.in-Each.covered c.in-Each.rest.value.kept c.in-Each.rest.value.entry (ap step_told c.in-Each.is))
     c.take.new.self.is_count_star c.push_inputs.new.self.is_count_star c.push_inputs.new.lp c.push_inputs.new.ex (subst (λ (l : List (List Name)). InputsPruned c.take.new.self.is_count_star c.push_inputs.new.self.is_count_star c.in-Each.covered l c.take.new.lp c.push_inputs.new.lp c.args.ex.now c.push_inputs.new.ex c.in-Each.inputs) listed (subst (λ (ns : List Node). InputsPruned c.take.new.self.is_count_star c.push_inputs.new.self.is_count_star c.in-Each.covered c.as_slice-lists.result.now c.take.new.lp c.push_inputs.new.lp c.args.ex.now c.push_inputs.new.ex ns) own c.in-Ok-push_inputs.ensures.pruned))
 
 pub push_down-put_over-requires-clause-exprs : goal.push_down-put_over-requires-clause-exprs
-push_down-put_over-requires-clause-exprs t c = each_exprs c.args.asked c.args.lp.now c.take.new.lp c.args.ex.now c.args.node c.in-Each.inputs c.in-Each.asked c.in-Each.covered c.in_ok-columns.ensures.taken.entry c.in-Each.entry.value c.in_ok-columns.ensures.taken.left c.requires
-    c.in_ok-columns.ensures.taken.there c.in_ok-columns.ensures.taken.taken (each_taken c.args.self.now.is_count_star c.take.new.self.is_count_star c.args.lp.now c.take.new.lp c.args.ex.now c.args.asked c.args.node (step_told c.in_ok-columns.field-0) c.in_ok-columns.ensures.taken c.in-Each.inputs c.in-Each.asked c.in-Each.covered c.in-Each.kept c.in-Each.entry.value (ap step_told c.in-Each.is)) c.push_inputs.new.ex c.in-Ok-push_inputs.ensures.longer
+push_down-put_over-requires-clause-exprs t c = each_exprs c.args.asked c.args.lp.now c.take.new.lp c.args.ex.now c.args.node c.in-Each.inputs c.in-Each.asked c.in-Each.covered c.in_ok-columns.ensures.taken.entry c.in-Each.rest.value.entry c.in_ok-columns.ensures.taken.left c.requires
+    c.in_ok-columns.ensures.taken.there c.in_ok-columns.ensures.taken.taken (each_taken c.args.self.now.is_count_star c.take.new.self.is_count_star c.args.lp.now c.take.new.lp c.args.ex.now c.args.asked c.args.node (step_told c.in_ok-columns.field-0) c.in_ok-columns.ensures.taken c.in-Each.inputs c.in-Each.asked c.in-Each.covered c.in-Each.rest.value.kept c.in-Each.rest.value.entry (ap step_told c.in-Each.is)) c.push_inputs.new.ex c.in-Ok-push_inputs.ensures.longer
 
 pub push_down-put_over-requires-clause-kind : goal.push_down-put_over-requires-clause-kind
 push_down-put_over-requires-clause-kind t c = λ k some.
-    kept_join c.take.new.lp c.args.ex.now c.args.asked c.in-Each.inputs c.in-Each.asked c.in-Each.covered c.in-Each.kept k c.in_ok-columns.ensures.taken.entry c.in-Each.entry.value (kept_taken c.args.self.now.is_count_star c.take.new.self.is_count_star c.args.lp.now c.take.new.lp c.args.ex.now c.args.asked c.args.node (step_told c.in_ok-columns.field-0) c.in_ok-columns.ensures.taken c.in-Each.inputs c.in-Each.asked c.in-Each.covered c.in-Each.kept c.in-Each.entry.value (ap step_told c.in-Each.is)) some (each_taken c.args.self.now.is_count_star c.take.new.self.is_count_star c.args.lp.now c.take.new.lp c.args.ex.now c.args.asked c.args.node (step_told c.in_ok-columns.field-0) c.in_ok-columns.ensures.taken c.in-Each.inputs c.in-Each.asked c.in-Each.covered c.in-Each.kept c.in-Each.entry.value (ap step_told c.in-Each.is))
+    kept_join c.take.new.lp c.args.ex.now c.args.asked c.in-Each.inputs c.in-Each.asked c.in-Each.covered c.in-Each.rest.value.kept k c.in_ok-columns.ensures.taken.entry c.in-Each.rest.value.entry (kept_taken c.args.self.now.is_count_star c.take.new.self.is_count_star c.args.lp.now c.take.new.lp c.args.ex.now c.args.asked c.args.node (step_told c.in_ok-columns.field-0) c.in_ok-columns.ensures.taken c.in-Each.inputs c.in-Each.asked c.in-Each.covered c.in-Each.rest.value.kept c.in-Each.rest.value.entry (ap step_told c.in-Each.is)) some (each_taken c.args.self.now.is_count_star c.take.new.self.is_count_star c.args.lp.now c.take.new.lp c.args.ex.now c.args.asked c.args.node (step_told c.in_ok-columns.field-0) c.in_ok-columns.ensures.taken c.in-Each.inputs c.in-Each.asked c.in-Each.covered c.in-Each.rest.value.kept c.in-Each.rest.value.entry (ap step_told c.in-Each.is))
 
 pub push_down-returns-in-Ok-push_inputs-clause-prunes : goal.push_down-returns-in-Ok-push_inputs-clause-prunes
 push_down-returns-in-Ok-push_inputs-clause-prunes t c = on_ok_weaker c.put_over.result (λ back.
     let own : c.as_slice-own.result.now ≡ c.in-Each.inputs = c.as_slice-own.ensures in
     let listed : c.as_slice-lists.result.now ≡ c.in-Each.asked = c.as_slice-lists.ensures in
     let top = not c.args.self.now.is_count_star in
-    each_step c.args.asked c.args.lp.now c.take.new.lp c.args.ex.now c.args.node c.in-Each.inputs c.in-Each.asked c.in-Each.covered c.in_ok-columns.ensures.taken.entry c.in-Each.entry.value c.in_ok-columns.ensures.taken.left c.requires
-    c.in_ok-columns.ensures.taken.there c.in_ok-columns.ensures.taken.taken (each_taken c.args.self.now.is_count_star c.take.new.self.is_count_star c.args.lp.now c.take.new.lp c.args.ex.now c.args.asked c.args.node (step_told c.in_ok-columns.field-0) c.in_ok-columns.ensures.taken c.in-Each.inputs c.in-Each.asked c.in-Each.covered c.in-Each.kept c.in-Each.entry.value (ap step_told c.in-Each.is))
-    top c.take.new.self.is_count_star c.push_inputs.new.self.is_count_star c.in-Each.kept c.push_inputs.new.lp c.put_over.new.lp c.push_inputs.new.ex c.put_over.new.ex
-    (top_marked c.args.self.now.is_count_star (is_count (op_at c.args.ex.now c.in_ok-columns.ensures.taken.entry)) c.take.new.self.is_count_star c.in_ok-columns.ensures.taken.marked) (kept_taken c.args.self.now.is_count_star c.take.new.self.is_count_star c.args.lp.now c.take.new.lp c.args.ex.now c.args.asked c.args.node (step_told c.in_ok-columns.field-0) c.in_ok-columns.ensures.taken c.in-Each.inputs c.in-Each.asked c.in-Each.covered c.in-Each.kept c.in-Each.entry.value (ap step_told c.in-Each.is)) (subst (λ (l : List (List Name)). InputsPruned c.take.new.self.is_count_star c.push_inputs.new.self.is_count_star c.in-Each.covered l c.take.new.lp c.push_inputs.new.lp c.args.ex.now c.push_inputs.new.ex c.in-Each.inputs) listed (subst (λ (ns : List Node). InputsPruned c.take.new.self.is_count_star c.push_inputs.new.self.is_count_star c.in-Each.covered c.as_slice-lists.result.now c.take.new.lp c.push_inputs.new.lp c.args.ex.now c.push_inputs.new.ex ns) own c.in-Ok-push_inputs.ensures.pruned)) c.in-Ok-push_inputs.ensures.longer c.put_over.ensures.longer
-    (subst (λ (some : Bool). IsPutBack some c.in-Each.kept c.push_inputs.new.lp c.put_over.new.lp c.push_inputs.new.ex c.put_over.new.ex c.args.node c.in-Each.entry.value) (some_len c.args.asked c.len-is_asked.result c.len-is_asked.ensures.value) back)) c.put_over.ensures.placed
+    each_step c.args.asked c.args.lp.now c.take.new.lp c.args.ex.now c.args.node c.in-Each.inputs c.in-Each.asked c.in-Each.covered c.in_ok-columns.ensures.taken.entry c.in-Each.rest.value.entry c.in_ok-columns.ensures.taken.left c.requires
+    c.in_ok-columns.ensures.taken.there c.in_ok-columns.ensures.taken.taken (each_taken c.args.self.now.is_count_star c.take.new.self.is_count_star c.args.lp.now c.take.new.lp c.args.ex.now c.args.asked c.args.node (step_told c.in_ok-columns.field-0) c.in_ok-columns.ensures.taken c.in-Each.inputs c.in-Each.asked c.in-Each.covered c.in-Each.rest.value.kept c.in-Each.rest.value.entry (ap step_told c.in-Each.is))
+    top c.take.new.self.is_count_star c.push_inputs.new.self.is_count_star c.in-Each.rest.value.kept c.push_inputs.new.lp c.put_over.new.lp c.push_inputs.new.ex c.put_over.new.ex
+    (top_marked c.args.self.now.is_count_star (is_count (op_at c.args.ex.now c.in_ok-columns.ensures.taken.entry)) c.take.new.self.is_count_star c.in_ok-columns.ensures.taken.marked) (kept_taken c.args.self.now.is_count_star c.take.new.self.is_count_star c.args.lp.now c.take.new.lp c.args.ex.now c.args.asked c.args.node (step_told c.in_ok-columns.field-0) c.in_ok-columns.ensures.taken c.in-Each.inputs c.in-Each.asked c.in-Each.covered c.in-Each.rest.value.kept c.in-Each.rest.value.entry (ap step_told c.in-Each.is)) (subst (λ (l : List (List Name)). InputsPruned c.take.new.self.is_count_star c.push_inputs.new.self.is_count_star c.in-Each.covered l c.take.new.lp c.push_inputs.new.lp c.args.ex.now c.push_inputs.new.ex c.in-Each.inputs) listed (subst (λ (ns : List Node). InputsPruned c.take.new.self.is_count_star c.push_inputs.new.self.is_count_star c.in-Each.covered c.as_slice-lists.result.now c.take.new.lp c.push_inputs.new.lp c.args.ex.now c.push_inputs.new.ex ns) own c.in-Ok-push_inputs.ensures.pruned)) c.in-Ok-push_inputs.ensures.longer c.put_over.ensures.longer
+    (subst (λ (some : Bool). IsPutBack some c.in-Each.rest.value.kept c.push_inputs.new.lp c.put_over.new.lp c.push_inputs.new.ex c.put_over.new.ex c.args.node c.in-Each.rest.value.entry) (some_len c.args.asked c.len-is_asked.result c.len-is_asked.ensures.value) back)) c.put_over.ensures.placed
 
 pub push_down-returns-in-Ok-push_inputs-clause-marks : goal.push_down-returns-in-Ok-push_inputs-clause-marks
 push_down-returns-in-Ok-push_inputs-clause-marks t c = on_ok_weaker c.put_over.result (λ back.
     let own : c.as_slice-own.result.now ≡ c.in-Each.inputs = c.as_slice-own.ensures in
     let listed : c.as_slice-lists.result.now ≡ c.in-Each.asked = c.as_slice-lists.ensures in
-    each_mark c.args.asked c.args.lp.now c.take.new.lp c.args.ex.now c.args.node c.in-Each.inputs c.in-Each.asked c.in-Each.covered c.in_ok-columns.ensures.taken.entry c.in-Each.entry.value c.in_ok-columns.ensures.taken.left c.requires
-    c.in_ok-columns.ensures.taken.there c.in_ok-columns.ensures.taken.taken (each_taken c.args.self.now.is_count_star c.take.new.self.is_count_star c.args.lp.now c.take.new.lp c.args.ex.now c.args.asked c.args.node (step_told c.in_ok-columns.field-0) c.in_ok-columns.ensures.taken c.in-Each.inputs c.in-Each.asked c.in-Each.covered c.in-Each.kept c.in-Each.entry.value (ap step_told c.in-Each.is))
+    each_mark c.args.asked c.args.lp.now c.take.new.lp c.args.ex.now c.args.node c.in-Each.inputs c.in-Each.asked c.in-Each.covered c.in_ok-columns.ensures.taken.entry c.in-Each.rest.value.entry c.in_ok-columns.ensures.taken.left c.requires
+    c.in_ok-columns.ensures.taken.there c.in_ok-columns.ensures.taken.taken (each_taken c.args.self.now.is_count_star c.take.new.self.is_count_star c.args.lp.now c.take.new.lp c.args.ex.now c.args.asked c.args.node (step_told c.in_ok-columns.field-0) c.in_ok-columns.ensures.taken c.in-Each.inputs c.in-Each.asked c.in-Each.covered c.in-Each.rest.value.kept c.in-Each.rest.value.entry (ap step_told c.in-Each.is))
     c.args.self.now.is_count_star c.take.new.self.is_count_star c.push_inputs.new.self.is_count_star c.push_inputs.new.lp c.push_inputs.new.ex c.in_ok-columns.ensures.taken.marked (subst (λ (l : List (List Name)). InputsPruned c.take.new.self.is_count_star c.push_inputs.new.self.is_count_star c.in-Each.covered l c.take.new.lp c.push_inputs.new.lp c.args.ex.now c.push_inputs.new.ex c.in-Each.inputs) listed (subst (λ (ns : List Node). InputsPruned c.take.new.self.is_count_star c.push_inputs.new.self.is_count_star c.in-Each.covered c.as_slice-lists.result.now c.take.new.lp c.push_inputs.new.lp c.args.ex.now c.push_inputs.new.ex ns) own c.in-Ok-push_inputs.ensures.pruned))) c.put_over.ensures.placed
 
 pub push_down-returns-in-Ok-push_inputs-clause-stays : goal.push_down-returns-in-Ok-push_inputs-clause-stays
@@ -155,8 +155,8 @@ push_down-returns-in-Ok-push_inputs-clause-longer t c = longer_trans c.args.ex.n
 pub push_down-given_back-requires : goal.push_down-given_back-requires
 push_down-given_back-requires t c = entry_stays c.args.lp.now c.take.new.lp c.push_down.new.lp c.args.node c.in_ok-columns.ensures.taken.entry c.in_ok-columns.ensures.taken.left c.in_ok-columns.ensures.taken.there c.in_ok-columns.ensures.taken.taken c.in-Err.ensures.grows
 
-pub push_down-given_back-requires-in-Err-push_inputs : goal.push_down-given_back-requires-in-Err-push_inputs
-push_down-given_back-requires-in-Err-push_inputs t c = entry_stays c.args.lp.now c.take.new.lp c.push_inputs.new.lp c.args.node c.in_ok-columns.ensures.taken.entry c.in_ok-columns.ensures.taken.left c.in_ok-columns.ensures.taken.there c.in_ok-columns.ensures.taken.taken c.in-Err-push_inputs.ensures.grows
+pub push_down-rest_given_back-requires : goal.push_down-rest_given_back-requires
+push_down-rest_given_back-requires t c = entry_stays c.args.lp.now c.take.new.lp c.push_inputs.new.lp c.args.node c.in_ok-columns.ensures.taken.entry c.in_ok-columns.ensures.taken.left c.in_ok-columns.ensures.taken.there c.in_ok-columns.ensures.taken.taken c.in-Err-push_inputs.ensures.grows
 
 pub push_down-returns-in-Over-clause-stays : goal.push_down-returns-in-Over-clause-stays
 push_down-returns-in-Over-clause-stays t c = λ e. c.in-Err.ensures.stays (c.take.ensures.stays e)
