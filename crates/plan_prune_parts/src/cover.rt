@@ -1,6 +1,6 @@
 //! A projection to the asked names on top of a node: the node moves to a new number, and the projection takes its own.
 //! Asked nothing, the node stays.
-ghost use Rattle.std.specs.Prelude.{◌≡◌, ◌<◌, ◌≤◌, List, [], ◌∷◌, OnOk, length};
+ghost use Rattle.std.specs.Prelude.{◌≡◌, ◌<◌, ◌≤◌, List, [], ◌∷◌, IfOk, OnOk, length};
 ghost use Rattle.plan_tree.specs.Stands.{Trees, StandsOnce};
 ghost use Rattle.plan_expr.specs.declared.aexpr.AExpr.{AExpr};
 ghost use Rattle.plan_ir.specs.declared.ir.IR.{IR};
@@ -53,6 +53,24 @@ pub fn put(
     }
 }
 
+/// The columns of a projection to the asked names on top of what stands at `node`; none where no names are asked. Refuses for want of
+/// memory alone.
+fn asked_at(
+    alloc: Global,
+    asked: &Names,
+    node: Node,
+    lp: &Arena<IR>,
+) -> Result<Option<Schema>, AllocError>
+    requires { (t : Trees IR) × StandsOnce plan_shape lp.now (node ∷ []) t }
+    ensures { IfOk result (λ columns. (ex : List AExpr) → columns ≡ asked_of asked.now (columns_at lp.now ex node)) }
+{
+    if asked.len() == 0 {
+        return Ok(None);
+    }
+    let stored = stored_schema(alloc, node, lp)?;
+    Ok(asked_columns(alloc, asked, stored.columns())?)
+}
+
 /// Puts a projection to the asked names on top of what stands at `node`. Refuses for want of memory alone, and then nothing
 /// is known of what stands at `node`.
 pub fn cover(alloc: Global, node: Node, asked: &Names, lp: &mut Arena<IR>) -> Result<(), AllocError>
@@ -60,8 +78,7 @@ pub fn cover(alloc: Global, node: Node, asked: &Names, lp: &mut Arena<IR>) -> Re
     ensures placed { OnOk result ((ex : List AExpr) → lp.new ≡ covered_at (asked_of asked.now (columns_at lp.old ex node)) lp.old node) }
     ensures grows { length lp.old ≤ length lp.new }
 {
-    let columns = asked_columns(alloc, asked, stored_schema(alloc, node, lp)?.columns())?;
-    match columns {
+    match asked_at(alloc, asked, node, lp)? {
         Some(columns) => {
             let entry = lp.take(node);
             put_under(node, entry, columns, lp)
