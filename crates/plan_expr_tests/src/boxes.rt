@@ -208,7 +208,9 @@ fn no_columns(alloc: Global) -> Expr {
 /// Whether no columns are their copy.
 fn no_columns_are_copied(alloc: Global) -> Result<bool, AllocError> {
     let none = no_columns(alloc);
-    is_copied(alloc, &none)
+    let found = is_copied(alloc, &none);
+    drop(none);
+    found
 }
 
 const TOLD: &[Told] = &[

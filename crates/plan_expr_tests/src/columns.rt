@@ -24,9 +24,17 @@ fn a_and_its_sum(alloc: Global) -> Result<Vec<Expr>, AllocError> {
     Ok(exprs)
 }
 
+/// What the column a and its sum make.
+fn both_made(alloc: Global, context: Context) -> PolarsResult<Schema> {
+    let exprs = a_and_its_sum(alloc)?;
+    let found = made(alloc, exprs.as_slice(), context);
+    drop(exprs);
+    found
+}
+
 /// Whether the column a and its sum make columns of these types.
 fn are_made(alloc: Global, context: Context, a: DataType) -> PolarsResult<bool> {
-    let found = made(alloc, a_and_its_sum(alloc)?.as_slice(), context)?;
+    let found = both_made(alloc, context)?;
     let wanted = schema(alloc, &[("a", a), ("s", DataType::Int64)])?;
     Ok(found == wanted)
 }
