@@ -1,6 +1,6 @@
 -- The columns that a condition reads of a join: over them it is what it is over all, and in a row what it is of that pair alone.
-use Rattle.std.proofs.Common.{◌≡◌, ◌∙◌, ◌++◌, ◌<◌, ℕ, zero, suc, Bool, true, false, true≢false, cond, List, [], ◌∷◌, ◌+◌, map, length, take, drop, drop-cons, get_or, Option, None, Some, refl, sym, ap, ap₂, subst, arith, append_assoc}
-use Rattle.std.specs.List.{AllByRecursion, IsDistinct, filter as only_where, range_with_len}
+use Rattle.std.proofs.Common.{◌≡◌, ◌∙◌, ◌++◌, ◌<◌, ℕ, zero, suc, Bool, true, false, true≢false, cond, List, [], ◌∷◌, map, length, take, drop, drop-cons, get_or, Option, None, Some, refl, sym, ap, ap₂, subst, arith, append_assoc}
+use Rattle.std.specs.List.{AllByRecursion, IsDistinct, filter as only_where}
 use Rattle.std.specs.Str.{bytes_eq}
 use Rattle.std.proofs.lemmas.List.{map-append, take-append-drop}
 use Rattle.std.proofs.lemmas.List.Elements.{filter-append}
@@ -16,11 +16,11 @@ use Rattle.plan_expr.specs.Exprs.{Expr, expr_at}
 use Rattle.plan_expr.specs.Leaves.{Name, leaves}
 use Rattle.plan_frame.specs.Frames.{Column, Frame, Agree, column_or, found, picked_columns, row, rows_at}
 use Rattle.plan_frame.specs.Meaning.{Cell, val, value_at}
-use Rattle.plan_frame.specs.Values.{Value, is_true, null}
+use Rattle.plan_frame.specs.Values.{Value, is_true}
 use Rattle.plan_frame.proofs.Depends.{val_depends}
 use Rattle.plan_frame.proofs.FrameLemmas.{length-map}
 use Rattle.plan_frame.proofs.NameSets.{has-once, named}
-use Rattle.plan_elementwise.specs.CellRows.{IsEven, cell_rows}
+use Rattle.plan_elementwise.specs.CellRows.{IsEven}
 use Rattle.plan_elementwise.proofs.RowWise.{elementwise_rows, value_of_rows}
 use Rattle.plan_join.proofs.ColumnLemmas.{is_new}
 use Rattle.plan_join.specs.declared.origin.Side.{Side}

@@ -25,7 +25,7 @@ use Rattle.plan_table.specs.declared.column.Column.{Column as Typed}
 use Rattle.plan_table.specs.declared.table.Table.{Table}
 use Rattle.plan_table.specs.Tables.{types_of}
 use Rattle.plan_value.specs.Shown.{columns_shown, frame_of, schema_of, values_of}
-use Rattle.plan_join_eval.specs.Along.{filling, left_column, right_column, slot, value_along}
+use Rattle.plan_join_eval.specs.Along.{filled_column, filling, left_column, right_column, slot, value_along}
 use Rattle.plan_join_eval.specs.Fills.{ArePartners}
 use Rattle.plan_join_eval.proofs.AlongLemmas.{null-row}
 use Rattle.plan_join_eval.proofs.FillLemmas.{differs, named_at, names_long, place_within}
@@ -121,7 +121,7 @@ pub names_shown : (cs : List Typed) → column_names (columns_shown cs) ≡ name
 names_shown [] = refl
 names_shown (c ∷ cs) = ap (λ (names : List Name). c.name ∷ names) (names_shown cs)
 
-module _ (args : JoinArgs) (lk rk : List Name) (ps : List RowPair) (left right : Table) (places : List (Option ℕ)) where
+module _ (args : JoinArgs) (lk rk : List Name) (ps : List RowPair) (left right : Table) where
   abbrev s : Columns
   s = schema_of left
 
@@ -132,10 +132,7 @@ module _ (args : JoinArgs) (lk rk : List Name) (ps : List RowPair) (left right :
   fill = filler args lk rk
 
   abbrev own_left : Name → Column
-  own_left = left_column s places (frame_of left) (frame_of right) ps
-
-  abbrev left_under : Name → Column
-  left_under = under (length ps) (λ a. a) (λ a. map (side_value fill (frame_of left) (frame_of right) (sides.Left, a)) ps)
+  own_left = filled_column fill (frame_of left) (frame_of right) ps
 
   abbrev right_call : Name → Name
   right_call = right_name (suffix_of args) (names_of (left_rest args lk s))
@@ -146,17 +143,20 @@ module _ (args : JoinArgs) (lk rk : List Name) (ps : List RowPair) (left right :
   abbrev right_under : Name → Column
   right_under = under (length ps) right_call (λ a. map (side_value fill (frame_of left) (frame_of right) (sides.Right, a)) ps)
 
-  module _ (once-left : HasDistinctNames s) (once-right : HasDistinctNames t) (are : ArePartners s t fill places) where
-    lefts : map own_left (names_of (left_rest args lk s)) ≡ map left_under (names_of (left_rest args lk s))
-    lefts = subst (λ (cs : Columns). map own_left (names_of cs) ≡ map left_under (names_of cs)) (sym (left-where args lk s))
-        (same_where own_left left_under (λ (c : Name × DataType). puts_out_left args lk c.0) s
-        (each (λ c. type_of s c.0 ≡ Some c.1) (λ c. own_left c.0 ≡ left_under c.0) s (own-types s once-left)
+  module _ (places : List (Option ℕ)) where
+    abbrev placed_left : Name → Column
+    placed_left = left_column s places (frame_of left) (frame_of right) ps
+
+    pub lefts-filled : HasDistinctNames s → HasDistinctNames t → ArePartners s t fill places → map placed_left (names_of (left_rest args lk s)) ≡ map own_left (names_of (left_rest args lk s))
+    lefts-filled once-left once-right are = subst (λ (cs : Columns). map placed_left (names_of cs) ≡ map own_left (names_of cs)) (sym (left-where args lk s))
+        (same_where placed_left own_left (λ (c : Name × DataType). puts_out_left args lk c.0) s
+        (each (λ c. type_of s c.0 ≡ Some c.1) (λ c. placed_left c.0 ≡ own_left c.0) s (own-types s once-left)
         (λ c is. ap (λ (vs : List Value). record { name = c.0; values = vs }) (left_values s right fill places once-right are (frame_of left) c.0 c.1 ps is))))
 
-    rights : map own_right (names_of (right_rest args rk t)) ≡ map right_under (names_of (right_rest args rk t))
-    rights = same_each own_right right_under (names_of (right_rest args rk t)) (λ a. ap (λ (vs : List Value). record { name = right_call a; values = vs }) (right_values fill (frame_of left) (frame_of right) a ps))
+  rights : map own_right (names_of (right_rest args rk t)) ≡ map right_under (names_of (right_rest args rk t))
+  rights = same_each own_right right_under (names_of (right_rest args rk t)) (λ a. ap (λ (vs : List Value). record { name = right_call a; values = vs }) (right_values fill (frame_of left) (frame_of right) a ps))
 
-    pub table-joined : map own_left (names_of (left_rest args lk s)) ++ map own_right (names_of (right_rest args rk t)) ≡ (joined args lk rk ps (frame_of left) (frame_of right)).columns
-    table-joined =
-        ap₂ (λ (xs ys : List Column). xs ++ ys) (lefts ∙ ap (map left_under) (sym (left-names args lk s))) (rights ∙ ap (map right_under) (sym (right-names args rk t)))
-        ∙ sym (parts args lk rk ps (frame_of left) (frame_of right) s t (names_shown left.columns) (names_shown right.columns))
+  pub table-joined : map own_left (names_of (left_rest args lk s)) ++ map own_right (names_of (right_rest args rk t)) ≡ (joined args lk rk ps (frame_of left) (frame_of right)).columns
+  table-joined =
+      ap₂ (λ (xs ys : List Column). xs ++ ys) (ap (map own_left) (sym (left-names args lk s))) (rights ∙ ap (map right_under) (sym (right-names args rk t)))
+      ∙ sym (parts args lk rk ps (frame_of left) (frame_of right) s t (names_shown left.columns) (names_shown right.columns))

@@ -6,7 +6,8 @@ use Rattle.plan_core.specs.Columns.{Columns, place_of}
 use Rattle.plan_expr.specs.Leaves.{Name}
 use Rattle.plan_frame.specs.Values.{Value, null}
 use Rattle.plan_pairs.specs.declared.pairs.RowPair.{RowPair}
-use Rattle.plan_joined.specs.Joined.{value_or}
+use Rattle.plan_join.specs.declared.origin.Side.TheVariants as sides
+use Rattle.plan_joined.specs.Joined.{side_value, value_or}
 
 -- the row of a side in a pair, of the right one or of the left, if there is one
 abbrev pub place_in : (of_right : Bool) → RowPair → Option ℕ
@@ -29,6 +30,10 @@ filling g (Some k) = option_map_or (λ (c : Column). c.values) (slice_get g.colu
 -- a left column along pairs: null where its row is absent, but for the values of the column that fills it
 abbrev pub left_column : Columns → List (Option ℕ) → (f g : Frame) → List RowPair → Name → Column
 left_column places fills f g ps a = record { name = a; values = map (value_along false (column_or f a) (filling g (option_and_then (slot fills) (place_of places a)))) ps }
+
+-- a left column along pairs: null where its row is absent, but for the values of the right key that fills it
+abbrev pub filled_column : (fill : Name → Option Name) → (f g : Frame) → List RowPair → Name → Column
+filled_column fill f g ps a = record { name = a; values = map (side_value fill f g (sides.Left, a)) ps }
 
 -- a right column along pairs, under the name that it gets: null where its row is absent
 abbrev pub right_column : (call : Name → Name) → Frame → List RowPair → Name → Column

@@ -4,9 +4,11 @@ ghost use Rattle.plan_core.specs.Columns.{HasDistinctNames, names_of};
 ghost use Rattle.plan_core.specs.Names.{has};
 ghost use Rattle.plan_frame.specs.Frames.{column_or, row};
 ghost use Rattle.plan_frame.specs.Values.{null};
-ghost use Rattle.plan_join.specs.Naming.{join_columns, key_columns, right_name as named_right, with_right, LieIn};
-ghost use Rattle.plan_join_eval.specs.Along.{filling, left_column, place_in, right_column, slot, value_along};
+ghost use Rattle.plan_join.specs.Naming.{join_columns, key_columns, left_rest as rest_of_left, right_name as named_right, right_rest as rest_of_right, with_right, LieIn};
+ghost use Rattle.plan_join_eval.specs.Along.{filled_column, filling, left_column, place_in, right_column, slot, value_along};
+ghost use Rattle.plan_join_eval.specs.Fills.{ArePartners};
 ghost use Rattle.plan_joined.specs.Joined.{joined as joined_of};
+ghost use Rattle.plan_joined.specs.Sides.{filler};
 ghost use Rattle.plan_table.specs.Tables.{types_of};
 ghost use Rattle.plan_value.specs.Shown.{columns_shown, column_shown, frame_of, schema_of, value_of, values_of};
 
@@ -157,6 +159,80 @@ fn with_rights(
     Ok(columns)
 }
 
+/// The left columns that a join puts out, with their types.
+pub fn lefts_of(
+    alloc: Global,
+    args: &JoinArgs,
+    left_on: &[ExprIR],
+    left: &Table,
+    ex: &Arena<AExpr>,
+) -> Result<Schema, AllocError>
+    requires { LieIn ex.now left_on.now }
+    ensures { IfOk result (λ columns. columns ≡ rest_of_left args.now (key_columns ex.now left_on.now) (schema_of left.now)) }
+{
+    let types = typed(alloc, &left.columns)?;
+    left_rest(alloc, args, left_on, &types, ex)
+}
+
+/// The right columns that a join puts out, with their types, under their own names.
+pub fn rights_of(
+    alloc: Global,
+    args: &JoinArgs,
+    right_on: &[ExprIR],
+    right: &Table,
+    ex: &Arena<AExpr>,
+) -> Result<Schema, AllocError>
+    requires { LieIn ex.now right_on.now }
+    ensures { IfOk result (λ columns. columns ≡ rest_of_right args.now (key_columns ex.now right_on.now) (schema_of right.now)) }
+{
+    let types = typed(alloc, &right.columns)?;
+    right_rest(alloc, args, right_on, &types, ex)
+}
+
+/// For each left column the place of the column of the right table that fills it, if one does.
+fn fills_from(
+    alloc: Global,
+    args: &JoinArgs,
+    left_on: &[ExprIR],
+    right_on: &[ExprIR],
+    places: &Schema,
+    right: &Table,
+    ex: &Arena<AExpr>,
+) -> Result<Vec<Option<usize>>, AllocError>
+    requires left_keys { LieIn ex.now left_on.now }
+    requires right_keys { LieIn ex.now right_on.now }
+    requires distinct { HasDistinctNames places.now }
+    ensures fills { IfOk result (λ fills. ArePartners places.now (schema_of right.now) (filler args.now (key_columns ex.now left_on.now) (key_columns ex.now right_on.now)) fills.items) }
+    ensures distinct { IfOk result (λ _. HasDistinctNames (schema_of right.now)) }
+{
+    let types = typed(alloc, &right.columns)?;
+    fillers(alloc, args, left_on, right_on, places, &types, ex)
+}
+
+/// The left columns that a join puts out, along pairs of rows: null where the left row is absent, but for a key that a right
+/// one fills.
+fn filled_lefts(
+    alloc: Global,
+    left: &Table,
+    right: &Table,
+    args: &JoinArgs,
+    left_on: &[ExprIR],
+    right_on: &[ExprIR],
+    lefts: &Schema,
+    ex: &Arena<AExpr>,
+    pairs: &[RowPair],
+) -> Result<Columns, AllocError>
+    requires left_keys { LieIn ex.now left_on.now }
+    requires right_keys { LieIn ex.now right_on.now }
+    requires lefts { lefts.now ≡ rest_of_left args.now (key_columns ex.now left_on.now) (schema_of left.now) }
+    ensures shown { IfOk result (λ made. columns_shown made ≡ map (filled_column (filler args.now (key_columns ex.now left_on.now) (key_columns ex.now right_on.now)) (frame_of left.now) (frame_of right.now) pairs.now) (names_of lefts.now)) }
+    ensures types { IfOk result (λ made. types_of made ≡ lefts.now) }
+{
+    let places = typed(alloc, &left.columns)?;
+    let fills = fills_from(alloc, args, left_on, right_on, &places, right, ex)?;
+    with_lefts(alloc, left, right, lefts, &places, &fills, pairs)
+}
+
 /// The table of a join of two along pairs of their rows: the columns that the join puts out, in order, null where the row of
 /// a side is absent, but for a left key that a right one fills. Refuses for want of memory alone.
 pub fn joined_table(
@@ -175,20 +251,11 @@ pub fn joined_table(
     ensures frame { IfOk result (λ t. frame_of t ≡ joined_of args.now (key_columns ex.now left_on.now) (key_columns ex.now right_on.now) pairs.now (frame_of left.now) (frame_of right.now)) }
     ensures types { IfOk result (λ t. schema_of t ≡ join_columns args.now (key_columns ex.now left_on.now) (key_columns ex.now right_on.now) (schema_of left.now) (schema_of right.now)) }
 {
-    let left_schema = typed(alloc, &left.columns)?;
-    let right_schema = typed(alloc, &right.columns)?;
-    let lefts = left_rest(alloc, args, left_on, &left_schema, ex)?;
-    let rights = right_rest(alloc, args, right_on, &right_schema, ex)?;
-    let fills = fillers(
-        alloc,
-        args,
-        left_on,
-        right_on,
-        &left_schema,
-        &right_schema,
-        ex,
+    let lefts = lefts_of(alloc, args, left_on, left, ex)?;
+    let rights = rights_of(alloc, args, right_on, right, ex)?;
+    let columns = filled_lefts(
+        alloc, left, right, args, left_on, right_on, &lefts, ex, pairs,
     )?;
-    let columns = with_lefts(alloc, left, right, &lefts, &left_schema, &fills, pairs)?;
     Ok(Table {
         height: pairs.len(),
         columns: with_rights(alloc, columns, args.suffix(), &lefts, right, &rights, pairs)?,

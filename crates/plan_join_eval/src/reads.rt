@@ -6,21 +6,20 @@ ghost use Rattle.plan_core.specs.Names.{has, with_names};
 ghost use Rattle.plan_expr.specs.Exprs.{expr_at};
 ghost use Rattle.plan_expr.specs.Leaves.{leaves};
 ghost use Rattle.plan_expr.specs.Operands.{IsExpr};
-ghost use Rattle.plan_join.specs.Naming.{join_columns, left_rest as rest_of_left, right_name as named_right, right_rest as rest_of_right};
+ghost use Rattle.plan_join.specs.Naming.{join_columns, right_name as named_right};
 ghost use Rattle.plan_join_eval.specs.Along.{right_column};
 ghost use Rattle.plan_join_eval.specs.Reads.{is_named, is_read, left_along, read_column as column_read, read_frame, read_type};
 ghost use Rattle.plan_joined.specs.Joined.{joined as joined_of};
 ghost use Rattle.plan_pairs.specs.declared.pairs.RowPair.{RowPair as PairType};
 ghost use Rattle.plan_value.specs.Shown.{column_shown, frame_of, schema_of};
 
-use crate::joined::{along, column_values, push_column};
+use crate::joined::{along, column_values, lefts_of, push_column, rights_of};
 use plan_core::{Arena, DataType, Items, Names, Node, PlSmallStr, Schema, TryClone};
 use plan_expr::{AExpr, aexpr_to_leaf_names};
-use plan_join::{left_rest, right_name, right_rest};
+use plan_join::right_name;
 use plan_options::JoinArgs;
 use plan_pairs::RowPair;
 use plan_table::{AnyValue, Column, Columns, Table};
-use plan_value::typed;
 use std::alloc::{AllocError, Global};
 
 /// A column of a side that is read: the name under which the join puts it out, its type, whether it is of the right side, and
@@ -51,32 +50,6 @@ fn names_read(alloc: Global, node: Node, ex: &Arena<AExpr>) -> Result<Names, All
 {
     let names = aexpr_to_leaf_names(alloc, node, ex)?;
     set_of(alloc, names.as_slice())
-}
-
-/// The left columns that a join without keys puts out.
-fn lefts_of(
-    alloc: Global,
-    args: &JoinArgs,
-    left: &Table,
-    ex: &Arena<AExpr>,
-) -> Result<Schema, AllocError>
-    ensures { IfOk result (λ columns. columns ≡ rest_of_left args.now [] (schema_of left.now)) }
-{
-    let types = typed(alloc, &left.columns)?;
-    left_rest(alloc, args, &[], &types, ex)
-}
-
-/// The right columns that a join without keys puts out, under their own names.
-fn rights_of(
-    alloc: Global,
-    args: &JoinArgs,
-    right: &Table,
-    ex: &Arena<AExpr>,
-) -> Result<Schema, AllocError>
-    ensures { IfOk result (λ columns. columns ≡ rest_of_right args.now [] (schema_of right.now)) }
-{
-    let types = typed(alloc, &right.columns)?;
-    right_rest(alloc, args, &[], &types, ex)
 }
 
 /// Adds the left columns that have one of some names.
@@ -149,6 +122,24 @@ fn reads_among<'a>(
     Ok(reads)
 }
 
+/// The columns that have one of some names, among those that a join without keys puts out, in order.
+fn reads_named<'a>(
+    alloc: Global,
+    names: &Names,
+    args: &JoinArgs,
+    left: &'a Table,
+    right: &'a Table,
+    ex: &Arena<AExpr>,
+) -> Result<Items<Read<'a>>, AllocError>
+    requires distinct { HasDistinctNames (join_columns args.now [] [] (schema_of left.now) (schema_of right.now)) }
+    ensures columns { IfOk result (λ reads. (ps : List PairType) → map (column_read ps) reads ≡ only_where (is_read names.now) (joined_of args.now [] [] ps (frame_of left.now) (frame_of right.now)).columns) }
+    ensures distinct { IfOk result (λ reads. HasDistinctNames (map read_type reads)) }
+{
+    let lefts = lefts_of(alloc, args, &[], left, ex)?;
+    let rights = rights_of(alloc, args, &[], right, ex)?;
+    Ok(reads_among(alloc, args.suffix(), left, &lefts, right, &rights, names)?)
+}
+
 /// The columns that an expression reads of those that a join without keys puts out, in order.
 pub fn reads<'a>(
     alloc: Global,
@@ -164,9 +155,7 @@ pub fn reads<'a>(
     ensures distinct { IfOk result (λ reads. HasDistinctNames (map read_type reads)) }
 {
     let names = names_read(alloc, node, ex)?;
-    let lefts = lefts_of(alloc, args, left, ex)?;
-    let rights = rights_of(alloc, args, right, ex)?;
-    Ok(reads_among(alloc, args.suffix(), left, &lefts, right, &rights, &names)?)
+    Ok(reads_named(alloc, &names, args, left, right, ex)?)
 }
 
 /// A column that is read, along pairs of rows.

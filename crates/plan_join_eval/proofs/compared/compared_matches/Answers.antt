@@ -1,9 +1,7 @@
-use Rattle.std.proofs.Common.{◌≡◌, ◌∙◌, ℕ, List, [], get_or, ap, sym, arith}
 use Rattle.std.proofs.lemmas.Result.{IfOk-weaker}
-use Rattle.plan_pairs.specs.Pairs.{passing}
 use Rattle.plan_value.specs.Cells.{cells_of}
 use Rattle.plan_value.specs.Shown.{frame_of}
-use Rattle.plan_join_eval.specs.Compared.{kind_test, sided}
+use Rattle.plan_join_eval.specs.Compared.{kind_test}
 use Rattle.plan_join_eval.proofs.CompareLemmas.{lists-joined}
 use Rattle.plan_join_eval.proofs.compared.compared_matches.Goals as goal
 

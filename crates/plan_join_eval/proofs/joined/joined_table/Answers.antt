@@ -1,13 +1,12 @@
-use Rattle.std.proofs.Common.{◌∙◌, ◌++◌, List, Option, ℕ, ap, ap₂, map, length, subst}
+use Rattle.std.proofs.Common.{◌∙◌, ◌++◌, List, ap, ap₂, map, length}
 use Rattle.plan_core.specs.Columns.{Columns, names_of}
 use Rattle.plan_options.specs.Join.{suffix_of}
 use Rattle.plan_expr.specs.Leaves.{Name}
 use Rattle.plan_frame.specs.Frames.{Column}
-use Rattle.plan_join.specs.Naming.{key_columns, left_rest, right_name, right_rest}
+use Rattle.plan_join.specs.Naming.{key_columns, left_rest, right_name}
 use Rattle.plan_joined.specs.Sides.{filler}
 use Rattle.plan_value.specs.Shown.{frame_of, schema_of}
-use Rattle.plan_join_eval.specs.Along.{left_column, right_column}
-use Rattle.plan_join_eval.specs.Fills.{ArePartners}
+use Rattle.plan_join_eval.specs.Along.{filled_column, right_column}
 use Rattle.plan_join_eval.proofs.TableLemmas.{table-joined}
 use Rattle.plan_join_eval.proofs.joined.joined_table.Goals as goal
 
@@ -19,19 +18,9 @@ returns-clause-frame c =
     let ps = c.args.pairs.now in
     let f = frame_of c.args.left.now in
     let g = frame_of c.args.right.now in
-    let s = schema_of c.args.left.now in
-    let t = schema_of c.args.right.now in
-    let places = c.in_ok-fills.fills.items in
-    let same-left = c.in_ok-left_schema.ensures.types in
-    let same-right = c.in_ok-right_schema.ensures.types in
-    let lefts = c.in_ok-lefts.ensures ∙ ap (left_rest args lk) same-left in
-    let rights = c.in_ok-rights.ensures ∙ ap (right_rest args rk) same-right in
-    let are = subst (λ (u : Columns). ArePartners u t (filler args lk rk) places) same-left (subst (λ (u : Columns). ArePartners c.in_ok-left_schema.left_schema u (filler args lk rk) places) same-right c.in_ok-fills.ensures) in
-    let first = c.in_ok-columns.ensures.shown
-    ∙ ap₂ (λ (u : Columns) (fills : List (Option ℕ)). map (left_column u fills f g ps) (names_of c.in_ok-lefts.lefts)) same-left c.deref.ensures.value
-    ∙ ap (λ (u : Columns). map (left_column s places f g ps) (names_of u)) lefts in
+    let lefts = c.in_ok-lefts.ensures in
+    let first = c.in_ok-columns.ensures.shown ∙ ap (λ (u : Columns). map (filled_column (filler args lk rk) f g ps) (names_of u)) lefts in
     let second = ap₂ (λ (x : Name) (u : Columns). map (right_column (right_name x (names_of u)) g ps) (names_of c.in_ok-rights.rights)) c.suffix.ensures lefts
-    ∙ ap (λ (u : Columns). map (right_column (right_name (suffix_of args) (names_of (left_rest args lk s))) g ps) (names_of u)) rights in
+    ∙ ap (λ (u : Columns). map (right_column (right_name (suffix_of args) (names_of (left_rest args lk (schema_of c.args.left.now)))) g ps) (names_of u)) c.in_ok-rights.ensures in
     ap (λ (cs : List Column). record { height = length ps; columns = cs })
-    (c.in_ok-with_rights.ensures.shown ∙ ap₂ (λ (xs ys : List Column). xs ++ ys) first second
-    ∙ table-joined args lk rk ps c.args.left.now c.args.right.now places c.in_ok-left_schema.ensures.distinct c.in_ok-right_schema.ensures.distinct are)
+    (c.in_ok-with_rights.ensures.shown ∙ ap₂ (λ (xs ys : List Column). xs ++ ys) first second ∙ table-joined args lk rk ps c.args.left.now c.args.right.now)

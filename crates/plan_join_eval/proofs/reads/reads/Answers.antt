@@ -1,22 +1,12 @@
-use Rattle.std.proofs.Common.{[], sym, subst}
-use Rattle.plan_core.specs.Columns.{HasDistinctNames}
-use Rattle.plan_core.specs.Names.{with_names}
-use Rattle.plan_expr.specs.Exprs.{expr_at}
-use Rattle.plan_expr.specs.Leaves.{leaves}
-use Rattle.plan_join.specs.Naming.{join_columns}
-use Rattle.plan_value.specs.Shown.{schema_of}
-use Rattle.plan_join_eval.specs.Reads.{is_named}
-use Rattle.plan_join_eval.proofs.ReadLemmas.{columns-read, distinct-where, types-read}
+use Rattle.std.proofs.Common.{◌∙◌, [], List, ap}
+use Rattle.std.specs.List.{filter as only_where}
+use Rattle.plan_expr.specs.Leaves.{Name}
+use Rattle.plan_joined.specs.Joined.{joined}
+use Rattle.plan_value.specs.Shown.{frame_of}
+use Rattle.plan_join_eval.specs.Reads.{is_read}
 use Rattle.plan_join_eval.proofs.reads.reads.Goals as goal
 
 pub returns-clause-columns : goal.returns-clause-columns
 returns-clause-columns c = λ ps.
-    columns-read c.args.args.now c.args.left.now c.args.right.now ps c.in_ok-names.names _ c.in_ok-lefts.lefts c.in_ok-rights.rights c.suffix.result.now c.in_ok-reads_among.field-0
-    c.in_ok-names.ensures c.in_ok-lefts.ensures c.in_ok-rights.ensures c.suffix.ensures (c.in_ok-reads_among.ensures.columns ps)
-
-pub returns-clause-distinct : goal.returns-clause-distinct
-returns-clause-distinct c =
-    let args = c.args.args.now in
-    let all = types-read args c.args.left.now c.args.right.now [] c.in_ok-names.names _ c.in_ok-lefts.lefts c.in_ok-rights.rights c.suffix.result.now c.in_ok-reads_among.field-0
-    c.in_ok-names.ensures c.in_ok-lefts.ensures c.in_ok-rights.ensures c.suffix.ensures c.in_ok-reads_among.ensures.types in
-    subst HasDistinctNames (sym all) (distinct-where (is_named (with_names [] (leaves (expr_at c.args.ex.now c.args.node)))) (join_columns args [] [] (schema_of c.args.left.now) (schema_of c.args.right.now)) c.requires.distinct)
+    c.in_ok-reads_named.ensures.columns ps
+    ∙ ap (λ (names : List Name). only_where (is_read names) (joined c.args.args.now [] [] ps (frame_of c.args.left.now) (frame_of c.args.right.now)).columns) c.in_ok-names.ensures

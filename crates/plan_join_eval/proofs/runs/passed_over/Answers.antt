@@ -1,7 +1,6 @@
-use Rattle.std.proofs.Common.{◌∙◌, List, ap, subst, sym}
+use Rattle.std.proofs.Common.{◌∙◌, ap, subst, sym}
 use Rattle.plan_value.specs.Cells.{cell_of}
 use Rattle.plan_value.specs.Shown.{value_of}
-use Rattle.plan_join_eval.specs.declared.runs.Run.{Run}
 use Rattle.plan_join_eval.specs.Runs.{is_met, is_up, IsRunAt}
 use Rattle.plan_join_eval.proofs.RunLemmas.{none-passed, one-passed, run-passed}
 use Rattle.plan_join_eval.proofs.runs.passed_over.Goals as goal

@@ -1,4 +1,4 @@
-use Rattle.std.proofs.Common.{◌≡◌, ◌∷◌, ◌++◌, All, List, Option, arith, subst, sym}
+use Rattle.std.proofs.Common.{◌≡◌, All, Option, arith, subst, sym}
 use Rattle.std.specs.Prelude.{IfSome, ℕ}
 use Rattle.std.proofs.lemmas.List.Elements.{All-push}
 use Rattle.plan_value.specs.Cells.{cell_of}

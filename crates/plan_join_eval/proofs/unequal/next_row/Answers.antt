@@ -1,4 +1,4 @@
-use Rattle.std.proofs.Common.{◌∙◌, ◌++◌, ◌∷◌, [], List, ℕ, true, false, ap, sym, append-nil}
+use Rattle.std.proofs.Common.{◌∙◌, true, false, sym, append-nil}
 use Rattle.plan_value.specs.Cells.{cell_of, cells_of}
 use Rattle.plan_value.specs.Shown.{frame_of, value_of}
 use Rattle.plan_join_eval.specs.Compared.{kind_test, sided}
