@@ -5,6 +5,7 @@ ghost use Rattle.plan_core.specs.declared.data_type.PlainType.TheVariants.{Int64
 ghost use Rattle.plan_core.specs.Columns.{Columns, type_of};
 ghost use Rattle.plan_expr.specs.declared.expr_ir.OutputName.TheVariants.{Alias};
 ghost use Rattle.plan_ir.specs.declared.ir.IR.TheVariants.{DataFrameScan};
+ghost use Rattle.plan_builder.specs.Builds.{IsBuilt};
 
 use plan_builder::IRBuilder;
 use plan_check::check_plan;

@@ -10,12 +10,12 @@ use Rattle.plan_ir_tests.proofs.TestLemmas.{frame_follows, function_follows, unp
 use Rattle.plan_ir_tests.proofs.built.a_column_is_unpivoted.Goals as goal
 
 pub from_lp-requires : goal.from_lp-requires
-from_lp-requires g c =
+from_lp-requires c =
     let f = c.in_ok-frame.ensures in
     subst (λ (p : IR). MayFollow c.new-lp.result c.new-ex.result p) (sym f.1) (frame_follows c.new-lp.result c.new-ex.result f.0 (ap (λ (s : Columns). all_differ (names_of s)) f.4))
 
 pub unpivot-requires : goal.unpivot-requires
-unpivot-requires g c =
+unpivot-requires c =
     let f = c.in_ok-frame.ensures in
     let builder = c.in_ok-builder.builder in
     let adds : Adds c.new-lp.result builder.lp_arena.now builder.root (DataFrameScan (Some 0) three None) =

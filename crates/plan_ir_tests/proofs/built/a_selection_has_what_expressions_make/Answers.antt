@@ -13,12 +13,12 @@ use Rattle.plan_ir_tests.proofs.TestLemmas.{frame_follows, selects}
 use Rattle.plan_ir_tests.proofs.built.a_selection_has_what_expressions_make.Goals as goal
 
 pub from_lp-requires : goal.from_lp-requires
-from_lp-requires g c =
+from_lp-requires c =
     let f = c.in_ok-frame.ensures in
     subst (λ (p : IR). MayFollow c.new-lp.result c.add.new.self p) (sym f.1) (frame_follows c.new-lp.result c.add.new.self f.0 (ap (λ (s : Columns). all_differ (names_of s)) f.4))
 
 pub project-requires-clause-follows : goal.project-requires-clause-follows
-project-requires-clause-follows g c = λ some.
+project-requires-clause-follows c = λ some.
     let f = c.in_ok-frame.ensures in
     let builder = c.in_ok-builder.builder in
     let is : builder.expr_arena.now ≡ Column (codes "a") ∷ [] =

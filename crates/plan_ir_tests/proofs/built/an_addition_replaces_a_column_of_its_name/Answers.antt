@@ -13,12 +13,12 @@ use Rattle.plan_ir_tests.proofs.TestLemmas.{frame_follows, adds_columns}
 use Rattle.plan_ir_tests.proofs.built.an_addition_replaces_a_column_of_its_name.Goals as goal
 
 pub from_lp-requires : goal.from_lp-requires
-from_lp-requires g c =
+from_lp-requires c =
     let f = c.in_ok-frame.ensures in
     subst (λ (p : IR). MayFollow c.new-lp.result c.add.new.self p) (sym f.1) (frame_follows c.new-lp.result c.add.new.self f.0 (ap (λ (s : Columns). all_differ (names_of s)) f.4))
 
 pub with_columns-requires-clause-follows : goal.with_columns-requires-clause-follows
-with_columns-requires-clause-follows g c =
+with_columns-requires-clause-follows c =
     let f = c.in_ok-frame.ensures in
     let builder = c.in_ok-builder.builder in
     let is : builder.expr_arena.now ≡ Column (codes "a") ∷ [] =

@@ -12,12 +12,12 @@ use Rattle.plan_ir_tests.proofs.GroupTest.{groups}
 use Rattle.plan_ir_tests.proofs.built.rows_are_grouped.Goals as goal
 
 pub from_lp-requires : goal.from_lp-requires
-from_lp-requires g c =
+from_lp-requires c =
     let f = c.in_ok-frame.ensures in
     subst (λ (p : IR). MayFollow c.new-lp.result c.add-2.new.self p) (sym f.1) (frame_follows c.new-lp.result c.add-2.new.self f.0 (ap (λ (s : Columns). all_differ (names_of s)) f.4))
 
 pub group_by-requires-clause-follows : goal.group_by-requires-clause-follows
-group_by-requires-clause-follows g c =
+group_by-requires-clause-follows c =
     let f = c.in_ok-frame.ensures in
     let builder = c.in_ok-builder.builder in
     let is : builder.expr_arena.now ≡ Column (codes "a") ∷ Column (codes "b") ∷ [] =

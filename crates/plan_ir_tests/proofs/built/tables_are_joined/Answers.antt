@@ -12,12 +12,12 @@ use Rattle.plan_ir_tests.proofs.JoinTest.{joins, two_frames}
 use Rattle.plan_ir_tests.proofs.built.tables_are_joined.Goals as goal
 
 pub from_lp-requires : goal.from_lp-requires
-from_lp-requires g c =
+from_lp-requires c =
     let f = c.in_ok-frame-2.ensures in
     subst (λ (p : IR). MayFollow c.add-3.new.self c.add-2.new.self p) (sym f.1) (frame_follows c.add-3.new.self c.add-2.new.self f.0 (ap (λ (s : Columns). all_differ (names_of s)) f.4))
 
 pub join-requires-clause-beside : goal.join-requires-clause-beside
-join-requires-clause-beside g c =
+join-requires-clause-beside c =
     let f = c.in_ok-frame.ensures in
     let h = c.in_ok-frame-2.ensures in
     let builder = c.in_ok-builder.builder in
@@ -27,7 +27,7 @@ join-requires-clause-beside g c =
     frames.beside
 
 pub join-requires-clause-follows : goal.join-requires-clause-follows
-join-requires-clause-follows g c =
+join-requires-clause-follows c =
     let f = c.in_ok-frame.ensures in
     let h = c.in_ok-frame-2.ensures in
     let builder = c.in_ok-builder.builder in
