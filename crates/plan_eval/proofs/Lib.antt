@@ -16,3 +16,4 @@ mod CountLemmas
 mod FunctionLemmas
 mod UnpivotLemmas
 mod ExplodeLemmas
+mod PickLemmas

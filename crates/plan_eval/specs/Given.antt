@@ -26,14 +26,11 @@ names_many (nodes.Union inputs options) = true
 names_many (nodes.HConcat inputs schema options) = true
 names_many other = false
 
--- a node that gives other rows or columns than its only input
+-- a node that gives other columns than its only input
 abbrev pub makes_new : IR → Bool
-makes_new (nodes.Filter input predicate) = true
 makes_new (nodes.SimpleProjection input columns) = true
 makes_new (nodes.Select input expr schema options) = true
-makes_new (nodes.Sort input by_column slice sort_options) = true
 makes_new (nodes.GroupBy input keys aggs schema maintain_order options) = true
-makes_new (nodes.Distinct input options) = true
 makes_new (nodes.MapFunction input function) = true
 makes_new other = false
 

@@ -11,15 +11,17 @@ ghost use Rattle.plan_frame.specs.Meaning.{are_alike};
 ghost use Rattle.plan_frame.specs.Orders.{told_columns};
 ghost use Rattle.plan_table.specs.declared.source_key.SourceKey.{SourceKey};
 ghost use Rattle.plan_table.specs.declared.table.Table.{Table as TableType};
+ghost use Rattle.plan_table.specs.Tables.{HasRows};
 ghost use Rattle.plan_eval.specs.Distinct.{kept, kept_of, columns_named};
 ghost use Rattle.plan_eval.specs.Given.{Gives};
 ghost use Rattle.plan_value.specs.Cells.{cells_of};
 ghost use Rattle.plan_value.specs.Shown.{columns_shown, frame_of};
 
+use crate::picked::picked;
 use plan_core::{Items, PlSmallStr};
 use plan_options::{DistinctOptionsIR, UniqueKeepStrategy};
 use plan_table::Table;
-use plan_value::{Values, column, grouped, rows_at, rows_of_groups};
+use plan_value::{Values, column, grouped, rows_of_groups};
 use std::alloc::{AllocError, Global};
 
 /// The columns of these names.
@@ -167,15 +169,17 @@ fn distinct_rows(
     }
 }
 
-/// The table of the distinct rows.
+/// The table of the distinct rows: its input where that are all, in order.
 pub fn distinct(
     alloc: Global,
-    table: &Table,
+    table: Table,
     options: &DistinctOptionsIR,
 ) -> Result<Table, AllocError>
-    ensures { (ts : List (SourceKey × TableType)) → IfOk result (Gives ts (distinct_op options.now) (table.now ∷ [])) }
+    requires { HasRows table }
+    ensures { (ts : List (SourceKey × TableType)) → IfOk result (Gives ts (distinct_op options.now) (table ∷ [])) }
 {
-    let columns = told(alloc, table, &options.subset)?;
+    let columns = told(alloc, &table, &options.subset)?;
     let rows = distinct_rows(alloc, columns.as_slice(), table.height, options)?;
-    Ok(rows_at(alloc, table, rows.as_slice())?)
+    drop(columns);
+    Ok(picked(alloc, table, rows.as_slice())?)
 }

@@ -14,6 +14,7 @@ mod hstack;
 mod join;
 mod made;
 mod only;
+mod picked;
 mod plan;
 mod projection;
 mod scan;

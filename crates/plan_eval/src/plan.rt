@@ -71,7 +71,7 @@ fn source_table(alloc: Global, node: &IR, tables: &Tables) -> Result<Table, Allo
     }
 }
 
-/// The table of a node that gives other rows or columns than its only input, over the table of that.
+/// The table of a node that gives other columns than its only input, over the table of that.
 fn new_table(
     alloc: Global,
     node: &IR,
@@ -86,21 +86,14 @@ fn new_table(
     ensures { IfOk result (Gives tables.now (op_at ex.now node.now) (table.now ∷ [])) }
 {
     match node {
-        IR::Filter { predicate, .. } => filter(alloc, table, predicate, ex),
         IR::SimpleProjection { columns, .. } => projection(alloc, table, columns),
         IR::Select { expr, schema, .. } => select(alloc, table, expr.as_slice(), schema, ex),
-        IR::Sort {
-            by_column,
-            sort_options,
-            ..
-        } => sort(alloc, table, by_column.as_slice(), sort_options, ex),
         IR::GroupBy {
             keys,
             aggs,
             schema,
             ..
         } => group_by(alloc, table, keys.as_slice(), aggs.as_slice(), schema, ex),
-        IR::Distinct { options, .. } => distinct(alloc, table, options),
         IR::MapFunction { function, .. } => mapped(alloc, table, function, tables),
         _ => unreachable!(),
     }
@@ -124,13 +117,17 @@ fn one_input_table(
     match node {
         IR::Slice { offset, len, .. } => slice(alloc, table, *offset, *len),
         IR::HStack { exprs, schema, .. } => hstack(alloc, table, exprs.as_slice(), schema, ex),
+        IR::Filter { predicate, .. } => filter(alloc, table, predicate, ex),
+        IR::Sort {
+            by_column,
+            sort_options,
+            ..
+        } => sort(alloc, table, by_column.as_slice(), sort_options, ex),
+        IR::Distinct { options, .. } => distinct(alloc, table, options),
         IR::Sink { .. } | IR::Cache { .. } => unchanged(table),
-        IR::Filter { .. }
-        | IR::SimpleProjection { .. }
+        IR::SimpleProjection { .. }
         | IR::Select { .. }
-        | IR::Sort { .. }
         | IR::GroupBy { .. }
-        | IR::Distinct { .. }
         | IR::MapFunction { .. } => {
             let made = new_table(alloc, node, &table, ex, tables);
             drop(table);

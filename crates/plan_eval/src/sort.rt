@@ -16,11 +16,12 @@ ghost use Rattle.plan_eval.specs.Given.{Gives};
 ghost use Rattle.plan_value.specs.Cells.{cells_of};
 ghost use Rattle.plan_value.specs.Shown.{schema_of};
 
+use crate::picked::picked;
 use plan_core::Arena;
 use plan_expr::{AExpr, ExprIR};
 use plan_options::SortMultipleOptions;
 use plan_table::Table;
-use plan_value::{Values, key_values, row_ordering, rows_at};
+use plan_value::{Values, key_values, row_ordering};
 use std::alloc::{AllocError, Global};
 use std::cmp::Ordering;
 
@@ -59,20 +60,21 @@ fn sorted_rows(
     Ok(rows)
 }
 
-/// The table of the sort.
+/// The table of the sort: its input where that is in order.
 pub fn sort(
     alloc: Global,
-    table: &Table,
+    table: Table,
     keys: &[ExprIR],
     options: &SortMultipleOptions,
     ex: &Arena<AExpr>,
 ) -> Result<Table, AllocError>
     requires stand { All (λ e. IsExpr ex.now e.node) keys.now }
-    requires valid { AllHold (key_checks (all_named_at ex.now keys.now) (schema_of table.now)) }
-    requires rows { HasRows table.now }
-    ensures { (ts : List (SourceKey × TableType)) (part : OptionType (ℤ × ℕ)) → IfOk result (Gives ts (sort_op (all_named_at ex.now keys.now) part options.now) (table.now ∷ [])) }
+    requires valid { AllHold (key_checks (all_named_at ex.now keys.now) (schema_of table)) }
+    requires rows { HasRows table }
+    ensures { (ts : List (SourceKey × TableType)) (part : OptionType (ℤ × ℕ)) → IfOk result (Gives ts (sort_op (all_named_at ex.now keys.now) part options.now) (table ∷ [])) }
 {
-    let keys = key_values(alloc, keys, ex, table)?;
+    let keys = key_values(alloc, keys, ex, &table)?;
     let rows = sorted_rows(alloc, keys.as_slice(), options, table.height)?;
-    Ok(rows_at(alloc, table, rows.as_slice())?)
+    drop(keys);
+    Ok(picked(alloc, table, rows.as_slice())?)
 }

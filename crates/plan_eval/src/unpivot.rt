@@ -1,9 +1,10 @@
 //! An unpivot gives all rows of its input for each of its value columns in turn: what it repeats, the name of the value column,
 //! and its values. Each of its columns is made as a whole.
-ghost use Rattle.std.specs.Prelude.{◌≡◌, ◌*◌, IfOk, true};
+ghost use Rattle.std.specs.Prelude.{◌≡◌, ◌*◌, ◌++◌, ◌∷◌, [], IfOk, true};
+ghost use Rattle.plan_core.specs.Columns.{names_of};
 ghost use Rattle.plan_core.specs.declared.data_type.DataType.TheVariants.{String as string_type};
 ghost use Rattle.plan_frame.specs.Frames.{table_columns};
-ghost use Rattle.plan_meaning.specs.Functions.{all_differ, first_type as has_first_type, unpivoted_columns, unpivoted_names, value_name as value_named, variable_name as variable_named};
+ghost use Rattle.plan_meaning.specs.Functions.{all_differ, first_type as has_first_type, unpivoted_columns, unpivoted_names, value_name as value_named, value_names as value_names_of, variable_name as variable_named};
 ghost use Rattle.plan_frame.specs.Reshaped.{columns_at, type_or as has_type_or, names_down as names_below, repeated as repeated_values, values_down as values_below};
 ghost use Rattle.plan_meaning.specs.Mapped.{unpivoted as unpivoted_of};
 ghost use Rattle.plan_table.specs.Tables.{types_of};
@@ -167,19 +168,45 @@ fn height_of(columns: usize, rows: usize) -> Result<usize, AllocError>
     columns.checked_mul(rows).ok_or(AllocError)
 }
 
+/// The names of the value columns.
+fn names_of_values(
+    alloc: Global,
+    table: &Table,
+    args: &UnpivotArgsIR,
+) -> Result<Items<PlSmallStr>, AllocError>
+    ensures { IfOk result (λ names. names ≡ value_names_of args.now (names_of (schema_of table.now))) }
+{
+    let schema = typed(alloc, &table.columns)?;
+    value_names(alloc, args, &schema)
+}
+
+/// The columns of an unpivot of value columns that gives no two columns one name.
+fn columns_over(
+    alloc: Global,
+    table: &Table,
+    args: &UnpivotArgsIR,
+    names: &[PlSmallStr],
+) -> Result<Columns, AllocError>
+    requires { all_differ (unpivoted_names args.now) ≡ true }
+    ensures shown { IfOk result (λ made. columns_shown made ≡ table_columns args.now.index (repeated_values names.now (frame_of table.now)) ++ record { name = variable_named args.now; values = names_below names.now (frame_of table.now) } ∷ record { name = value_named args.now; values = values_below names.now (frame_of table.now) } ∷ []) }
+    ensures types { IfOk result (λ made. types_of made ≡ columns_at (schema_of table.now) args.now.index ++ (variable_named args.now, string_type) ∷ (value_named args.now, has_first_type (schema_of table.now) names.now) ∷ []) }
+{
+    let mut columns = repeated_columns(alloc, table, args.index.as_slice(), names)?;
+    columns.with_column(variable_column(alloc, table, args, names)?)?;
+    columns.with_column(value_column(alloc, table, args, names)?)?;
+    Ok(columns)
+}
+
 /// The table of an unpivot that gives no two columns one name.
 pub fn unpivoted(alloc: Global, table: &Table, args: &UnpivotArgsIR) -> Result<Table, AllocError>
     requires { all_differ (unpivoted_names args.now) ≡ true }
     ensures frame { IfOk result (λ t. frame_of t ≡ unpivoted_of args.now (frame_of table.now)) }
     ensures types { IfOk result (λ t. schema_of t ≡ unpivoted_columns args.now (schema_of table.now)) }
 {
-    let names = value_names(alloc, args, &typed(alloc, &table.columns)?)?;
+    let names = names_of_values(alloc, table, args)?;
     let names = names.as_slice();
-    let mut columns = repeated_columns(alloc, table, args.index.as_slice(), names)?;
-    columns.with_column(variable_column(alloc, table, args, names)?)?;
-    columns.with_column(value_column(alloc, table, args, names)?)?;
     Ok(Table {
         height: height_of(names.len(), table.height)?,
-        columns,
+        columns: columns_over(alloc, table, args, names)?,
     })
 }

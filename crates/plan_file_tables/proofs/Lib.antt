@@ -1,3 +1,4 @@
 -- The lemmas of this crate.
 mod PartLemmas
 mod NumberLemmas
+mod SameLemmas

@@ -87,19 +87,19 @@ hive-none (s ∷ ss) a e = at (hive-none ss a) (bytes_eq a s.field.name) e
 
 -- One source after another
 
-values-push : (path : Option Name) (ps : List Part) (p : Part) (a : Name) → values_in_turn path (ps ++ p ∷ []) a ≡ values_in_turn path ps a ++ part_values path p a
+pub values-push : (path : Option Name) (ps : List Part) (p : Part) (a : Name) → values_in_turn path (ps ++ p ∷ []) a ≡ values_in_turn path ps a ++ part_values path p a
 values-push path [] p a = append-nil (part_values path p a)
 values-push path (q ∷ ps) p a =
     ap (λ (vs : List Value). part_values path q a ++ vs) (values-push path ps p a)
     ∙ sym (append_assoc (part_values path q a) (values_in_turn path ps a) (part_values path p a))
 
-rows-push : (ps : List Part) (p : Part) → rows_in_turn (ps ++ p ∷ []) ≡ rows_in_turn ps + p.rows.height
+pub rows-push : (ps : List Part) (p : Part) → rows_in_turn (ps ++ p ∷ []) ≡ rows_in_turn ps + p.rows.height
 rows-push [] p = omega arith
 rows-push (q ∷ ps) p = let e = rows-push ps p in omega (arith, e)
 
 module _ (ps : List Lent) (i : ℕ) (p : Lent) (lt : i < length ps) (is : p ≡ get_or ps i p) where
   -- the sources before the next place, with the one at this place
-  shown-next : parts_shown (take (i + 1) ps) ≡ parts_shown (take i ps) ++ part_shown p ∷ []
+  pub shown-next : parts_shown (take (i + 1) ps) ≡ parts_shown (take i ps) ++ part_shown p ∷ []
   shown-next =
       ap parts_shown (take_more ps i p lt) ∙ map-append part_shown (take i ps) (get_or ps i p ∷ []) ∙ ap (λ (q : Lent). parts_shown (take i ps) ++ part_shown q ∷ []) (sym is)
 

@@ -1,19 +1,19 @@
 //! The sources of a scan, each with its hive columns and its table.
-ghost use Rattle.std.specs.Prelude.{◌≡◌, ◌++◌, [], IfOk, OnOk, option_copied, option_map, replicate, unwrap_or};
+ghost use Rattle.std.specs.Prelude.{◌≡◌, ◌++◌, ◌∷◌, [], IfOk, IsTrue, OnOk, option_copied, option_map, replicate, unwrap_or};
 ghost use Rattle.plan_file_frames.specs.FileFrames.{hive_value as value_of_hive, own_values, part_values, parts_of, rows_in_turn};
 ghost use Rattle.plan_frame.specs.Values.{text};
 ghost use Rattle.plan_scan.specs.Sources.{path_name, sources_of};
-ghost use Rattle.plan_value.specs.Shown.{value_of, values_of};
-ghost use Rattle.plan_file_tables.specs.Parts.{frames_found, hive_at, part_shown, parts_shown};
+ghost use Rattle.plan_value.specs.Shown.{frame_of, value_of, values_of};
+ghost use Rattle.plan_file_tables.specs.Parts.{AreEmpty, GiveSame, IsBare, frames_found, hive_at, part_shown, parts_shown};
 
 use crate::appended::{append_column, append_times};
 use plan_core::{Items, PlSmallStr};
 use plan_scan::{HivePartitions, ScanSourceRef, ScanSources};
-use plan_table::{AnyValue, Table};
+use plan_table::{AnyValue, Column, Columns, Table};
 use std::alloc::{AllocError, Global};
 
 /// A source of a scan, with its hive columns, where a part is given for it, and its table, if it has one.
-#[derive(Drop)]
+#[derive(Clone, Copy)]
 pub struct Part<'a> {
     source: ScanSourceRef<'a>,
     hive: Option<&'a HivePartitions>,
@@ -62,6 +62,69 @@ fn height(part: &Part<'_>) -> usize
         Some(table) => table.height,
         None => 0,
     }
+}
+
+/// Whether a column has no values.
+fn is_empty(column: &Column) -> bool
+    ensures { IsTrue result → values_of column.now.values ≡ [] }
+{
+    match column.values.as_slice() {
+        [] => true,
+        _ => false,
+    }
+}
+
+/// Whether no column has values.
+fn are_empty(columns: &Columns) -> bool
+    ensures { IsTrue result → AreEmpty columns.now }
+{
+    for column in columns.iter() {
+        if !is_empty(column) {
+            return false;
+        }
+    }
+    true
+}
+
+/// Whether a table has neither rows nor values.
+fn is_bare(table: &Table) -> bool
+    ensures { IsTrue result → IsBare (frame_of table.now) }
+{
+    if table.height > 0 {
+        return false;
+    }
+    are_empty(&table.columns)
+}
+
+/// Whether a source has neither rows nor values.
+fn gives_nothing(part: &Part<'_>) -> bool
+    ensures { IsTrue result → IsBare (part_shown part.now).rows }
+{
+    match part.table {
+        Some(table) => is_bare(table),
+        None => true,
+    }
+}
+
+/// Puts a source behind others, unless it has neither rows nor values.
+fn add_part<'a>(parts: &mut Items<Part<'a>>, part: &Part<'a>) -> Result<(), AllocError>
+    ensures { OnOk result (GiveSame (parts_shown parts.new) (parts_shown parts.old ++ part_shown part.now ∷ [])) }
+{
+    if gives_nothing(part) {
+        return Ok(());
+    }
+    Ok(parts.push(*part)?)
+}
+
+/// The sources that have rows or values.
+pub fn full_parts<'a>(alloc: Global, parts: &[Part<'a>]) -> Result<Items<Part<'a>>, AllocError>
+    ensures { IfOk result (λ full. GiveSame (parts_shown full) (parts_shown parts.now)) }
+{
+    let mut full = Items::new(alloc);
+    for part in parts {
+        add_part(&mut full, part)?;
+    }
+    Ok(full)
 }
 
 /// How many rows sources have together. A sum beyond a `usize` is refused.

@@ -7,7 +7,7 @@ ghost use Rattle.plan_value.specs.Shown.{column_shown, frame_of, schema_of, valu
 ghost use Rattle.plan_file_tables.specs.Parts.{frames_found, parts_shown};
 
 use crate::numbers::row_numbers;
-use crate::parts::{Part, all_rows, append_values, parts};
+use crate::parts::{Part, all_rows, append_values, full_parts, parts};
 use plan_core::{DataType, FileScanOptions, Items, PlSmallStr, Schema};
 use plan_scan::{HivePartitions, ScanSources};
 use plan_table::{AnyValue, Column, Columns, Table};
@@ -105,5 +105,6 @@ pub fn scan_table(
     ensures types { IfOk result (λ t. schema_of t ≡ columns.now) }
 {
     let parts = parts(alloc, sources, hive, tables)?;
-    put_out(alloc, parts.as_slice(), options, columns)
+    let full = full_parts(alloc, parts.as_slice())?;
+    Ok(put_out(alloc, full.as_slice(), options, columns)?)
 }

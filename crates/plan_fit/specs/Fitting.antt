@@ -33,6 +33,10 @@ IsMet ts need = (t : Table) × (table_at ts need.0 ≡ Some t) × HasColumns nee
 abbrev pub AreFormed : List (SourceKey × Table) → List Need → Type 0
 AreFormed ts ns = AllByRecursion (λ (n : Need). IfSome (table_at ts n.0) IsTable) ns
 
+-- a source has a well-formed table with these columns
+abbrev pub HasOwn : List (SourceKey × Table) → Columns → Source → Type 0
+HasOwn ts columns s = IsMet ts (key_of s, columns) × IfSome (table_at ts (key_of s)) IsTable
+
 -- what sources need of which these columns are read
 abbrev pub source_needs : List Source → Columns → List Need
 source_needs sources columns = map (λ (s : Source). (key_of s, columns)) sources

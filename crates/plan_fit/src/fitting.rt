@@ -13,7 +13,7 @@ ghost use Rattle.plan_meaning.specs.Checks.{is_column};
 ghost use Rattle.plan_meaning.specs.Typing.{columns_or};
 ghost use Rattle.plan_table.specs.Tables.{IsTable, table_at, types_of};
 ghost use Rattle.plan_table.specs.declared.source_key.SourceKey.TheVariants.{Frame as frame_key};
-ghost use Rattle.plan_fit.specs.Fitting.{AreFormed, HasColumns, IsMet, TablesFit, needs_by, source_needs};
+ghost use Rattle.plan_fit.specs.Fitting.{AreFormed, HasColumns, HasOwn, IsMet, TablesFit, needs_by, source_needs};
 ghost use Rattle.plan_fit.specs.Sources.{contents_of, key_of};
 
 use crate::inputs::{input_at, input_count};
@@ -66,15 +66,48 @@ fn source_fits(source: ScanSourceRef<'_>, columns: &Option<Schema>, tables: &Tab
     }
 }
 
+/// Whether two sources are the same.
+fn is_same(left: ScanSourceRef<'_>, right: ScanSourceRef<'_>) -> bool
+    ensures { IsTrue result → source_of left.entry ≡ source_of right.entry }
+{
+    match (left, right) {
+        (ScanSourceRef::Path(left), ScanSourceRef::Path(right)) => left.as_str() == right.as_str(),
+        (ScanSourceRef::Buffer(left), ScanSourceRef::Buffer(right)) => left == right,
+        _ => false,
+    }
+}
+
+/// Whether a source has a table with the columns that a reader finds, where the one before it has one. What is the same as
+/// that is not looked at again.
+fn next_fits(
+    before: Option<ScanSourceRef<'_>>,
+    source: ScanSourceRef<'_>,
+    columns: &Option<Schema>,
+    tables: &Tables,
+) -> bool
+    requires { IfSome before (λ other. HasOwn tables.now (columns_or columns.now []) (source_of other)) }
+    ensures met { IsTrue result ↔ IsMet tables.now (key_of (source_of source.entry), columns_or columns.now []) }
+    ensures formed { IsTrue result → IfSome (table_at tables.now (key_of (source_of source.entry))) IsTable }
+{
+    if let Some(other) = before {
+        if is_same(other, source) {
+            return true;
+        }
+    }
+    source_fits(source, columns, tables)
+}
+
 /// Whether each source has a table with the columns that a reader finds.
 fn sources_fit(sources: &ScanSources, columns: &Option<Schema>, tables: &Tables) -> bool
     ensures met { IsTrue result ↔ AllByRecursion (IsMet tables.now) (source_needs (sources_of sources.now) (columns_or columns.now [])) }
     ensures formed { IsTrue result → AreFormed tables.now (source_needs (sources_of sources.now) (columns_or columns.now [])) }
 {
+    let mut before = None;
     for source in sources.iter() {
-        if !source_fits(source, columns, tables) {
+        if !next_fits(before, source, columns, tables) {
             return false;
         }
+        before = Some(source);
     }
     true
 }

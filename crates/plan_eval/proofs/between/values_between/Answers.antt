@@ -4,7 +4,6 @@ use Rattle.std.proofs.lemmas.Bool.{cases_lt}
 use Rattle.std.proofs.lemmas.List.{map-append}
 use Rattle.plan_frame.specs.Frames.{picked, row}
 use Rattle.plan_frame.specs.Values.{Value}
-use Rattle.plan_table.specs.declared.value.AnyValue.{AnyValue}
 use Rattle.plan_value.specs.Shown.{values_of}
 use Rattle.plan_value.proofs.PlaceLemmas.{range-next}
 use Rattle.plan_value.proofs.ShownLemmas.{values-push}

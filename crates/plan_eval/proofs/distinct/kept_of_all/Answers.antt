@@ -1,5 +1,4 @@
-use Rattle.std.proofs.Common.{◌∙◌, ℕ, sym, ap, arith}
-use Rattle.std.specs.List.{range_with_len}
+use Rattle.std.proofs.Common.{sym, arith}
 use Rattle.plan_eval.proofs.DistinctLemmas.{last-of-all, none-alone}
 use Rattle.plan_eval.proofs.distinct.kept_of_all.Goals as goal
 

@@ -1,10 +1,10 @@
-use Rattle.std.proofs.Common.{◌∙◌, List, map, ap, ap₂, true}
-use Rattle.plan_core.specs.Columns.{Columns, with_types}
+use Rattle.std.proofs.Common.{◌∙◌, List, ap, true}
+use Rattle.plan_core.specs.Columns.{with_types}
 use Rattle.plan_core.specs.declared.options.ProjectionOptions.{ProjectionOptions}
 use Rattle.plan_expr.specs.Exprs.{all_named_at}
 use Rattle.plan_frame.specs.Frames.{Column, with_columns}
 use Rattle.plan_meaning.proofs.CheckParts.{made_good}
-use Rattle.plan_value.specs.Shown.{columns_shown, frame_of, schema_of}
+use Rattle.plan_value.specs.Shown.{columns_shown, schema_of}
 use Rattle.plan_eval.proofs.MadeLemmas.{stored-named, stored-made}
 use Rattle.plan_eval.proofs.hstack.hstack.Goals as goal
 

@@ -1,6 +1,6 @@
-use Rattle.std.proofs.Common.{◌≡◌, ◌∙◌, ◌∷◌, List, ap, sym, refl}
-use Rattle.plan_core.specs.Columns.{Columns, with_types}
-use Rattle.plan_frame.specs.Frames.{Column, with_columns}
+use Rattle.std.proofs.Common.{◌∙◌, List, ap, sym, refl}
+use Rattle.plan_core.specs.Columns.{with_types}
+use Rattle.plan_frame.specs.Frames.{with_columns}
 use Rattle.plan_table.specs.declared.column.Column.{Column as Typed}
 use Rattle.plan_table.specs.Tables.{types_of}
 use Rattle.plan_value.specs.Shown.{column_shown, columns_shown}

@@ -1,6 +1,5 @@
-use Rattle.std.proofs.Common.{◌≡◌, ◌<◌, ◌∙◌, Some, get_or, [], ◌∷◌, List, arith, rules, ap, refl, sym, subst, length, map, length-append}
+use Rattle.std.proofs.Common.{◌≡◌, ◌<◌, ◌∙◌, Some, get_or, [], ◌∷◌, List, arith, refl, sym, subst, length, length-append}
 use Rattle.std.proofs.lemmas.Option.{slice_get-get_or}
-use Rattle.std.specs.List.{AllByRecursion}
 use Rattle.plan_core.specs.declared.arena.Node.{Node}
 use Rattle.plan_core.specs.Columns.{Columns}
 use Rattle.plan_ir.specs.Parts.{exprs_of, inputs_of}
@@ -9,10 +8,7 @@ use Rattle.plan_ir.proofs.PlanLemmas.{plan_down}
 use Rattle.plan_meaning.specs.Contents.{FitsAll}
 use Rattle.plan_meaning.specs.Typing.{AllHold, AllValid, checks}
 use Rattle.plan_meaning.proofs.NodeExprs.{all_stand}
-use Rattle.plan_table.specs.declared.table.Table.{Table}
-use Rattle.plan_table.specs.Tables.{HasRows}
-use Rattle.plan_value.specs.Shown.{schema_of}
-use Rattle.plan_eval.specs.Given.{GiveAll, Gives}
+use Rattle.plan_eval.specs.Given.{GiveAll}
 use Rattle.plan_fit.specs.Sources.{contents_of}
 use Rattle.plan_eval.proofs.PlanLemmas.{given-rows, inputs-frames, plan-gives, node-valid, inputs-valid}
 use Rattle.plan_fit.proofs.SideLemmas.{one-frames}

@@ -1,27 +1,16 @@
-use Rattle.std.proofs.Common.{[], ◌∷◌, All, SFits, w64, sym, subst, rules}
-use Rattle.std.proofs.Math.Facts.{to_z-of_z}
-use Rattle.std.specs.Prelude.{ℤ, IfOk}
+use Rattle.std.proofs.Common.{[], ◌∷◌, All, subst}
 use Rattle.plan_expr.specs.declared.expr_ir.ExprIR.{ExprIR}
 use Rattle.plan_ir.specs.declared.ir.IR.{IR}
 use Rattle.plan_expr.specs.Operands.{IsExpr}
 use Rattle.plan_ir.specs.Parts.{exprs_of}
-use Rattle.plan_ir.specs.Plans.{op_at, slice}
+use Rattle.plan_ir.specs.Plans.{op_at}
 use Rattle.plan_meaning.specs.Typing.{AllHold, checks}
 use Rattle.plan_value.specs.Shown.{schema_of}
-use Rattle.plan_eval.specs.Given.{Gives}
 use Rattle.plan_eval.proofs.PlanLemmas.{all-first, all-second}
 use Rattle.plan_eval.proofs.plan.new_table.Goals as goal
 
 pub select-requires-clause-stand : goal.select-requires-clause-stand
 select-requires-clause-stand c = rw c.as_slice.ensures (subst (λ (p : IR). All (λ (e : ExprIR). IsExpr c.args.ex.now e.node) (exprs_of p)) c.in-Select.is c.requires.stand)
-
-pub sort-requires-clause-stand : goal.sort-requires-clause-stand
-sort-requires-clause-stand c = rw c.as_slice-in-Sort.ensures (subst (λ (p : IR). All (λ (e : ExprIR). IsExpr c.args.ex.now e.node) (exprs_of p)) c.in-Sort.is c.requires.stand)
-
-pub sort-requires-clause-valid : goal.sort-requires-clause-valid
-sort-requires-clause-valid c =
-    let valid = subst (λ (p : IR). AllHold (checks (op_at c.args.ex.now p) (schema_of c.args.table.now ∷ []))) c.in-Sort.is c.requires.valid in
-    rw c.as_slice-in-Sort.ensures valid.1
 
 pub group_by-requires-clause-keys : goal.group_by-requires-clause-keys
 group_by-requires-clause-keys c =
@@ -37,8 +26,3 @@ pub group_by-requires-clause-valid : goal.group_by-requires-clause-valid
 group_by-requires-clause-valid c =
     let valid = subst (λ (p : IR). AllHold (checks (op_at c.args.ex.now p) (schema_of c.args.table.now ∷ []))) c.in-GroupBy.is c.requires.valid in
     rw (c.as_slice-in-GroupBy.ensures, c.as_slice-in-GroupBy-2.ensures) valid.1
-
-pub returns-in-Filter : goal.returns-in-Filter
-returns-in-Filter c =
-    let ts = c.args.tables.now in
-    subst (λ (p : IR). IfOk c.filter.result (Gives ts (op_at c.args.ex.now p) (c.args.table.now ∷ []))) (sym c.in-Filter.is) (c.filter.ensures ts)

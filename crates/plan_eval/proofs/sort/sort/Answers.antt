@@ -14,15 +14,15 @@ pub sorted_rows-requires : goal.sorted_rows-requires
 sorted_rows-requires c =
     let options = c.args.options.now in
     subst (λ (cs : List Cell). IsTotalOrder (rows_cmp cs options.descending options.nulls_last)) (sym (ap cells_of c.as_slice.ensures ∙ c.in_ok-keys.ensures))
-    (keys-total c.args.table.now (all_named_at c.args.ex.now c.args.keys.now) options.descending options.nulls_last c.requires.rows c.requires.valid)
+    (keys-total c.args.table (all_named_at c.args.ex.now c.args.keys.now) options.descending options.nulls_last c.requires.rows c.requires.valid)
 
 pub returns : goal.returns
 returns c ts part =
     let options = c.args.options.now in
-    let t = c.args.table.now in
+    let t = c.args.table in
     let rows = c.in_ok-rows.rows.items in
     let ranked = subst (λ (cs : List Cell). AreRanked (rows_cmp cs options.descending options.nulls_last) t.height rows) (ap cells_of c.as_slice.ensures ∙ c.in_ok-keys.ensures) c.in_ok-rows.ensures in
     record {
-      step = (rows, ranked, c.in_ok-rows_at.ensures.frame ∙ ap (λ (l : List ℕ). rows_at l (frame_of t)) c.as_slice-2.ensures.value);
-      types = c.in_ok-rows_at.ensures.types;
+      step = (rows, ranked, c.in_ok-picked.ensures.frame ∙ ap (λ (l : List ℕ). rows_at l (frame_of t)) c.as_slice-2.ensures.value);
+      types = c.in_ok-picked.ensures.types;
     }

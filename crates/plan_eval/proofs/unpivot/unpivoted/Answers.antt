@@ -1,66 +1,33 @@
 use Rattle.std.proofs.Common.{◌≡◌, ◌∙◌, ◌++◌, ◌*◌, ℕ, List, [], ◌∷◌, length, ap, ap₂, sym}
-use Rattle.std.proofs.lemmas.List.{map-append}
-use Rattle.plan_core.specs.Columns.{Columns, names_of}
-use Rattle.plan_core.specs.declared.data_type.DataType.{DataType}
+use Rattle.plan_core.specs.Columns.{names_of}
 use Rattle.plan_core.specs.declared.data_type.DataType.TheVariants.{String}
 use Rattle.plan_expr.specs.Leaves.{Name}
 use Rattle.plan_frame.specs.Frames.{Column, Frame, table_columns}
-use Rattle.plan_meaning.specs.Functions.{all_differ, first_type, value_name, value_names, variable_name}
+use Rattle.plan_meaning.specs.Functions.{first_type, value_name, value_names, variable_name}
 use Rattle.plan_frame.specs.Reshaped.{columns_at, names_down, repeated, values_down}
-use Rattle.plan_frame.specs.Values.{Value}
-use Rattle.plan_table.specs.declared.column.Column.{Column as Typed}
-use Rattle.plan_table.specs.Tables.{types_of, with_column}
-use Rattle.plan_value.specs.Shown.{column_shown, columns_shown, frame_of, schema_of}
-use Rattle.plan_eval.proofs.UnpivotLemmas.{differ-before, names-shown, put-own}
+use Rattle.plan_value.specs.Shown.{frame_of, schema_of}
+use Rattle.plan_eval.proofs.UnpivotLemmas.{names-shown}
 use Rattle.plan_eval.proofs.unpivot.unpivoted.Goals as goal
-
-pub repeated_columns-requires : goal.repeated_columns-requires
-repeated_columns-requires c =
-    let args = c.args.args.now in
-    ap all_differ c.as_slice.ensures ∙ differ-before args.index (variable_name args ∷ value_name args ∷ []) c.requires
 
 pub returns-clause-frame : goal.returns-clause-frame
 returns-clause-frame c =
     let args = c.args.args.now in
     let t = c.args.table.now in
     let g = frame_of t in
-    let done = c.in_ok-columns.columns in
-    let first = c.in_ok-variable_column.field-0 in
-    let second = c.in_ok-value_column.field-0 in
-    let one = c.in_ok-variable_column.ensures in
-    let two = c.in_ok-value_column.ensures in
     let names : List Name = c.as_slice-names.result.now in
-    let told : names ≡ value_names args (names_of (schema_of t)) = c.as_slice-names.ensures ∙ c.in_ok-names.ensures ∙ ap (λ (cs : Columns). value_names args (names_of cs)) c.in_ok-typed.ensures.types in
+    let told : names ≡ value_names args (names_of (schema_of t)) = c.as_slice-names.ensures ∙ c.in_ok-names.ensures in
     let whole : List Name → Frame = λ (names : List Name). record {
       height = length names * g.height;
       columns = table_columns args.index (repeated names g) ++ record { name = variable_name args; values = names_down names g } ∷ record { name = value_name args; values = values_down names g } ∷ [];
     } in
-    let last = put-own args (schema_of t) done first second c.requires (c.in_ok-columns.ensures.types ∙ ap (columns_at (schema_of t)) c.as_slice.ensures) one.name two.name in
-    let columns : columns_shown c.with_column-2.new.self ≡ (whole names).columns =
-    ap columns_shown (c.in_ok-with_column-2.ensures.after ∙ ap (λ (cs : List Typed). with_column cs second) c.in_ok-with_column.ensures.after ∙ last)
-    ∙ map-append column_shown done (first ∷ second ∷ [])
-    ∙ ap (λ (cs : List Column). cs ++ column_shown first ∷ column_shown second ∷ []) (c.in_ok-columns.ensures.shown ∙ ap (λ (index : List Name). table_columns index (repeated names g)) c.as_slice.ensures)
-    ∙ ap₂ (λ (a : Name) (vs : List Value). table_columns args.index (repeated names g) ++ record { name = a; values = vs } ∷ column_shown second ∷ []) one.name one.values
-    ∙ ap₂ (λ (a : Name) (vs : List Value). table_columns args.index (repeated names g) ++ record { name = variable_name args; values = names_down names g } ∷ record { name = a; values = vs } ∷ []) two.name two.values
-    in
     let height : c.in_ok-height_of.field-0 ≡ (whole names).height = c.in_ok-height_of.ensures in
-    ap₂ (λ (h : ℕ) (cs : List Column). record { height = h; columns = cs }) height columns
+    ap₂ (λ (h : ℕ) (cs : List Column). record { height = h; columns = cs }) height c.in_ok-columns_over.ensures.shown
     ∙ ap whole (told ∙ ap (value_names args) (sym (names-shown t.columns)))
 
 pub returns-clause-types : goal.returns-clause-types
 returns-clause-types c =
     let args = c.args.args.now in
     let s = schema_of c.args.table.now in
-    let done = c.in_ok-columns.columns in
-    let first = c.in_ok-variable_column.field-0 in
-    let second = c.in_ok-value_column.field-0 in
-    let one = c.in_ok-variable_column.ensures in
-    let two = c.in_ok-value_column.ensures in
-    let names : List Name = c.as_slice-names.result.now in
-    let told : names ≡ value_names args (names_of s) = c.as_slice-names.ensures ∙ c.in_ok-names.ensures ∙ ap (λ (cs : Columns). value_names args (names_of cs)) c.in_ok-typed.ensures.types in
-    let repeats : types_of done ≡ columns_at s args.index = c.in_ok-columns.ensures.types ∙ ap (columns_at s) c.as_slice.ensures in
-    ap types_of (c.in_ok-with_column-2.ensures.after ∙ ap (λ (cs : List Typed). with_column cs second) c.in_ok-with_column.ensures.after ∙ put-own args s done first second c.requires repeats one.name two.name)
-    ∙ map-append (λ (x : Typed). (x.name, x.dtype)) done (first ∷ second ∷ [])
-    ∙ ap (λ (cs : Columns). cs ++ types_of (first ∷ second ∷ [])) repeats
-    ∙ ap₂ (λ (a : Name) (d : DataType). columns_at s args.index ++ (a, d) ∷ types_of (second ∷ [])) one.name one.dtype
-    ∙ ap₂ (λ (a : Name) (d : DataType). columns_at s args.index ++ (variable_name args, String) ∷ (a, d) ∷ []) two.name (two.dtype ∙ ap (first_type s) told)
+    let told : c.as_slice-names.result.now ≡ value_names args (names_of s) = c.as_slice-names.ensures ∙ c.in_ok-names.ensures in
+    c.in_ok-columns_over.ensures.types
+    ∙ ap (λ (names : List Name). columns_at s args.index ++ (variable_name args, String) ∷ (value_name args, first_type s names) ∷ []) told
