@@ -31,11 +31,7 @@ fn add_place(found: &mut Vec<usize>, places: &Places, name: &str) -> Result<(), 
 }
 
 /// Adds the places of columns. Refuses for want of memory alone.
-fn add_stored(
-    found: &mut Vec<usize>,
-    places: &Places,
-    columns: &Schema,
-) -> Result<(), AllocError>
+fn add_stored(found: &mut Vec<usize>, places: &Places, columns: &Schema) -> Result<(), AllocError>
     ensures { OnOk result (found.new.items ≡ found.old.items ++ places_in places.now (names_of columns.now)) }
 {
     for i in 0..columns.len() {

@@ -104,12 +104,7 @@ fn prepare_exprs(
 }
 
 /// The step of a node over no inputs, or over as many as it names.
-fn prepare_other(
-    alloc: Global,
-    entry: IR,
-    asked: Names,
-    lp: &Arena<IR>,
-) -> Result<Step, AllocError>
+fn prepare_other(alloc: Global, entry: IR, asked: Names, lp: &Arena<IR>) -> Result<Step, AllocError>
     requires not_over_one { over_one entry ≡ false }
     requires without_exprs { has_exprs entry ≡ false }
     requires inputs { (t : Trees IR) × StandsOnce plan_shape lp.now (inputs_of entry) t }
