@@ -2,3 +2,4 @@
 pub mod ChangeLemmas
 pub mod FunctionLemmas
 mod WalkLemmas
+pub mod NameLemmas

@@ -1,9 +1,9 @@
 -- Columns by name, over what a node stores.
-use Rattle.std.specs.Prelude.{◌≡◌, List, [], ◌∷◌, Option, None, Some, option_map, unwrap_or, if◌then◌else◌, slice_get}
+use Rattle.std.specs.Prelude.{◌≡◌, List, [], ◌∷◌, ◌++◌, map, Option, None, Some, option_map, unwrap_or, if◌then◌else◌, slice_get}
 use Rattle.std.specs.Str.{bytes_eq}
 use Rattle.plan_core.specs.declared.data_type.DataType.{DataType}
 use Rattle.plan_core.specs.declared.arena.Node.{Node}
-use Rattle.plan_core.specs.Columns.{Columns, type_of}
+use Rattle.plan_core.specs.Columns.{Columns, names_of, type_of}
 use Rattle.plan_core.specs.Names.{has}
 use Rattle.plan_expr.specs.Leaves.{Name}
 use Rattle.plan_frame.specs.Reshaped.{item_type}
@@ -20,6 +20,14 @@ changed (c ∷ cs) a = if bytes_eq a c.0 then Some c.1 else changed cs a
 -- the type of a column, if it is there
 abbrev pub type_in : Overlay → Name → Option DataType
 type_in o a = unwrap_or (changed o.changes a) (type_of (columns_told o.stored) a)
+
+-- the names of which something becomes
+abbrev pub names_in : List (Name × Option DataType) → List Name
+names_in cs = map (λ (c : Name × Option DataType). c.0) cs
+
+-- the names of which something is known: those of the columns that a node stores, and those that functions change
+abbrev pub names_told : Overlay → List Name
+names_told o = names_of (columns_told o.stored) ++ names_in o.changes
 
 -- each name has there the type that it has among the columns
 abbrev pub Shows : Overlay → Columns → Type 0

@@ -1,7 +1,7 @@
 //! What becomes of columns, by name.
-ghost use Rattle.std.specs.Prelude.{◌≡◌, [], List, OnOk, Some, ℕ, if◌then◌else◌};
+ghost use Rattle.std.specs.Prelude.{◌≡◌, [], List, IfNone, IfSome, None, OnOk, Some, ℕ, if◌then◌else◌, length, slice_get};
 ghost use Rattle.std.specs.Str.{bytes_eq};
-ghost use Rattle.plan_overlay.specs.Overlays.{changed};
+ghost use Rattle.plan_overlay.specs.Overlays.{changed, names_in};
 
 use indexmap::IndexMap;
 use plan_core::DataType;
@@ -38,6 +38,24 @@ impl Changes {
         ensures { result ≡ changed self.now name.now }
     {
         self.types.get(name).copied()
+    }
+
+    /// How many names something becomes of.
+    pub fn len(&self) -> usize
+        ensures { result ≡ length self.now }
+    {
+        self.types.len()
+    }
+
+    /// The name at a place, if something becomes of so many.
+    pub fn name_at(&self, index: usize) -> Option<&str>
+        ensures found { IfSome result (λ a. slice_get (names_in self.now) index ≡ Some a.now) }
+        ensures none { IfNone result (slice_get (names_in self.now) index ≡ None) }
+    {
+        match self.types.get_index(index) {
+            None => None,
+            Some((name, _)) => Some(name.as_str()),
+        }
     }
 
     /// Says what becomes of a name. Refuses for want of memory alone.

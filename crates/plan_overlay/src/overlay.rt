@@ -1,13 +1,13 @@
 //! Columns by name, over what a node stores.
-ghost use Rattle.std.specs.Prelude.{◌≡◌, OnOk, if◌then◌else◌};
+ghost use Rattle.std.specs.Prelude.{◌≡◌, IfNone, IfSome, None, OnOk, Some, if◌then◌else◌, length, slice_get};
 ghost use Rattle.std.specs.Str.{bytes_eq};
 ghost use Rattle.plan_core.specs.Columns.{type_of};
 ghost use Rattle.plan_expr.specs.Leaves.{Name};
 ghost use Rattle.plan_schema.specs.Stored.{columns_told};
-ghost use Rattle.plan_overlay.specs.Overlays.{type_in};
+ghost use Rattle.plan_overlay.specs.Overlays.{names_in, type_in};
 
 use crate::changes::Changes;
-use plan_core::DataType;
+use plan_core::{DataType, Schema};
 use plan_schema::StoredSchema;
 use std::alloc::{AllocError, Global};
 
@@ -37,6 +37,28 @@ impl<'a> Overlay<'a> {
             Some(dtype) => dtype,
             None => self.stored.columns().get(name).copied(),
         }
+    }
+
+    /// The columns that the node stores.
+    pub fn stored(&self) -> &Schema
+        ensures { result.now ≡ columns_told self.now.stored }
+    {
+        self.stored.columns()
+    }
+
+    /// How many names functions change.
+    pub fn changed_len(&self) -> usize
+        ensures { result ≡ length self.now.changes }
+    {
+        self.changes.len()
+    }
+
+    /// The name at a place of those that functions change, if there are so many.
+    pub fn changed_at(&self, index: usize) -> Option<&str>
+        ensures found { IfSome result (λ a. slice_get (names_in self.now.changes) index ≡ Some a.now) }
+        ensures none { IfNone result (slice_get (names_in self.now.changes) index ≡ None) }
+    {
+        self.changes.name_at(index)
     }
 
     /// Gives a column a type, or takes it away. Refuses for want of memory alone.

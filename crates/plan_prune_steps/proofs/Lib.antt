@@ -5,3 +5,4 @@ mod GroupParts
 mod ConcatParts
 mod ScanParts
 mod RenamingParts
+mod PlaceSteps

@@ -1,4 +1,5 @@
 -- The definitions that contracts cite.
+pub mod Places
 pub mod Renaming
 pub mod Scans
 pub mod Steps

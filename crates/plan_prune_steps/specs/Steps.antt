@@ -61,6 +61,16 @@ abbrev pub is_cache : IR → Bool
 is_cache (Cache input id cache_hits) = true
 is_cache other = false
 
+-- a node with expressions that read its inputs
+abbrev pub has_exprs : IR → Bool
+has_exprs (Filter input predicate) = true
+has_exprs (Select input expr schema options) = true
+has_exprs (HStack input exprs schema options) = true
+has_exprs (Sort input by_column slice sort_options) = true
+has_exprs (GroupBy input keys aggs schema maintain_order options) = true
+has_exprs (Join input_left input_right schema left_on right_on options) = true
+has_exprs other = false
+
 -- the step of a node that is asked names, of which nothing is kept yet
 abbrev pub step_of : List IR → List AExpr → List Name → IR → Step
 step_of lp ex asked (Slice i offset len) = Over i asked (Slice i offset len)

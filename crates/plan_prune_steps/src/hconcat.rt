@@ -12,7 +12,8 @@ ghost use Rattle.plan_prune_parts.specs.Kept.{beside_after};
 ghost use Rattle.plan_prune_parts.specs.Said.{columns_at};
 ghost use Rattle.plan_prune_steps.specs.Steps.{held_at, is_hconcat, step_of};
 
-use crate::known::known_at;
+use crate::held::known_with;
+use crate::places::Places;
 use plan_core::{Arena, Items, Names, Node, PlSmallStr, Schema, TryClone};
 use plan_ir::IR;
 use plan_options::HConcatOptions;
@@ -30,9 +31,10 @@ fn asks(
     requires { (t : Trees IR) × StandsOnce plan_shape lp.now inputs.now t }
     ensures { IfOk result (λ lists. (ex : List AExpr) → lists ≡ held_at lp.now ex asked.now inputs.now) }
 {
+    let places = Places::of(alloc, asked)?;
     let mut lists = Items::new(alloc);
     for input in inputs {
-        lists.push(known_at(alloc, asked, *input, lp)?)?;
+        lists.push(known_with(alloc, asked, &places, *input, lp)?)?;
     }
     Ok(lists)
 }

@@ -13,7 +13,7 @@ use plan_overlay::{Overlay, overlay_at};
 use std::alloc::{AllocError, Global};
 
 /// The names that are columns, in their order. Refuses for want of memory alone.
-fn known(alloc: Global, names: &Names, columns: &Overlay<'_>) -> Result<Names, AllocError>
+pub fn known(alloc: Global, names: &Names, columns: &Overlay<'_>) -> Result<Names, AllocError>
     ensures { IfOk result (λ known. known ≡ filter (λ a. is_some (type_in columns.now a)) names.now) }
 {
     let mut known = Names::new(alloc);

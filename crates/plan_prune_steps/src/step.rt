@@ -1,14 +1,14 @@
 //! What pruning does at a node before its input is pruned, and after: each node kind has its own rule, and these two find it.
-ghost use Rattle.std.specs.Prelude.{◌≡◌, ◌<◌, ◌≤◌, ℕ, List, IfOk, IsTrue, OnOk, Some, length, slice_get};
+ghost use Rattle.std.specs.Prelude.{◌≡◌, ◌<◌, ◌≤◌, ℕ, false, List, IfOk, IsTrue, OnOk, Some, length, slice_get};
 ghost use Rattle.plan_core.specs.declared.arena.Node.{Node as NodeType};
 ghost use Rattle.plan_tree.specs.Stands.{Trees, StandsOnce};
 ghost use Rattle.plan_expr.specs.declared.aexpr.AExpr.{AExpr};
 ghost use Rattle.plan_ir.specs.declared.ir.IR.{IR};
-ghost use Rattle.plan_ir.specs.Parts.{IsPlan, inputs_of, is_join, plan_shape, roots_of};
+ghost use Rattle.plan_ir.specs.Parts.{IsPlan, inputs_of, is_join, is_over_one as over_one, plan_shape, roots_of};
 ghost use Rattle.plan_renamed.specs.Renamed.{IsLonger};
 ghost use Rattle.plan_prune_parts.specs.declared.kept.Kept.{Kept as KeptType};
 ghost use Rattle.plan_prune_joins.specs.Joined.{IsKept};
-ghost use Rattle.plan_prune_steps.specs.Steps.{IsPutBack, put_back, step_of};
+ghost use Rattle.plan_prune_steps.specs.Steps.{IsPutBack, has_exprs, put_back, step_of};
 ghost use Rattle.plan_prune_parts.specs.Places.{StandExprs};
 
 use crate::{
@@ -21,6 +21,107 @@ use plan_ir::IR;
 use plan_prune_joins::join;
 use plan_prune_parts::{Kept, Step};
 use std::alloc::{AllocError, Global};
+
+/// Whether a node without expressions stands over one input.
+fn is_over_one(entry: &IR) -> bool
+    ensures { result ≡ over_one entry.now }
+{
+    matches!(
+        entry,
+        IR::Slice { .. }
+            | IR::SimpleProjection { .. }
+            | IR::Distinct { .. }
+            | IR::MapFunction { .. }
+            | IR::Sink { .. }
+            | IR::Cache { .. }
+    )
+}
+
+/// Whether a node has expressions, and inputs that these read.
+fn reads_inputs(entry: &IR) -> bool
+    ensures { result ≡ has_exprs entry.now }
+{
+    matches!(
+        entry,
+        IR::Filter { .. }
+            | IR::Select { .. }
+            | IR::HStack { .. }
+            | IR::Sort { .. }
+            | IR::GroupBy { .. }
+            | IR::Join { .. }
+    )
+}
+
+/// The step of a node without expressions over one input.
+fn prepare_over_one(
+    alloc: Global,
+    entry: IR,
+    asked: Names,
+    lp: &Arena<IR>,
+) -> Result<Step, AllocError>
+    requires kind { IsTrue (over_one entry) }
+    requires inputs { (t : Trees IR) × StandsOnce plan_shape lp.now (inputs_of entry) t }
+    ensures { IfOk result (λ step. (ex : List AExpr) → step ≡ step_of lp.now ex asked entry) }
+{
+    match entry {
+        IR::Slice { input, offset, len } => Ok(slice::prepare(input, offset, len, asked)),
+        IR::SimpleProjection { input, columns } => {
+            projection::prepare(alloc, input, columns, &asked)
+        }
+        IR::Distinct { input, options } => distinct::prepare(alloc, input, options, asked, lp),
+        IR::MapFunction { input, function } => function::prepare(alloc, input, function, asked, lp),
+        IR::Sink { input, payload } => Ok(sink::prepare(input, payload, asked)),
+        cache @ IR::Cache { .. } => cache::prepare(alloc, cache, &asked, lp),
+        _ => unreachable!(),
+    }
+}
+
+/// The step of a node with expressions that read its inputs.
+fn prepare_exprs(
+    alloc: Global,
+    entry: IR,
+    asked: Names,
+    kept: &Option<Kept>,
+    lp: &Arena<IR>,
+    ex: &Arena<AExpr>,
+) -> Result<Step, AllocError>
+    requires kind { IsTrue (has_exprs entry) }
+    requires kept { IsKept lp.now ex.now asked entry kept.now }
+    requires exprs { StandExprs ex.now (roots_of entry) }
+    requires inputs { (t : Trees IR) × StandsOnce plan_shape lp.now (inputs_of entry) t }
+    requires plans { (j : ℕ) (i : NodeType) → slice_get (inputs_of entry) j ≡ Some i → IsPlan lp.now ex.now i }
+    ensures { IfOk result (λ step. step ≡ step_of lp.now ex.now asked entry) }
+{
+    match entry {
+        IR::Filter { input, predicate } => filter::prepare(input, predicate, asked, ex),
+        selection @ IR::Select { .. } => select::prepare(alloc, selection, &asked, lp, ex),
+        addition @ IR::HStack { .. } => hstack::prepare(alloc, addition, asked, lp, ex),
+        sort @ IR::Sort { .. } => sort::prepare(sort, asked, ex),
+        grouping @ IR::GroupBy { .. } => group_by::prepare(alloc, grouping, &asked, lp, ex),
+        join @ IR::Join { .. } => join::prepare(alloc, join, &asked, kept, lp, ex),
+        _ => unreachable!(),
+    }
+}
+
+/// The step of a node over no inputs, or over as many as it names.
+fn prepare_other(alloc: Global, entry: IR, asked: Names, lp: &Arena<IR>) -> Result<Step, AllocError>
+    requires not_over_one { over_one entry ≡ false }
+    requires without_exprs { has_exprs entry ≡ false }
+    requires inputs { (t : Trees IR) × StandsOnce plan_shape lp.now (inputs_of entry) t }
+    ensures { IfOk result (λ step. (ex : List AExpr) → step ≡ step_of lp.now ex asked entry) }
+{
+    match entry {
+        scan @ IR::Scan { .. } => scan::prepare(alloc, scan, &asked),
+        scan @ IR::DataFrameScan { .. } => frame_scan::prepare(alloc, scan, &asked),
+        IR::Union { inputs, options } => union::prepare(alloc, inputs, options, asked),
+        concatenation @ IR::HConcat { .. } => hconcat::prepare(alloc, concatenation, &asked, lp),
+        IR::Invalid => Ok(Step::Leaf {
+            columns: None,
+            entry: IR::Invalid,
+        }),
+        _ => unreachable!(),
+    }
+}
 
 /// The step of a node that was taken and is asked these names, by what is kept of it, which the step doesn't have yet; no names
 /// stand for every column. Refuses for want of memory alone.
@@ -38,30 +139,13 @@ pub fn prepare(
     requires plans { (j : ℕ) (i : NodeType) → slice_get (inputs_of entry) j ≡ Some i → IsPlan lp.now ex.now i }
     ensures { IfOk result (λ step. step ≡ step_of lp.now ex.now asked entry) }
 {
-    match entry {
-        IR::Slice { input, offset, len } => Ok(slice::prepare(input, offset, len, asked)),
-        IR::Filter { input, predicate } => filter::prepare(input, predicate, asked, ex),
-        IR::SimpleProjection { input, columns } => {
-            projection::prepare(alloc, input, columns, &asked)
-        }
-        scan @ IR::Scan { .. } => scan::prepare(alloc, scan, &asked),
-        scan @ IR::DataFrameScan { .. } => frame_scan::prepare(alloc, scan, &asked),
-        selection @ IR::Select { .. } => select::prepare(alloc, selection, &asked, lp, ex),
-        addition @ IR::HStack { .. } => hstack::prepare(alloc, addition, asked, lp, ex),
-        sort @ IR::Sort { .. } => sort::prepare(sort, asked, ex),
-        grouping @ IR::GroupBy { .. } => group_by::prepare(alloc, grouping, &asked, lp, ex),
-        join @ IR::Join { .. } => join::prepare(alloc, join, &asked, kept, lp, ex),
-        IR::Distinct { input, options } => distinct::prepare(alloc, input, options, asked, lp),
-        IR::MapFunction { input, function } => function::prepare(alloc, input, function, asked, lp),
-        IR::Sink { input, payload } => Ok(sink::prepare(input, payload, asked)),
-        IR::Union { inputs, options } => union::prepare(alloc, inputs, options, asked),
-        concatenation @ IR::HConcat { .. } => hconcat::prepare(alloc, concatenation, &asked, lp),
-        cache @ IR::Cache { .. } => cache::prepare(alloc, cache, &asked, lp),
-        IR::Invalid => Ok(Step::Leaf {
-            columns: None,
-            entry: IR::Invalid,
-        }),
+    if is_over_one(&entry) {
+        return prepare_over_one(alloc, entry, asked, lp);
     }
+    if reads_inputs(&entry) {
+        return prepare_exprs(alloc, entry, asked, kept, lp, ex);
+    }
+    prepare_other(alloc, entry, asked, lp)
 }
 
 /// Puts a node back at its number, once its inputs are pruned. It is told whether names are asked of it. Refuses for want of memory
