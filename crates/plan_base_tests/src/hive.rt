@@ -1,7 +1,7 @@
 //! What paths tell of hive columns.
 use plan_core::{At, DataType, Items, PlSmallStr, PlainType, PolarsError, PolarsResult, Schema};
 use plan_hive::hive_partitions_from_paths;
-use plan_made::{names, schema};
+use plan_samples::{names, schema};
 use plan_scan::{ColumnStats, HivePartitions};
 use plan_table::AnyValue;
 use std::alloc::{AllocError, Global};

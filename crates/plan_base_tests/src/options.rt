@@ -1,7 +1,7 @@
 //! Worked values of the calls of plan_options.
 use plan_core::{At, DataType, Items, PlSmallStr, PolarsError, Schema, TryClone};
-use plan_made::{marks, names, schema};
 use plan_options::*;
+use plan_samples::{marks, names, schema};
 use std::alloc::{AllocError, Global};
 
 const A: (&str, DataType) = ("a", DataType::Int64);

@@ -1,7 +1,7 @@
 //! Parts that are projected and made.
 use plan_core::{DataType, Items, PlSmallStr, PolarsResult, Schema, TryClone};
 use plan_hive::hive_partitions_from_paths;
-use plan_made::{names, schema};
+use plan_samples::{names, schema};
 use plan_scan::{ColumnStats, HivePartitions};
 use plan_table::{AnyValue, Column};
 use std::alloc::{AllocError, Global};

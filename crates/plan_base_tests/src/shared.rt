@@ -1,6 +1,6 @@
 //! Worked values of the calls of plan_core.
 use plan_core::*;
-use plan_made::schema;
+use plan_samples::schema;
 use std::alloc::{AllocError, Global};
 
 const A: (&str, DataType) = ("a", DataType::Int64);

@@ -1,6 +1,6 @@
 //! Sources, and formats of files.
 use plan_core::{FileScanOptions, Items, PlSmallStr, RowIndex, TryClone};
-use plan_made::names;
+use plan_samples::names;
 use plan_scan::{FileScan, ScanSourceRef, ScanSources};
 use std::alloc::{AllocError, Global};
 

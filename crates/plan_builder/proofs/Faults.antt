@@ -12,7 +12,7 @@ use Rattle.plan_meaning.specs.Checks.{Check, each, each_new, is_known}
 use Rattle.plan_meaning.specs.Typing.{or_fault, AllHold}
 use Rattle.plan_meaning.proofs.CheckParts.{hold_back}
 use Rattle.plan_meaning.proofs.KeptExprs.{new_distinct}
-use Rattle.plan_function.proofs.CheckLemmas.{drop-at, drop-end}
+use Rattle.plan_schema.proofs.CheckLemmas.{drop-at, drop-end}
 use Rattle.plan_builder.specs.Picks.{first_item_fault, name_checks}
 
 -- checks, and then others

@@ -25,13 +25,12 @@ use Rattle.plan_meaning.specs.Typing.{AllHold, checks, schema}
 use Rattle.plan_meaning.proofs.CheckParts.{good_projection}
 use Rattle.plan_meaning.specs.Functions.{all_differ}
 use Rattle.plan_meaning.proofs.JoinLemmas.{distinct_differ}
-use Rattle.plan_builder.specs.Picks.{first_item_fault, name_checks}
+use Rattle.plan_builder.specs.Picks.{first_item_fault, name_checks, Picks}
 use Rattle.plan_builder.proofs.Faults.{names_distinct}
 use Rattle.plan_frame.proofs.FrameLemmas.{length-map, some_type_is, weaker}
 use Rattle.plan_meaning.proofs.NodeExprs.{all_stand}
 use Rattle.plan_meaning.proofs.Validity.{one_stands}
 use Rattle.plan_builder.specs.Builds.{IsBuilt, MayFollow, columns_at, own_expr}
-use Rattle.plan_builder.specs.Picks.{Picks}
 
 -- the expressions of a node that may follow stand
 pub next_stands : (lp : List IR) (ex : List AExpr) (p : IR) (es : List ExprIR) → MayFollow lp ex p → exprs_of p ≡ es → All (λ (e : ExprIR). IsExpr ex e.node) es

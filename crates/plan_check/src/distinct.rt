@@ -5,8 +5,8 @@ ghost use Rattle.plan_meaning.specs.Typing.{is_built_distinct, is_some_subset, s
 ghost use Rattle.plan_meaning.specs.Typed.{IsNodeTyped};
 
 use plan_core::{Items, Node, PlSmallStr, PolarsError, PolarsResult, Schema};
-use plan_function::{at, check_names_known};
 use plan_options::DistinctOptionsIR;
+use plan_schema::{at, check_names_known};
 
 /// Whether there is a name where names are told.
 fn is_some(subset: &Option<Items<PlSmallStr>>) -> bool

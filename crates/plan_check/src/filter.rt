@@ -6,11 +6,11 @@ ghost use Rattle.plan_ir.specs.Plans.{filter};
 ghost use Rattle.plan_meaning.specs.Typing.{filter_checks, first_fault, Says};
 ghost use Rattle.plan_meaning.specs.Typed.{IsNodeTyped};
 
-use plan_check_exprs::is_boolean;
+use crate::is_boolean;
 use plan_core::{Arena, Node, PolarsError, PolarsResult, Schema};
 use plan_expr::{AExpr, ExprIR, has_form, may_be_named};
 use plan_frame::{expr_type, reads_only};
-use plan_function::at;
+use plan_schema::at;
 
 /// Checks a filter over the columns of its input. Each fault is at place 1: `InvalidOperation` where the predicate
 /// has no form, `SchemaFieldNotFound` where it reads another column, and then `SchemaMismatch` where it isn't Boolean or isn't

@@ -5,9 +5,9 @@ ghost use Rattle.plan_ir.specs.Plans.{frame_scan};
 ghost use Rattle.plan_meaning.specs.Typing.{number_checks, frame_checks, first_fault, Says};
 ghost use Rattle.plan_meaning.specs.Typed.{IsNodeTyped};
 
-use plan_check_exprs::{check_columns_known, check_columns_typed, columns_differ};
+use crate::{check_columns_known, check_columns_typed, columns_differ};
 use plan_core::{Node, PolarsError, PolarsResult, Schema, TryClone};
-use plan_function::at;
+use plan_schema::at;
 use std::alloc::Global;
 
 /// Without a number the frame has no columns.
@@ -23,7 +23,7 @@ fn check_number(node: Node, df: Option<u32>, schema: &Schema) -> PolarsResult<()
 }
 
 /// What is put out are columns of the frame, with their types.
-#[tactic(auto, using(plan_function::proofs::CheckLemmas::fault_append), unfolding(plan_meaning::specs::Typing::frame_checks))]
+#[tactic(auto, using(plan_schema::proofs::CheckLemmas::fault_append), unfolding(plan_meaning::specs::Typing::frame_checks))]
 fn check_put_out(node: Node, df: Option<u32>, schema: &Schema, output: &Schema) -> PolarsResult<()>
     ensures { Says result (first_fault node (frame_checks df schema.now (Some output.now))) }
 {
@@ -35,7 +35,7 @@ fn check_put_out(node: Node, df: Option<u32>, schema: &Schema, output: &Schema) 
 }
 
 /// A scan of a frame that puts out all its columns: without a number there are none.
-#[tactic(auto, using(plan_function::proofs::CheckLemmas::fault_append), unfolding(plan_meaning::specs::Typing::frame_checks))]
+#[tactic(auto, using(plan_schema::proofs::CheckLemmas::fault_append), unfolding(plan_meaning::specs::Typing::frame_checks))]
 fn check_all(node: Node, df: Option<u32>, schema: &Schema) -> PolarsResult<()>
     ensures { Says result (first_fault node (frame_checks df schema.now None)) }
 {

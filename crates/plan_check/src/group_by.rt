@@ -13,7 +13,7 @@ ghost use Rattle.plan_meaning.specs.Typing.{is_built_group, first_fault, Says, I
 ghost use Rattle.plan_frame.specs.Made.{made_schema as schema_made};
 ghost use Rattle.plan_meaning.specs.Typed.{IsNodeTyped};
 
-use plan_check_exprs::{
+use crate::{
     check_forms, check_leaves, check_namings, check_outputs, check_stored, check_types, made_schema,
 };
 use plan_core::{
@@ -21,8 +21,8 @@ use plan_core::{
 };
 use plan_expr::{AExpr, ExprIR, is_scalar, list_of, output_name};
 use plan_frame::expr_type;
-use plan_function::at;
 use plan_options::GroupbyOptions;
+use plan_schema::at;
 use std::alloc::{AllocError, Global};
 
 /// Whether a grouping has a form that is built: some keys, and no slice.

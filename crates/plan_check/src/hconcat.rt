@@ -8,10 +8,10 @@ ghost use Rattle.plan_meaning.specs.Checks.{check};
 ghost use Rattle.plan_meaning.specs.Typing.{first_fault, Says};
 ghost use Rattle.plan_meaning.specs.Typed.{IsNodeTyped};
 
-use plan_check_exprs::check_stored;
+use crate::check_stored;
 use plan_core::{Node, PolarsError, PolarsResult, Schema};
-use plan_function::at;
 use plan_options::merge_schemas;
+use plan_schema::at;
 use std::alloc::Global;
 
 /// The columns of the inputs, one input after another; `Duplicate` at place 0 where two inputs have a column of one name.

@@ -7,10 +7,10 @@ ghost use Rattle.plan_expr.specs.Exprs.{all_named_at};
 ghost use Rattle.plan_ir.specs.Plans.{hstack, select};
 ghost use Rattle.plan_meaning.specs.Typed.{IsNodeTyped};
 
-use plan_check_exprs::check_made;
+use crate::check_made;
 use plan_core::{Arena, Node, PolarsError, PolarsResult, Schema, TryClone};
 use plan_expr::{AExpr, ExprIR};
-use plan_function::at;
+use plan_schema::at;
 use std::alloc::Global;
 
 /// The columns of a selection over those of its input, or its first fault.

@@ -4,15 +4,15 @@ ghost use Rattle.plan_ir.specs.Plans.{simple_projection};
 ghost use Rattle.plan_meaning.specs.Typing.{projection_checks, first_fault, Says};
 ghost use Rattle.plan_meaning.specs.Typed.{IsNodeTyped};
 
-use plan_check_exprs::{check_columns_known, check_columns_typed, columns_differ};
+use crate::{check_columns_known, check_columns_typed, columns_differ};
 use plan_core::{Node, PolarsError, PolarsResult, Schema, TryClone};
-use plan_function::at;
+use plan_schema::at;
 use std::alloc::Global;
 
 /// Checks a simple projection over the columns of its input. Refuses with `InvalidOperation` at place 0 where it has no
 /// columns, with `SchemaFieldNotFound` at the first column that isn't there, and then with `SchemaMismatch` at the
 /// first of another type. No two have one name, since they are a schema.
-#[tactic(auto, using(plan_function::proofs::CheckLemmas::fault_append))]
+#[tactic(auto, using(plan_schema::proofs::CheckLemmas::fault_append))]
 pub fn check_projection(node: Node, columns: &Schema, schema: &Schema) -> PolarsResult<()>
     ensures { Says result (first_fault node (projection_checks columns.now schema.now)) }
 {

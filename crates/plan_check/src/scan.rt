@@ -12,9 +12,9 @@ ghost use Rattle.plan_scan.specs.Sources.{sources_of};
 use crate::scan_columns::check_scan_columns;
 use plan_core::{Arena, FileScanOptions, Items, Node, PolarsError, PolarsResult, Schema, TryClone};
 use plan_expr::{AExpr, ExprIR};
-use plan_function::at;
 use plan_ir::FileInfo;
 use plan_scan::{HivePartitions, ScanSources};
+use plan_schema::at;
 use std::alloc::{AllocError, Global};
 
 /// Whether there is a hive part for each of so many sources, and at least one, where parts are given.

@@ -8,11 +8,11 @@ ghost use Rattle.plan_frame.specs.Frames.{names_or};
 ghost use Rattle.plan_meaning.specs.Typing.{columns_or, differ_checks, first_fault, scan_column_checks, scan_name_checks, scan_type_checks, schema_checks, Says};
 
 use crate::scan_types::{check_own, check_put_out};
-use plan_check_exprs::{check_columns_known, columns_differ};
+use crate::{check_columns_known, columns_differ};
 use plan_core::{FileScanOptions, Items, Node, PlSmallStr, PolarsError, PolarsResult, Schema};
 use plan_files::{FileColumns, file_columns, parts_alike};
-use plan_function::{at, check_names_known, check_names_new};
 use plan_scan::HivePartitions;
+use plan_schema::{at, check_names_known, check_names_new};
 use std::alloc::Global;
 
 /// The names that a scan is told to read; none where it is told none.
@@ -37,7 +37,7 @@ fn told_place(output: &Option<Schema>) -> usize
 
 /// What the scan puts out are columns of the files, and then what it is told to read are columns that a reader finds, else
 /// `SchemaFieldNotFound` at the name.
-#[tactic(auto, using(plan_function::proofs::CheckLemmas::fault_append), unfolding(plan_meaning::specs::Typing::scan_name_checks))]
+#[tactic(auto, using(plan_schema::proofs::CheckLemmas::fault_append), unfolding(plan_meaning::specs::Typing::scan_name_checks))]
 fn check_names(
     node: Node,
     output: &Option<Schema>,
@@ -58,7 +58,7 @@ fn check_names(
 
 /// The hive parts are alike, else `SchemaMismatch` at place 0; then what the scan puts out has the files' types and is read, and what
 /// it is told to read are no hive columns.
-#[tactic(auto, using(plan_function::proofs::CheckLemmas::fault_append), unfolding(plan_meaning::specs::Typing::scan_type_checks))]
+#[tactic(auto, using(plan_schema::proofs::CheckLemmas::fault_append), unfolding(plan_meaning::specs::Typing::scan_type_checks))]
 fn check_types(
     alloc: Global,
     node: Node,

@@ -14,8 +14,8 @@ use plan_core::{
     Schema,
 };
 use plan_files::is_hive;
-use plan_function::{at, is_column, set_of};
 use plan_scan::HivePartitions;
+use plan_schema::{at, is_column, set_of};
 use std::alloc::{AllocError, Global};
 
 /// The names that a scan is told to read, as a set, where it is told some.

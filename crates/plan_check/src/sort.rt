@@ -7,11 +7,11 @@ ghost use Rattle.plan_ir.specs.Plans.{sort};
 ghost use Rattle.plan_meaning.specs.Typing.{are_marks, is_built_sort, key_checks, first_fault, Says};
 ghost use Rattle.plan_meaning.specs.Typed.{IsNodeTyped};
 
-use plan_check_exprs::{check_forms, check_leaves, check_namings, check_plain};
+use crate::{check_forms, check_leaves, check_namings, check_plain};
 use plan_core::{Arena, Node, PolarsError, PolarsResult, Schema};
 use plan_expr::{AExpr, ExprIR};
-use plan_function::at;
 use plan_options::SortMultipleOptions;
+use plan_schema::at;
 
 /// Whether there are as many marks as keys, or one for all.
 fn are_marks_of(marks: &[bool], keys: usize) -> bool
@@ -35,7 +35,7 @@ fn is_built(keys: usize, slice: &Option<(i64, usize)>, options: &SortMultipleOpt
 /// Checks the keys of a sort over the columns of its input, key by key for each of these: `InvalidOperation` where a key has no
 /// form, `SchemaFieldNotFound` where it reads another column, and `SchemaMismatch` where it has no plain type or isn't named as it
 /// may be. The first key stands at place 1.
-#[tactic(auto, using(plan_function::proofs::CheckLemmas::fault_append), unfolding(plan_meaning::specs::Typing::key_checks))]
+#[tactic(auto, using(plan_schema::proofs::CheckLemmas::fault_append), unfolding(plan_meaning::specs::Typing::key_checks))]
 pub fn check_keys(
     node: Node,
     keys: &[ExprIR],

@@ -6,8 +6,8 @@ ghost use Rattle.plan_meaning.specs.TreeFaults.{marked, marked_at, marked_exprs 
 
 use plan_core::{Arena, At, Items, Node, PolarsError, PolarsResult};
 use plan_expr::{AExpr, ExprIR};
-use plan_function::at;
 use plan_ir::IR;
+use plan_schema::at;
 use plan_tree::{Step, walk};
 use std::alloc::{AllocError, Global};
 

@@ -5,8 +5,8 @@ ghost use Rattle.plan_meaning.specs.Typing.{is_built_union, same_checks, first_f
 ghost use Rattle.plan_meaning.specs.Typed.{IsNodeTyped};
 
 use plan_core::{Items, Node, PolarsError, PolarsResult, Schema};
-use plan_function::at;
 use plan_options::UnionOptions;
+use plan_schema::at;
 
 /// Whether a union has a form that is built: some inputs, and no slice.
 #[tactic(auto, unfolding(plan_meaning::specs::Typing::is_built_union))]

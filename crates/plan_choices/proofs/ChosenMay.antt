@@ -10,7 +10,7 @@ use Rattle.plan_frame.specs.Frames.{Frame, in_turn}
 use Rattle.plan_frame.specs.Orders.{AreKept, AreSorted, may_be_kept}
 use Rattle.plan_frame.proofs.OrderLemmas.{sorted_ties}
 use Rattle.plan_ir.specs.Plans.{Op, Plan, sort, group_by, join, distinct, union}
-use Rattle.plan_pair_orders.proofs.OwnJoins.{own_joins}
+use Rattle.plan_join.proofs.OwnJoins.{own_joins}
 use Rattle.plan_meaning.specs.Contents.{Contents}
 use Rattle.plan_meaning.specs.Steps.{May, MayAll, Step}
 use Rattle.plan_choices.specs.Choices.{AreRanked, ChooseAll, Chooses, Chosen, by_place, settled}

@@ -5,7 +5,7 @@ use Rattle.plan_core.specs.Columns.{Columns, names_of}
 use Rattle.plan_tree.specs.Rose.{Roses, rose, no_roses, more}
 use Rattle.plan_options.specs.declared.distinct.UniqueKeepStrategy.TheVariants.{First}
 use Rattle.plan_scan.specs.Sources.{sources_of as scan_sources}
-use Rattle.plan_file_frames.specs.FileFrames.{parts_of, scan_frame}
+use Rattle.plan_file_scan.specs.FileFrames.{parts_of, scan_frame}
 use Rattle.plan_frame.specs.Frames.{Frame, beside, cut, in_turn, rows_at}
 use Rattle.plan_frame.specs.Made.{grouped, made, selected}
 use Rattle.plan_frame.specs.Meaning.{are_alike}
@@ -14,7 +14,7 @@ use Rattle.plan_frame.specs.Rows.{filtered, slice_rows}
 use Rattle.plan_frame.proofs.KeptRows.{alike_equivalence, kept_exists}
 use Rattle.plan_frame.proofs.OrderLemmas.{rows_total}
 use Rattle.plan_frame.proofs.TurnLemmas.{HaveSchemas}
-use Rattle.plan_joined.proofs.JoinedLemmas.{joins-exist}
+use Rattle.plan_join.proofs.JoinedLemmas.{joins-exist}
 use Rattle.plan_ir.specs.Plans.{Op, Plan, slice, filter, scan, frame_scan, simple_projection, select, hstack, sort, group_by, join, distinct, map_function, sink, union, hconcat, cache}
 use Rattle.plan_meaning.specs.Contents.{Contents, FitsAt, FitsAll, Fits, frames_of, handed_in}
 use Rattle.plan_meaning.specs.Mapped.{mapped}
@@ -22,7 +22,7 @@ use Rattle.plan_meaning.specs.Steps.{IsValid}
 use Rattle.plan_meaning.specs.Typing.{AllHold, AllValid, checks, columns_or, scan_columns, schemas}
 use Rattle.plan_meaning.proofs.CheckParts.{keys_good}
 use Rattle.plan_meaning.proofs.Runs.{keys_are, may_have_all}
-use Rattle.plan_pair_orders.specs.OwnOrders.{own_told}
+use Rattle.plan_join.specs.OwnOrders.{own_told}
 use Rattle.plan_choices.specs.Choices.{ChooseAll, Chooses, Chosen}
 use Rattle.plan_choices.proofs.ChosenMay.{all-may}
 use Rattle.plan_choices.proofs.ChosenRows.{chosen_exists, ranked_exists}

@@ -11,8 +11,8 @@ use Rattle.plan_frame.specs.Frames.{Frame, in_turn, rows_at}
 use Rattle.plan_frame.specs.Made.{grouped}
 use Rattle.plan_frame.specs.Meaning.{are_alike, places_from}
 use Rattle.plan_frame.specs.Orders.{AreKept, key_cells, rows_cmp, told_columns}
-use Rattle.plan_joined.specs.Matching.{Joins}
-use Rattle.plan_pair_orders.specs.OwnOrders.{own_told}
+use Rattle.plan_join.specs.Matching.{Joins}
+use Rattle.plan_join.specs.OwnOrders.{own_told}
 use Rattle.plan_ir.specs.Plans.{Op, Plan, distinct, group_by, join, sort, union}
 use Rattle.plan_meaning.specs.Contents.{Contents}
 use Rattle.plan_meaning.specs.Steps.{OnOne, OnTwo, Step}

@@ -15,7 +15,7 @@ use Rattle.plan_frame.specs.Reshaped.{renamed_columns}
 use Rattle.plan_meaning.specs.Checks.{Check, check, each_new}
 use Rattle.plan_meaning.specs.Typing.{AllHold, rename_checks, row_index_checks}
 use Rattle.plan_meaning.proofs.CheckParts.{hold_back}
-use Rattle.plan_function.proofs.RenameLemmas.{names-renamed, or_false}
+use Rattle.plan_schema.proofs.RenameLemmas.{names-renamed, or_false}
 use Rattle.plan_table.specs.declared.column.Column.{Column as Typed}
 use Rattle.plan_table.specs.Tables.{types_of}
 use Rattle.plan_value.specs.Shown.{column_shown, columns_shown}

@@ -29,12 +29,12 @@ use Rattle.plan_meaning.specs.JoinChecks.{are_paired, fits_kind, is_built_join, 
 use Rattle.plan_meaning.specs.Checks.{is_none}
 use Rattle.plan_meaning.specs.Typing.{AllHold}
 use Rattle.plan_meaning.proofs.JoinLemmas.{JoinGood, differ_distinct, join_good}
-use Rattle.plan_pair_orders.specs.OwnOrders.{own_told}
+use Rattle.plan_join.specs.OwnOrders.{own_told}
 use Rattle.plan_join_eval.specs.Compared.{IsTold}
 use Rattle.plan_table.specs.declared.source_key.SourceKey.{SourceKey}
 use Rattle.plan_table.specs.declared.table.Table.{Table}
 use Rattle.plan_value.specs.Shown.{frame_of, schema_of}
-use Rattle.plan_joined.specs.Matching.{Joins}
+use Rattle.plan_join.specs.Matching.{Joins}
 use Rattle.plan_ir.specs.Plans.{join}
 use Rattle.plan_eval.specs.Given.{Gives}
 use Rattle.std.specs.Prelude.{IfOk}

@@ -11,7 +11,7 @@ use Rattle.plan_frame.proofs.BesideLemmas.{beside-distinct}
 use Rattle.plan_frame.specs.Beside.{side_by_side}
 use Rattle.plan_frame.specs.Frames.{Frame}
 use Rattle.plan_meaning.proofs.JoinLemmas.{differ_distinct}
-use Rattle.plan_file_frames.specs.FileFrames.{no_frame}
+use Rattle.plan_file_scan.specs.FileFrames.{no_frame}
 use Rattle.plan_meaning.specs.Contents.{frame_or, place_of}
 use Rattle.plan_meaning.specs.Functions.{all_differ}
 use Rattle.plan_scan.specs.Source.{Source, file, buffer}

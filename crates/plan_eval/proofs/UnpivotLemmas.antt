@@ -11,7 +11,7 @@ use Rattle.plan_frame.specs.Frames.{column_names}
 use Rattle.plan_meaning.specs.Functions.{all_differ, unpivoted_names, value_name, variable_name}
 use Rattle.plan_frame.specs.Reshaped.{columns_at}
 use Rattle.plan_frame.proofs.NameSets.{names-append}
-use Rattle.plan_function.proofs.UnpivotColumns.{differ_front, names-at}
+use Rattle.plan_schema.proofs.UnpivotColumns.{differ_front, names-at}
 use Rattle.plan_table.specs.declared.column.Column.{Column as Typed}
 use Rattle.plan_table.specs.Tables.{types_of, with_column}
 use Rattle.plan_table.proofs.ColumnLemmas.{put-last}

@@ -11,8 +11,8 @@ ghost use Rattle.plan_value.specs.Shown.{frame_of, schema_of};
 
 use crate::scan::own_tables;
 use plan_core::{DataType, Items, PlSmallStr};
-use plan_function::count_name;
 use plan_scan::ScanSources;
+use plan_schema::count_name;
 use plan_table::{AnyValue, Column, Columns, Table, Tables};
 use std::alloc::{AllocError, Global};
 

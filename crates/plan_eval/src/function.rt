@@ -18,8 +18,8 @@ use crate::explode::exploded;
 use crate::unpivot::unpivoted;
 use plan_core::{DataType, PlSmallStr, TryClone};
 use plan_file_tables::row_numbers;
-use plan_function::Renaming;
 use plan_ir::FunctionIR;
+use plan_schema::Renaming;
 use plan_table::{Column, Columns, Table, Tables};
 use std::alloc::{AllocError, Global};
 

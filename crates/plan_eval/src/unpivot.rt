@@ -12,8 +12,8 @@ ghost use Rattle.plan_value.specs.Shown.{columns_shown, frame_of, schema_of, val
 
 use plan_core::{DataType, Items, PlSmallStr, TryClone};
 use plan_file_tables::{append, append_column, append_times};
-use plan_function::{value_name, value_names, variable_name};
 use plan_ir::UnpivotArgsIR;
+use plan_schema::{value_name, value_names, variable_name};
 use plan_table::{AnyValue, Column, Columns, Table};
 use plan_value::{column, typed};
 use std::alloc::{AllocError, Global};

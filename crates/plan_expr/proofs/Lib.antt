@@ -8,3 +8,5 @@ pub mod ScalarLemmas
 pub mod FormLemmas
 mod WalkLemmas
 mod ReachLemmas
+pub mod SameOps
+pub mod SameTrees

@@ -10,3 +10,4 @@ pub mod Forms
 pub mod Walks
 pub mod Refusals
 pub mod Types
+pub mod Same

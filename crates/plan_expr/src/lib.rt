@@ -8,11 +8,13 @@ mod find;
 mod form;
 mod function_expr;
 mod iterator;
+pub mod laws;
 mod leaves;
 mod literal;
 mod names;
 mod nodes;
 mod operator;
+mod same;
 mod scalar;
 mod types;
 
@@ -30,6 +32,7 @@ pub use leaves::{
 pub use literal::LiteralValue;
 pub use names::{Naming, aexpr_output_name, decided_name, may_be_named, output_name};
 pub use operator::Operator;
+pub use same::same_expr;
 pub use scalar::{is_elementwise, is_scalar};
 pub use types::{
     aggregate_type, binary_type, choice_type, list_of, literal_type, operator_type, unary_type,

@@ -2,7 +2,7 @@
 use crate::made::{boxed, column, named};
 use plan_core::{At, DataType, PlainType, PolarsError, PolarsResult, Schema};
 use plan_dsl::{AggExpr, Context, Expr, FunctionExpr, expressions_to_schema};
-use plan_made::schema;
+use plan_samples::schema;
 use std::alloc::{AllocError, Global};
 
 /// What expressions make over a column a of whole numbers.

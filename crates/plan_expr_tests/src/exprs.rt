@@ -10,8 +10,8 @@ use plan_expr::{
     column_node_to_name, has_aexpr, has_aexpr_literal, has_aexpr_window, is_elementwise, is_scalar,
     may_be_named, output_name,
 };
-use plan_made::{links, names};
 use plan_options::ApplyOptions;
+use plan_samples::{links, names};
 use plan_tree::depth_of;
 use std::alloc::{AllocError, Global};
 

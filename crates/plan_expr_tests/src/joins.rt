@@ -4,8 +4,8 @@ ghost use Rattle.std.specs.Prelude.{◌≡◌, length, IfOk};
 use plan_core::{Arena, DataType, Node, PlSmallStr, PolarsError, Schema};
 use plan_expr::{AExpr, ExprIR, OutputName};
 use plan_join::{JoinOptions, Side, join_origin, join_schema};
-use plan_made::schema;
 use plan_options::{JoinArgs, JoinCoalesce, JoinType, MaintainOrderJoin};
+use plan_samples::schema;
 use std::alloc::{AllocError, Global};
 
 /// Columns that are written here.

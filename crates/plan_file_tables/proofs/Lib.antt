@@ -2,3 +2,5 @@
 mod PartLemmas
 mod NumberLemmas
 mod SameLemmas
+mod LeftPartLemmas
+mod OutputLemmas

@@ -8,7 +8,7 @@ use Rattle.std.proofs.lemmas.List.{length-append, map-append, take_more}
 use Rattle.std.proofs.lemmas.List.Quantifiers.{position-Some}
 use Rattle.plan_core.specs.Columns.{names_of, place_of, type_of}
 use Rattle.plan_expr.specs.Leaves.{Name}
-use Rattle.plan_file_frames.specs.FileFrames.{Part, hive_value, part_values, parts_of, rows_in_turn, values_in_turn}
+use Rattle.plan_file_scan.specs.FileFrames.{Part, hive_value, part_values, parts_of, rows_in_turn, values_in_turn}
 use Rattle.plan_frame.specs.Frames.{Frame}
 use Rattle.plan_frame.specs.Values.{Value}
 use Rattle.plan_scan.specs.Source.{Source}

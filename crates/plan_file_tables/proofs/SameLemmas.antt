@@ -4,7 +4,7 @@ use Rattle.std.specs.Str.{bytes_eq}
 use Rattle.std.proofs.lemmas.List.{map-append}
 use Rattle.plan_core.specs.declared.options.FileScanOptions.{FileScanOptions}
 use Rattle.plan_expr.specs.Leaves.{Name}
-use Rattle.plan_file_frames.specs.FileFrames.{Part, alike_or, hive_value, numbers_or, part_values, path_value, rows_in_turn, scan_frame, scan_values, values_in_turn}
+use Rattle.plan_file_scan.specs.FileFrames.{Part, alike_or, hive_value, numbers_or, part_values, path_value, rows_in_turn, scan_frame, scan_values, values_in_turn}
 use Rattle.plan_frame.specs.Frames.{Column, Frame, column_or, found, table_columns}
 use Rattle.plan_frame.specs.Values.{Value, null}
 use Rattle.plan_table.specs.declared.column.Column.{Column as Typed}

@@ -3,7 +3,7 @@ use Rattle.std.specs.Prelude.{◌≡◌, ℕ, List, [], map, Option, None, Some,
 use Rattle.std.specs.Borrow.{Bor}
 use Rattle.std.specs.List.{AllByRecursion}
 use Rattle.plan_expr.specs.Leaves.{Name}
-use Rattle.plan_file_frames.specs.FileFrames.{Part, no_frame, rows_in_turn, values_in_turn}
+use Rattle.plan_file_scan.specs.FileFrames.{Part, no_frame, rows_in_turn, values_in_turn}
 use Rattle.plan_frame.specs.Frames.{Frame, column_or}
 use Rattle.plan_scan.specs.Sources.{source_of}
 use Rattle.plan_scan.specs.Stats.{Stats}

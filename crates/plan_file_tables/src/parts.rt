@@ -1,6 +1,6 @@
 //! The sources of a scan, each with its hive columns and its table.
 ghost use Rattle.std.specs.Prelude.{◌≡◌, ◌++◌, ◌∷◌, [], IfOk, IsTrue, OnOk, option_copied, option_map, replicate, unwrap_or};
-ghost use Rattle.plan_file_frames.specs.FileFrames.{hive_value as value_of_hive, own_values, part_values, parts_of, rows_in_turn};
+ghost use Rattle.plan_file_scan.specs.FileFrames.{hive_value as value_of_hive, own_values, part_values, parts_of, rows_in_turn};
 ghost use Rattle.plan_frame.specs.Values.{text};
 ghost use Rattle.plan_scan.specs.Sources.{path_name, sources_of};
 ghost use Rattle.plan_value.specs.Shown.{frame_of, value_of, values_of};

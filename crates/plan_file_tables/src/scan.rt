@@ -1,7 +1,7 @@
 //! A scan gives the tables of its sources one after another, beside the numbers of its rows, its hive values and its paths.
 ghost use Rattle.std.specs.Prelude.{◌≡◌, IfOk};
 ghost use Rattle.plan_core.specs.Columns.{names_of};
-ghost use Rattle.plan_file_frames.specs.FileFrames.{parts_of, rows_in_turn, scan_frame, scan_values, values_in_turn as values_of_parts};
+ghost use Rattle.plan_file_scan.specs.FileFrames.{parts_of, rows_in_turn, scan_frame, scan_values, values_in_turn as values_of_parts};
 ghost use Rattle.plan_scan.specs.Sources.{sources_of};
 ghost use Rattle.plan_value.specs.Shown.{column_shown, frame_of, schema_of, values_of};
 ghost use Rattle.plan_file_tables.specs.Parts.{frames_found, parts_shown};

@@ -1,17 +1,6 @@
 //! Nodes over other parts.
 ghost use Rattle.std.specs.Prelude.{◌≡◌, ◌≤◌, ◌∷◌, [], drop, length, slice_get, take, IfOk, IsTrue};
-ghost use Rattle.plan_ir.specs.Parts.{exprs_of, inputs_of, list_of, options_over, over_parts, told_over};
-ghost use Rattle.plan_ir.specs.Parts.{
-  is_file_scan,
-  is_frame_scan,
-  is_group_by,
-  is_hstack,
-  is_join,
-  is_over_many,
-  is_over_one,
-  is_select,
-  is_sort,
-};
+ghost use Rattle.plan_ir.specs.Parts.{exprs_of, inputs_of, list_of, options_over, over_parts, told_over, is_file_scan, is_frame_scan, is_group_by, is_hstack, is_join, is_over_many, is_over_one, is_select, is_sort};
 
 use crate::ir::IR;
 use crate::pairs::copy_both;

@@ -4,7 +4,7 @@ ghost use Rattle.plan_expr.specs.Operands.{IsExpr};
 
 use plan_core::{Arena, Items, Node, PlSmallStr};
 use plan_expr::{AExpr, IRAggExpr, LiteralValue, Operator, aexpr_to_leaf_names};
-use plan_renamed::copy_renamed;
+use plan_pruned::copy_renamed;
 use plan_tree::depth_of;
 use std::alloc::{AllocError, Global};
 use std::test::Fail;

@@ -8,8 +8,8 @@ use Rattle.plan_expr.specs.Leaves.{Name}
 use Rattle.plan_frame.specs.Frames.{Column, row}
 use Rattle.plan_frame.specs.Values.{Value, null}
 use Rattle.plan_join.proofs.ColumnLemmas.{is_new}
-use Rattle.plan_joined.specs.Joined.{value_or}
-use Rattle.plan_pairs.specs.declared.pairs.RowPair.{RowPair}
+use Rattle.plan_join.specs.Joined.{value_or}
+use Rattle.plan_join.specs.declared.pairs.RowPair.{RowPair}
 use Rattle.plan_join_eval.specs.Along.{place_in, value_along}
 use Rattle.plan_table.specs.declared.column.Column.{Column as Typed}
 use Rattle.plan_table.specs.Tables.{types_of, with_column}

@@ -5,10 +5,10 @@ use Rattle.std.proofs.Math.Seq.{get_or-append_seam}
 use Rattle.std.proofs.lemmas.Bool.{cases_lt}
 use Rattle.std.proofs.lemmas.List.{get_or_append_left}
 use Rattle.std.proofs.lemmas.List.Elements.{filter-append}
-use Rattle.plan_pairs.specs.declared.matches.Matches.{Matches}
-use Rattle.plan_pairs.specs.Pairs.{Test, passing}
-use Rattle.plan_pairs.specs.Rows.{listed_at, AreJoined}
-use Rattle.plan_pairs.proofs.PlaceLemmas.{passing-below, range-next}
+use Rattle.plan_join.specs.declared.matches.Matches.{Matches}
+use Rattle.plan_join.specs.Pairs.{Test, passing}
+use Rattle.plan_join.specs.Rows.{listed_at, AreJoined}
+use Rattle.plan_join.proofs.PlaceLemmas.{passing-below, range-next}
 use Rattle.plan_join_eval.specs.Compared.{sided, AreLists, AreOwn}
 
 -- one place more

@@ -6,12 +6,12 @@ use Rattle.std.proofs.lemmas.List.FromFn.{get_or-map-range_with_len, length-map-
 use Rattle.plan_frame.specs.Values.{Value, is_null, null, same_value}
 use Rattle.plan_frame.specs.Frames.{row}
 use Rattle.plan_frame.specs.Meaning.{Cell, are_alike, places_from, value_at}
-use Rattle.plan_joined.specs.Matching.{key_matches, keys_match}
-use Rattle.plan_pairs.specs.Pairs.{passing}
-use Rattle.plan_pairs.proofs.PlaceLemmas.{passing-below, passing-none}
+use Rattle.plan_join.specs.Matching.{key_matches, keys_match}
+use Rattle.plan_join.specs.Pairs.{passing}
+use Rattle.plan_join.proofs.PlaceLemmas.{passing-below, passing-none}
 use Rattle.plan_value.specs.declared.exprs.Values.{Values}
 use Rattle.plan_value.specs.Cells.{cells_of}
-use Rattle.plan_pairs.specs.Rows.{listed_at}
+use Rattle.plan_join.specs.Rows.{listed_at}
 use Rattle.plan_join_eval.specs.Equal.{in_rows, may_match, none_null, number_where, numbers_where, stacked, stacked_cells}
 
 -- places that pass, told in two ways

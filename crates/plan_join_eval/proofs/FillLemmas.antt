@@ -15,7 +15,7 @@ use Rattle.plan_expr.specs.Walks.{column_name}
 use Rattle.plan_frame.proofs.NameSets.{same_named}
 use Rattle.plan_join.specs.Naming.{key_columns}
 use Rattle.plan_join.proofs.ColumnLemmas.{key-append, one_column}
-use Rattle.plan_joined.specs.Sides.{partner}
+use Rattle.plan_join.specs.Sides.{partner}
 use Rattle.plan_join_eval.specs.Fills.{ArePartners}
 
 -- the columns among keys, with one key more

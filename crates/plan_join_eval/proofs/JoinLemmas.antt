@@ -25,15 +25,15 @@ use Rattle.plan_join.specs.declared.options.JoinTypeOptionsIR.TheVariants.{IEJoi
 use Rattle.plan_join.specs.Naming.{key_columns, LieIn}
 use Rattle.plan_join.proofs.ColumnLemmas.{one_column}
 use Rattle.plan_join.specs.Told.{Told, column_keys, expr_column, kind_options_at, told_at}
-use Rattle.plan_joined.specs.Joined.{joined}
-use Rattle.plan_joined.specs.Matching.{key_matches, keys_match, matches_by, Joins}
-use Rattle.plan_pairs.specs.declared.matches.Matches.{Matches}
-use Rattle.plan_pairs.specs.declared.pairs.RowPair.{RowPair}
-use Rattle.plan_pairs.specs.Orders.{ArePicked, own_order}
-use Rattle.plan_pairs.specs.Pairs.{Test, both}
-use Rattle.plan_pairs.specs.Rows.{flipped, AreMatches}
-use Rattle.plan_pairs.proofs.PlaceLemmas.{passing-below}
-use Rattle.plan_pair_orders.specs.OwnOrders.{own_told}
+use Rattle.plan_join.specs.Joined.{joined}
+use Rattle.plan_join.specs.Matching.{key_matches, keys_match, matches_by, Joins}
+use Rattle.plan_join.specs.declared.matches.Matches.{Matches}
+use Rattle.plan_join.specs.declared.pairs.RowPair.{RowPair}
+use Rattle.plan_join.specs.Orders.{ArePicked, own_order}
+use Rattle.plan_join.specs.Pairs.{Test, both}
+use Rattle.plan_join.specs.Rows.{flipped, AreMatches}
+use Rattle.plan_join.proofs.PlaceLemmas.{passing-below}
+use Rattle.plan_join.specs.OwnOrders.{own_told}
 use Rattle.plan_join_eval.specs.Compared.{option_test}
 
 -- keys that are equal are so the other way round

@@ -26,13 +26,13 @@ use Rattle.plan_join.proofs.ColumnLemmas.{is_new}
 use Rattle.plan_join.specs.declared.origin.Side.{Side}
 use Rattle.plan_join.specs.declared.origin.Side.TheVariants as sides
 use Rattle.plan_join.specs.Naming.{left_rest, join_columns, right_name, right_rest}
-use Rattle.plan_joined.specs.Joined.{call, filled_by, joined, side_column, side_value, value_or}
-use Rattle.plan_joined.specs.Sides.{filler, fills, left_out, name_sources, partner}
-use Rattle.plan_joined.proofs.JoinedLemmas.{parts, under}
-use Rattle.plan_joined.proofs.NameLemmas.{left-names, right-names}
+use Rattle.plan_join.specs.Joined.{call, filled_by, joined, side_column, side_value, value_or}
+use Rattle.plan_join.specs.Sides.{filler, fills, left_out, name_sources, partner}
+use Rattle.plan_join.proofs.JoinedLemmas.{parts, under}
+use Rattle.plan_join.proofs.NameLemmas.{left-names, right-names}
 use Rattle.plan_meaning.specs.JoinChecks.{is_elementwise}
-use Rattle.plan_pairs.specs.declared.pairs.RowPair.{RowPair}
-use Rattle.plan_pairs.specs.Pairs.{both}
+use Rattle.plan_join.specs.declared.pairs.RowPair.{RowPair}
+use Rattle.plan_join.specs.Pairs.{both}
 use Rattle.plan_table.specs.declared.table.Table.{Table}
 use Rattle.plan_value.specs.Shown.{frame_of, schema_of}
 use Rattle.plan_join_eval.specs.Along.{right_column, value_along}

@@ -19,13 +19,13 @@ use Rattle.plan_value.specs.declared.exprs.Values.{Values}
 use Rattle.plan_value.specs.Cells.{cell_of, cells_of}
 use Rattle.plan_join_eval.specs.Compared.{kind_test, sided}
 use Rattle.plan_join.specs.Told.{operator_if, operators}
-use Rattle.plan_joined.specs.Matching.{keys_meet, operator_of}
+use Rattle.plan_join.specs.Matching.{keys_meet, operator_of}
 use Rattle.plan_options.specs.declared.join.IEJoinOptions.{IEJoinOptions}
 use Rattle.plan_options.specs.declared.join.InequalityOperator.{InequalityOperator}
 use Rattle.plan_options.specs.declared.join.InequalityOperator.TheVariants as inequality
 use Rattle.plan_frame.specs.Meaning.{Cell, compared, operated, value_at}
 use Rattle.plan_frame.specs.Values.{Value, null, whole, text, truth, listed, is_true}
-use Rattle.plan_pairs.specs.Pairs.{passing}
+use Rattle.plan_join.specs.Pairs.{passing}
 use Rattle.plan_value.specs.Shown.{value_of}
 use Rattle.plan_join_eval.specs.declared.runs.Run.{Run}
 use Rattle.plan_join_eval.specs.Runs.{are_comparable, is_met, is_up, is_within, AreRuns, IsNext, IsPassed, IsRunAt}

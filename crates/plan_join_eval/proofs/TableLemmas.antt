@@ -16,11 +16,11 @@ use Rattle.plan_frame.proofs.NameSets.{same_named}
 use Rattle.plan_join.specs.declared.origin.Side.TheVariants as sides
 use Rattle.plan_join.specs.Naming.{left_rest, right_name, right_rest}
 use Rattle.plan_join.specs.Origins.{puts_out_left}
-use Rattle.plan_joined.specs.Joined.{filled_by, joined, side_value, value_or}
-use Rattle.plan_joined.specs.Sides.{filler}
-use Rattle.plan_joined.proofs.JoinedLemmas.{parts, under}
-use Rattle.plan_joined.proofs.NameLemmas.{left-names, left-where, own-types, right-names}
-use Rattle.plan_pairs.specs.declared.pairs.RowPair.{RowPair}
+use Rattle.plan_join.specs.Joined.{filled_by, joined, side_value, value_or}
+use Rattle.plan_join.specs.Sides.{filler}
+use Rattle.plan_join.proofs.JoinedLemmas.{parts, under}
+use Rattle.plan_join.proofs.NameLemmas.{left-names, left-where, own-types, right-names}
+use Rattle.plan_join.specs.declared.pairs.RowPair.{RowPair}
 use Rattle.plan_table.specs.declared.column.Column.{Column as Typed}
 use Rattle.plan_table.specs.declared.table.Table.{Table}
 use Rattle.plan_table.specs.Tables.{types_of}

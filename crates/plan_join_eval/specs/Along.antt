@@ -5,9 +5,9 @@ use Rattle.plan_frame.specs.Frames.{Column, Frame, column_or}
 use Rattle.plan_core.specs.Columns.{Columns, place_of}
 use Rattle.plan_expr.specs.Leaves.{Name}
 use Rattle.plan_frame.specs.Values.{Value, null}
-use Rattle.plan_pairs.specs.declared.pairs.RowPair.{RowPair}
+use Rattle.plan_join.specs.declared.pairs.RowPair.{RowPair}
 use Rattle.plan_join.specs.declared.origin.Side.TheVariants as sides
-use Rattle.plan_joined.specs.Joined.{side_value, value_or}
+use Rattle.plan_join.specs.Joined.{side_value, value_or}
 
 -- the row of a side in a pair, of the right one or of the left, if there is one
 abbrev pub place_in : (of_right : Bool) → RowPair → Option ℕ

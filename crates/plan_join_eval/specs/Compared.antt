@@ -13,11 +13,11 @@ use Rattle.plan_join.specs.declared.options.JoinTypeOptionsIR.{JoinTypeOptionsIR
 use Rattle.plan_join.specs.declared.options.JoinTypeOptionsIR.TheVariants.{IEJoin, Cross}
 use Rattle.plan_join.specs.Naming.{join_columns}
 use Rattle.plan_join.specs.Told.{operators}
-use Rattle.plan_joined.specs.Joined.{joined}
-use Rattle.plan_joined.specs.Matching.{keys_match, keys_meet}
-use Rattle.plan_pairs.specs.declared.matches.Matches.{Matches}
-use Rattle.plan_pairs.specs.Pairs.{Test, both, passing}
-use Rattle.plan_pairs.specs.Rows.{flipped}
+use Rattle.plan_join.specs.Joined.{joined}
+use Rattle.plan_join.specs.Matching.{keys_match, keys_meet}
+use Rattle.plan_join.specs.declared.matches.Matches.{Matches}
+use Rattle.plan_join.specs.Pairs.{Test, both, passing}
+use Rattle.plan_join.specs.Rows.{flipped}
 
 -- whether a condition is true of the one row that a join makes of two
 abbrev pub condition_test : List AExpr → JoinArgs → Node → (f g : Frame) → Test

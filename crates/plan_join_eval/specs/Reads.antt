@@ -8,8 +8,8 @@ use Rattle.plan_expr.specs.Leaves.{Name}
 use Rattle.plan_frame.specs.Frames.{Column, Frame, column_or}
 use Rattle.plan_frame.specs.Meaning.{val, value_at}
 use Rattle.plan_frame.specs.Values.{is_true}
-use Rattle.plan_pairs.specs.declared.pairs.RowPair.{RowPair}
-use Rattle.plan_pairs.specs.Pairs.{both}
+use Rattle.plan_join.specs.declared.pairs.RowPair.{RowPair}
+use Rattle.plan_join.specs.Pairs.{both}
 use Rattle.plan_value.specs.Shown.{values_of}
 use Rattle.plan_join_eval.specs.Along.{value_along}
 use Rattle.plan_join_eval.specs.declared.reads.Read.{Read}

@@ -5,8 +5,8 @@ use Rattle.plan_options.specs.declared.join.InequalityOperator.TheVariants as in
 use Rattle.plan_expr.specs.declared.operator.Operator.TheVariants as operator
 use Rattle.plan_frame.specs.Meaning.{Cell, operated, value_at}
 use Rattle.plan_frame.specs.Values.{Value, null, whole, text, is_null, is_true}
-use Rattle.plan_joined.specs.Matching.{operator_of}
-use Rattle.plan_pairs.specs.Pairs.{passing}
+use Rattle.plan_join.specs.Matching.{operator_of}
+use Rattle.plan_join.specs.Pairs.{passing}
 use Rattle.plan_value.specs.Shown.{value_of}
 use Rattle.plan_join_eval.specs.declared.runs.Run.{Run}
 

@@ -9,10 +9,10 @@ ghost use Rattle.plan_join.specs.declared.options.JoinTypeOptionsIR.TheVariants.
 ghost use Rattle.plan_join.specs.Naming.{join_columns};
 ghost use Rattle.plan_join.specs.Told.{operator_if, operators as operators_of};
 ghost use Rattle.plan_join_eval.specs.Compared.{kind_test, sided, AreLists, AreOwn, IsConditioned};
-ghost use Rattle.plan_joined.specs.Joined.{joined as joined_of};
-ghost use Rattle.plan_joined.specs.Matching.{keys_meet as keys_are_met, operator_of as operator_for};
-ghost use Rattle.plan_pairs.specs.Pairs.{both, passing};
-ghost use Rattle.plan_pairs.specs.Rows.{AreJoined};
+ghost use Rattle.plan_join.specs.Joined.{joined as joined_of};
+ghost use Rattle.plan_join.specs.Matching.{keys_meet as keys_are_met, operator_of as operator_for};
+ghost use Rattle.plan_join.specs.Pairs.{both, passing};
+ghost use Rattle.plan_join.specs.Rows.{AreJoined};
 ghost use Rattle.plan_value.specs.Cells.{cell_of, cells_of};
 ghost use Rattle.plan_value.specs.Shown.{frame_of, schema_of, value_of};
 
@@ -22,9 +22,8 @@ use crate::unequal::near_lists;
 use crate::worked::worked_lists;
 use plan_core::{Arena, Items, Node};
 use plan_expr::{AExpr, is_elementwise};
-use plan_join::JoinTypeOptionsIR;
+use plan_join::{JoinTypeOptionsIR, Matches, RowPair};
 use plan_options::{IEJoinOptions, InequalityOperator, JoinArgs};
-use plan_pairs::{Matches, RowPair};
 use plan_table::{AnyValue, Table};
 use plan_value::{Values, evaluate_expr, is_true_at, operated};
 use std::alloc::{AllocError, Global};

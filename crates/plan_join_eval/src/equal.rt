@@ -4,13 +4,13 @@ ghost use Rattle.std.specs.List.{range_with_len};
 ghost use Rattle.plan_frame.specs.Meaning.{value_at as value_of_row};
 ghost use Rattle.plan_frame.specs.Values.{is_null as null_value};
 ghost use Rattle.plan_join_eval.specs.Equal.{may_match as may_be_matched, numbers_where, stacked_cells};
-ghost use Rattle.plan_joined.specs.Matching.{keys_match};
-ghost use Rattle.plan_pairs.specs.Rows.{AreMatches};
+ghost use Rattle.plan_join.specs.Matching.{keys_match};
+ghost use Rattle.plan_join.specs.Rows.{AreMatches};
 ghost use Rattle.plan_value.specs.Cells.{cell_of, cells_of};
 ghost use Rattle.plan_value.specs.Shown.{value_of, values_of};
 
 use plan_core::Items;
-use plan_pairs::Matches;
+use plan_join::Matches;
 use plan_table::AnyValue;
 use plan_value::{Groups, Values, grouped, rows_of_groups, value_at};
 use std::alloc::{AllocError, Global};

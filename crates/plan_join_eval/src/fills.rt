@@ -3,7 +3,7 @@ ghost use Rattle.std.specs.Prelude.{◌≡◌, None, replicate, IfOk};
 ghost use Rattle.plan_core.specs.Columns.{HasDistinctNames};
 ghost use Rattle.plan_join.specs.Naming.{key_columns, LieIn};
 ghost use Rattle.plan_join_eval.specs.Fills.{ArePartners};
-ghost use Rattle.plan_joined.specs.Sides.{filler, fills, partner};
+ghost use Rattle.plan_join.specs.Sides.{filler, fills, partner};
 
 use plan_core::{Arena, Items, PlSmallStr, Schema};
 use plan_expr::{AExpr, ExprIR};

@@ -9,16 +9,15 @@ ghost use Rattle.plan_expr.specs.Operands.{IsExpr};
 ghost use Rattle.plan_join.specs.Naming.{join_columns, right_name as named_right};
 ghost use Rattle.plan_join_eval.specs.Along.{right_column};
 ghost use Rattle.plan_join_eval.specs.Reads.{is_named, is_read, left_along, read_column as column_read, read_frame, read_type};
-ghost use Rattle.plan_joined.specs.Joined.{joined as joined_of};
-ghost use Rattle.plan_pairs.specs.declared.pairs.RowPair.{RowPair as PairType};
+ghost use Rattle.plan_join.specs.Joined.{joined as joined_of};
+ghost use Rattle.plan_join.specs.declared.pairs.RowPair.{RowPair as PairType};
 ghost use Rattle.plan_value.specs.Shown.{column_shown, frame_of, schema_of};
 
 use crate::joined::{along, column_values, lefts_of, push_column, rights_of};
 use plan_core::{Arena, DataType, Items, Names, Node, PlSmallStr, Schema, TryClone};
 use plan_expr::{AExpr, aexpr_to_leaf_names};
-use plan_join::right_name;
+use plan_join::{RowPair, right_name};
 use plan_options::JoinArgs;
-use plan_pairs::RowPair;
 use plan_table::{AnyValue, Column, Columns, Table};
 use std::alloc::{AllocError, Global};
 

@@ -3,7 +3,7 @@ ghost use Rattle.std.specs.Prelude.{◌≡◌, ◌<◌, ◌≤◌, ◌+◌, ℕ,
 ghost use Rattle.plan_frame.specs.Meaning.{value_at as value_of_row};
 ghost use Rattle.plan_frame.specs.Values.{Value, is_true as true_value};
 ghost use Rattle.plan_join_eval.specs.Runs.{are_comparable, is_met, is_up, is_within, AreRuns, IsPassed, IsRun, IsRunAt};
-ghost use Rattle.plan_joined.specs.Matching.{operator_of as operator_for};
+ghost use Rattle.plan_join.specs.Matching.{operator_of as operator_for};
 ghost use Rattle.plan_table.specs.declared.value.AnyValue.TheVariants.{Null as null_value};
 ghost use Rattle.plan_value.specs.Cells.{cell_of};
 ghost use Rattle.plan_value.specs.Shown.{value_of};

@@ -3,7 +3,7 @@ ghost use Rattle.std.specs.Prelude.{◌≡◌, ◌<◌, ◌≤◌, ℕ, All, tru
 ghost use Rattle.plan_frame.specs.Meaning.{value_at as value_of_row};
 ghost use Rattle.plan_join_eval.specs.Compared.{kind_test, sided, AreLists, IsConditioned};
 ghost use Rattle.plan_join_eval.specs.Runs.{is_met, is_up, AreRuns, IsNext, IsRunAt};
-ghost use Rattle.plan_pairs.specs.Pairs.{passing};
+ghost use Rattle.plan_join.specs.Pairs.{passing};
 ghost use Rattle.plan_value.specs.Cells.{cell_of, cells_of};
 ghost use Rattle.plan_value.specs.Shown.{frame_of, schema_of, value_of};
 

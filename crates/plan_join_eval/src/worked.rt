@@ -10,15 +10,15 @@ ghost use Rattle.plan_join.specs.Naming.{join_columns};
 ghost use Rattle.plan_join_eval.specs.Compared.{condition_test, sided, AreLists};
 ghost use Rattle.plan_join_eval.specs.Reads.{all_beside, beside as pair_beside, is_beside_true, read_frame, read_type};
 ghost use Rattle.plan_meaning.specs.JoinChecks.{is_elementwise as elementwise};
-ghost use Rattle.plan_pairs.specs.Pairs.{passing};
+ghost use Rattle.plan_join.specs.Pairs.{passing};
 ghost use Rattle.plan_value.specs.Cells.{cell_of};
 ghost use Rattle.plan_value.specs.Shown.{frame_of, schema_of};
 
 use crate::reads::{Read, read_table, reads};
 use plan_core::{Arena, Items, Node};
 use plan_expr::AExpr;
+use plan_join::RowPair;
 use plan_options::JoinArgs;
-use plan_pairs::RowPair;
 use plan_table::Table;
 use plan_value::{Values, evaluate_expr, is_true_at};
 use std::alloc::{AllocError, Global};

@@ -21,7 +21,7 @@ use Rattle.plan_meaning.proofs.AskedSets.{fair_set}
 use Rattle.plan_meaning.proofs.JoinLemmas.{JoinGood, join_good}
 use Rattle.plan_meaning.proofs.KeptExprs.{known_leaves}
 use Rattle.plan_join.specs.Origins.{puts_out_left, puts_out_right}
-use Rattle.plan_joined.proofs.NameLemmas.{left-where, right-where}
+use Rattle.plan_join.proofs.NameLemmas.{left-where, right-where}
 use Rattle.plan_meaning.specs.JoinAsked.{left_asked, left_names, needed_of, of_side, origin_of, right_asked, right_names, side_names, side_asked, unasked_right}
 
 -- what a search finds is one of the items

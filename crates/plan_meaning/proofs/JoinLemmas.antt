@@ -23,7 +23,7 @@ use Rattle.plan_frame.proofs.FrameLemmas.{is_type_some}
 use Rattle.plan_frame.proofs.NameSets.{named}
 use Rattle.plan_join.specs.Naming.{drops_left, join_columns}
 use Rattle.plan_join.specs.Told.{Told, column_keys, expr_column}
-use Rattle.plan_joined.specs.Sides.{fills, filler, partner}
+use Rattle.plan_join.specs.Sides.{fills, filler, partner}
 use Rattle.plan_meaning.specs.Functions.{all_differ}
 use Rattle.plan_meaning.specs.Checks.{each, naming_checks, stored_checks}
 use Rattle.plan_meaning.specs.JoinChecks.{are_one_type, conditions, is_built_join, is_formed_condition, is_formed_key, is_key_type, join_checks, join_exprs, join_form_checks, join_leaf_checks, join_once_checks, join_type_checks, left_keys_plain, pair_checks, right_keys_plain}

@@ -18,8 +18,8 @@ use Rattle.plan_meaning.specs.Checks.{is_column, is_plain_type}
 use Rattle.plan_meaning.specs.Typing.{columns_or, reader_columns, scan_columns, first_schema, schema_by, schema, schemas, checks, AllHold, AllValid}
 use Rattle.plan_files.specs.FileColumns.{hive_columns, plain_columns, row_columns}
 use Rattle.plan_files.proofs.FileLemmas.{path_apart}
-use Rattle.plan_file_frames.specs.FileFrames.{no_frame, parts_of, scan_frame}
-use Rattle.plan_file_frames.proofs.ScanFrames.{scan_has}
+use Rattle.plan_file_scan.specs.FileFrames.{no_frame, parts_of, scan_frame}
+use Rattle.plan_file_scan.proofs.ScanFrames.{scan_has}
 use Rattle.plan_scan.specs.Sources.{sources_of as scan_sources}
 use Rattle.plan_frame.specs.Made.{made_schema, made, selected, grouped}
 use Rattle.plan_frame.specs.Beside.{side_by_side}
@@ -36,7 +36,7 @@ use Rattle.plan_frame.proofs.KeptRows.{alike_equivalence, kept_exists}
 use Rattle.plan_frame.proofs.TurnLemmas.{HaveSchemas}
 use Rattle.plan_join.specs.Naming.{join_columns}
 use Rattle.plan_join.specs.Told.{column_keys}
-use Rattle.plan_joined.proofs.JoinedLemmas.{joined-has, joins-exist}
+use Rattle.plan_join.proofs.JoinedLemmas.{joined-has, joins-exist}
 use Rattle.plan_meaning.proofs.JoinLemmas.{differ_distinct, join_good, key_fills}
 use Rattle.plan_meaning.proofs.ScanRuns.{built_one, out_typed, parts_fit}
 use Rattle.plan_meaning.proofs.UnionLemmas.{union_has}

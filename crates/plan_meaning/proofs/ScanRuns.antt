@@ -16,7 +16,7 @@ use Rattle.plan_scan.specs.Source.{Source as ScanSource}
 use Rattle.plan_scan.specs.Stats.{Stats, columns_of}
 use Rattle.plan_files.specs.FileColumns.{hive_columns}
 use Rattle.plan_files.specs.HiveParts.{are_alike, are_one_each, are_typed}
-use Rattle.plan_file_frames.specs.FileFrames.{PartFits, no_frame, parts_of}
+use Rattle.plan_file_scan.specs.FileFrames.{PartFits, no_frame, parts_of}
 use Rattle.plan_ir.specs.declared.scan.FileInfo.{FileInfo}
 use Rattle.plan_meaning.specs.Checks.{is_column, is_none}
 use Rattle.plan_meaning.specs.Contents.{Contents, HasFrame, Source, frame_or, place_of}

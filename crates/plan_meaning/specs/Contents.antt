@@ -12,7 +12,7 @@ use Rattle.plan_ir.specs.declared.functions.FunctionIR.{FunctionIR}
 use Rattle.plan_ir.specs.declared.functions.FunctionIR.TheVariants.{Rename, RowIndex, Unpivot, Explode, FastCount}
 use Rattle.plan_ir.specs.Plans.{Op, slice, filter, scan, frame_scan, simple_projection, select, hstack, sort, group_by, join, distinct, map_function, sink, union, hconcat, cache, invalid, Plan}
 use Rattle.plan_expr.specs.Leaves.{Name}
-use Rattle.plan_file_frames.specs.FileFrames.{no_frame}
+use Rattle.plan_file_scan.specs.FileFrames.{no_frame}
 use Rattle.plan_frame.specs.Frames.{Frame, IsFrame, HoldsAll}
 use Rattle.plan_meaning.specs.Typing.{reader_columns}
 

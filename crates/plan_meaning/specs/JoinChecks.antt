@@ -16,7 +16,7 @@ use Rattle.plan_expr.specs.Leaves.{leaves}
 use Rattle.plan_frame.specs.Exprs.{all_known, expr_type, is_type}
 use Rattle.plan_join.specs.Naming.{drops_left, join_columns}
 use Rattle.plan_join.specs.Told.{KindOptions, inequalities, condition, Told, column_keys, expr_column, operators}
-use Rattle.plan_joined.specs.Sides.{fills}
+use Rattle.plan_join.specs.Sides.{fills}
 use Rattle.plan_meaning.specs.Functions.{all_differ}
 use Rattle.plan_meaning.specs.Checks.{Check, check, each, is_none, is_plain_type, naming_checks, stored_checks}
 

@@ -6,14 +6,14 @@ use Rattle.plan_ir.specs.Plans.{Op, slice, filter, scan, frame_scan, simple_proj
 use Rattle.plan_frame.specs.Frames.{Frame, rows_at, cut, in_turn, beside}
 use Rattle.plan_frame.specs.Meaning.{are_alike}
 use Rattle.plan_options.specs.declared.distinct.UniqueKeepStrategy.TheVariants.{First}
-use Rattle.plan_file_frames.specs.FileFrames.{parts_of, scan_frame}
+use Rattle.plan_file_scan.specs.FileFrames.{parts_of, scan_frame}
 use Rattle.plan_meaning.specs.Mapped.{mapped}
 use Rattle.plan_meaning.specs.Contents.{Contents, frames_of, handed_in}
 use Rattle.plan_frame.specs.Orders.{AreAll, AreKept, AreSorted, key_cells, rows_cmp, told_columns}
 use Rattle.plan_meaning.specs.Typing.{scan_columns, columns_or, schemas, checks, AllHold, AllValid}
 use Rattle.plan_scan.specs.Sources.{sources_of}
 use Rattle.plan_frame.specs.Rows.{filtered, slice_rows}
-use Rattle.plan_joined.specs.Matching.{Joins}
+use Rattle.plan_join.specs.Matching.{Joins}
 use Rattle.plan_frame.specs.Made.{made, selected, grouped}
 
 -- there is no input

@@ -1,4 +1,4 @@
-//! What holds of plans that become others, whichever pass makes them: their caches, their scans, and frames that are cut to all they have.
+//! Plans over two arenas of which nodes and expressions become others: the laws.
 #![tactic(auto)]
 
 pub mod laws;

@@ -17,7 +17,7 @@ use Rattle.plan_ir.specs.Plans.{Op, op_at, plans_of, bare}
 use Rattle.plan_meaning.specs.Typing.{first_schema}
 use Rattle.plan_meaning.specs.Counting.{is_closed, is_count, meet_count}
 use Rattle.plan_schema.specs.Stored.{stored_all}
-use Rattle.plan_narrowing.specs.Pruned.{asked_columns, asks_plans, left_below, pruned_all, rebuilt, top_below, typed_names}
+use Rattle.plan_pruned.specs.Pruned.{asked_columns, asks_plans, left_below, pruned_all, rebuilt, top_below, typed_names}
 use Rattle.plan_prune_parts.specs.declared.step.Step.TheVariants.{Closed}
 use Rattle.plan_prune.specs.Prunes.{MarksAt, PrunesAt}
 use Rattle.plan_prune_parts.specs.Tops.{with_columns_on}

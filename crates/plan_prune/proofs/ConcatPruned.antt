@@ -15,9 +15,9 @@ use Rattle.plan_ir.specs.Parts.{plan_shape, roots_in, roots_of}
 use Rattle.plan_ir.specs.Plans.{Op, op_at, plans_of, bare, hconcat}
 use Rattle.plan_meaning.specs.Typing.{first_schema}
 use Rattle.plan_schema.specs.Stored.{stored_all}
-use Rattle.plan_narrowing.specs.Pruned.{asks_plans, held_names, pruned_all, pruned_hconcat, rebuilt, top_below}
+use Rattle.plan_pruned.specs.Pruned.{asks_plans, held_names, pruned_all, pruned_hconcat, rebuilt, top_below}
 use Rattle.plan_prune_parts.specs.Kept.{beside_after, is_some_name}
-use Rattle.plan_renamed.specs.Renamed.{IsLonger}
+use Rattle.plan_pruned.specs.Renamed.{IsLonger}
 use Rattle.plan_prune_parts.specs.Places.{StandExprs}
 use Rattle.plan_prune.specs.Prunes.{Prunes, PrunesEach, covered_by}
 use Rattle.plan_prune_parts.specs.Said.{columns_at}

@@ -20,11 +20,11 @@ use Rattle.plan_ir.specs.Plans.{Op, op_at, plans_of, bare}
 use Rattle.plan_expr.specs.Leaves.{Name}
 use Rattle.plan_meaning.specs.Typing.{first_schema}
 use Rattle.plan_meaning.specs.Counting.{is_closed, is_count, meet_count}
-use Rattle.plan_narrowing.specs.Pruned.{are_several, asked_columns, asks_plans, covered_each, covered_if, names_alike, pruned_all, rebuilt, top_below, typed_names}
+use Rattle.plan_pruned.specs.Pruned.{are_several, asked_columns, asks_plans, covered_each, covered_if, names_alike, pruned_all, rebuilt, top_below, typed_names}
 use Rattle.plan_schema.specs.Stored.{stored_all}
-use Rattle.plan_narrowing.proofs.ListSteps.{take-next}
-use Rattle.plan_narrowing.proofs.UnionNarrows.{covered_none}
-use Rattle.plan_renamed.specs.Renamed.{IsLonger}
+use Rattle.plan_pruned.proofs.ListSteps.{take-next}
+use Rattle.plan_pruned.proofs.UnionNarrows.{covered_none}
+use Rattle.plan_pruned.specs.Renamed.{IsLonger}
 use Rattle.plan_prune_parts.specs.Places.{StandExprs, TakePlace}
 use Rattle.plan_prune.specs.Prunes.{AreInputs, InputsPruned, Prunes, PrunesEach, PrunesUnder, MarksAt, covered_by}
 use Rattle.plan_prune_parts.specs.Tops.{covered_at, with_top}

@@ -11,7 +11,7 @@ use Rattle.plan_ir.specs.Plans.{Op, group_by}
 use Rattle.plan_meaning.specs.Relating.{names}
 use Rattle.plan_frame.specs.ExprLists.{out_names}
 use Rattle.plan_meaning.specs.Asked.{grouping_names, kept_exprs, set_of}
-use Rattle.plan_narrowing.specs.Pruned.{pruned_group_by}
+use Rattle.plan_pruned.specs.Pruned.{pruned_group_by}
 use Rattle.plan_prune_parts.specs.Kept.{stacked_at, is_some_name, names_at, with_typed, stored_after}
 use Rattle.plan_prune_parts.specs.Places.{TakePlace}
 use Rattle.plan_prune_parts.proofs.PlaceLemmas.{place_behind}

@@ -17,8 +17,8 @@ use Rattle.plan_ir.specs.Plans.{hstack, plans_at, bare}
 use Rattle.plan_expr.specs.Leaves.{Name}
 use Rattle.plan_meaning.specs.Typing.{first_schema}
 use Rattle.plan_schema.specs.Stored.{stored_all}
-use Rattle.plan_narrowing.specs.Pruned.{stacked_names, top_below}
-use Rattle.plan_renamed.specs.Renamed.{IsLonger}
+use Rattle.plan_pruned.specs.Pruned.{stacked_names, top_below}
+use Rattle.plan_pruned.specs.Renamed.{IsLonger}
 use Rattle.plan_prune_parts.specs.Places.{StandExprs, TakePlace}
 use Rattle.plan_prune.specs.Prunes.{Prunes, PrunesAt}
 use Rattle.plan_prune_parts.specs.Kept.{stacked_at, is_some_name, names_at, with_typed, stored_after, with_stacked}

@@ -26,16 +26,16 @@ use Rattle.plan_ir.specs.declared.ir.IR.{IR}
 use Rattle.plan_ir.specs.declared.ir.IR.TheVariants as nodes
 use Rattle.plan_ir.specs.Parts.{plan_shape, condition_of, inputs_of, is_invalid, list_of, roots_of, roots_in}
 use Rattle.plan_ir.specs.Plans.{Op, Plan, op_at, plans_of, bare, join as join_op}
-use Rattle.plan_join_narrowing.specs.JoinPruned.{called_now, first_of_each, may_coalesce, narrowed_args, pruned_join, renamed_kind, topped_if}
-use Rattle.plan_join_prune.specs.declared.top.Top.{Top}
-use Rattle.plan_join_prune.specs.declared.top.Top.TheVariants.{Nothing, Projection, Selection}
-use Rattle.plan_join_prune.specs.Left.{condition_nodes, put_on, top_nodes, StandFor}
-use Rattle.plan_join_prune.specs.Origins.{origin_in}
+use Rattle.plan_pruned.specs.JoinPruned.{called_now, first_of_each, may_coalesce, narrowed_args, pruned_join, renamed_kind, topped_if}
+use Rattle.plan_prune_parts.specs.declared.top.Top.{Top}
+use Rattle.plan_prune_parts.specs.declared.top.Top.TheVariants.{Nothing, Projection, Selection}
+use Rattle.plan_prune_parts.specs.Left.{condition_nodes, put_on, top_nodes, StandFor}
+use Rattle.plan_prune_parts.specs.Origins.{origin_in}
 use Rattle.plan_meaning.specs.JoinAsked.{left_names, origin_of, right_names}
 use Rattle.plan_meaning.specs.Typing.{first_schema, rest_schemas}
 use Rattle.plan_schema.specs.Stored.{stored_all}
-use Rattle.plan_narrowing.specs.Pruned.{asks_plans, pruned_all, rebuilt, top_below}
-use Rattle.plan_renamed.specs.Renamed.{IsLonger}
+use Rattle.plan_pruned.specs.Pruned.{asks_plans, pruned_all, rebuilt, top_below}
+use Rattle.plan_pruned.specs.Renamed.{IsLonger}
 use Rattle.plan_prune_parts.specs.declared.kept.Kept.{Kept}
 use Rattle.plan_prune_joins.specs.Joined.{IsJoined, JoinPut, Keeps, with_on, joined_options}
 use Rattle.plan_prune_steps.specs.Steps.{IsPutBack}

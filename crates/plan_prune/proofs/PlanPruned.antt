@@ -14,14 +14,14 @@ use Rattle.plan_meaning.specs.Asked.{sites_of}
 use Rattle.plan_meaning.specs.Caches.{AreShared}
 use Rattle.plan_meaning.specs.PlanAt.{one_plan, plan_at}
 use Rattle.plan_meaning.specs.Counting.{meet_count, meets_count}
-use Rattle.plan_narrowing.specs.Pruned.{pruned, pruned_all}
+use Rattle.plan_pruned.specs.Pruned.{pruned, pruned_all}
 use Rattle.plan_meaning.specs.Scans.{scans, nodes}
 use Rattle.plan_meaning.specs.Work.{made, kept}
-use Rattle.plan_narrowing.specs.Reads.{ReadWithin, tops}
-use Rattle.plan_narrowing.proofs.CachesPruned.{shared_pruned}
-use Rattle.plan_narrowing.proofs.PrunedNarrows.{pruned_refines}
-use Rattle.plan_narrowing.proofs.PrunedReads.{pruned_reads, pruned_nodes}
-use Rattle.plan_narrowing.proofs.PrunedWork.{pruned_made}
+use Rattle.plan_pruned.specs.Reads.{ReadWithin, tops}
+use Rattle.plan_pruned.proofs.CachesPruned.{shared_pruned}
+use Rattle.plan_pruned.proofs.PrunedNarrows.{pruned_refines}
+use Rattle.plan_pruned.proofs.PrunedReads.{pruned_reads, pruned_nodes}
+use Rattle.plan_pruned.proofs.PrunedWork.{pruned_made}
 
 -- a plan of which everything is asked, told by a list of its own or by none
 pub all_asked : (top : Bool) (ts : Roses (Unit {0}) Op) → pruned_all top ([] ∷ []) ts ≡ pruned_all top [] ts

@@ -19,9 +19,9 @@ use Rattle.plan_ir.proofs.PlanLemmas.{plan_down}
 use Rattle.plan_expr.specs.Leaves.{Name}
 use Rattle.plan_meaning.specs.Counting.{is_closed}
 use Rattle.plan_schema.specs.Stored.{stored_all}
-use Rattle.plan_narrowing.specs.Pruned.{asks_plans, left_below, rebuilt, top_below, pruned_all}
+use Rattle.plan_pruned.specs.Pruned.{asks_plans, left_below, rebuilt, top_below, pruned_all}
 use Rattle.plan_meaning.specs.PlanAt.{one_plan}
-use Rattle.plan_renamed.specs.Renamed.{IsLonger}
+use Rattle.plan_pruned.specs.Renamed.{IsLonger}
 use Rattle.plan_prune_parts.specs.Places.{StandExprs, TakePlace}
 use Rattle.plan_prune.specs.Prunes.{Prunes, PrunesAt}
 use Rattle.plan_prune_parts.specs.Tops.{with_top}

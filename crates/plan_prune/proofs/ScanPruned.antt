@@ -15,7 +15,7 @@ use Rattle.plan_ir.specs.declared.ir.IR.{IR}
 use Rattle.plan_ir.specs.declared.ir.IR.TheVariants as nodes
 use Rattle.plan_ir.specs.declared.scan.FileInfo.{FileInfo}
 use Rattle.plan_ir.specs.Parts.{plan_shape}
-use Rattle.plan_narrowing.specs.Pruned.{asked_columns, scan_columns_left, typed_names}
+use Rattle.plan_pruned.specs.Pruned.{asked_columns, scan_columns_left, typed_names}
 use Rattle.plan_prune_parts.specs.Tops.{with_columns_on}
 use Rattle.plan_prune_steps.specs.Scans.{kept_scan, left_node}
 use Rattle.plan_prune.specs.Prunes.{Prunes}

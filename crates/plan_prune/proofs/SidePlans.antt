@@ -12,7 +12,7 @@ use Rattle.plan_ir.specs.Plans.{Op, op_at, plans_of, bare}
 use Rattle.plan_expr.specs.Leaves.{Name}
 use Rattle.plan_meaning.specs.Counting.{is_closed, is_count, meet_count}
 use Rattle.plan_prune.specs.Prunes.{covered_by}
-use Rattle.plan_narrowing.specs.Pruned.{are_several, covered, covered_each, first_names, pruned, pruned_all, rest_names, top_after}
+use Rattle.plan_pruned.specs.Pruned.{are_several, covered, covered_each, first_names, pruned, pruned_all, rest_names, top_after}
 
 -- the plans that trees side by side are
 pub plans-join : (ex : List AExpr) (x y : Trees IR) → bare (plans_of ex (join x y)) ≡ join (bare (plans_of ex x)) (bare (plans_of ex y))

@@ -21,10 +21,10 @@ use Rattle.plan_core.specs.Columns.{Columns, names_of}
 use Rattle.plan_frame.specs.Frames.{names_or}
 use Rattle.plan_meaning.specs.Counting.{is_count}
 use Rattle.plan_meaning.specs.Asked.{grouping_names, kept_exprs, needed_names, selected_exprs, set_of}
-use Rattle.plan_narrowing.specs.Pruned.{asked_columns, asked_with, kept, mapped_names, pruned_output, top_below}
+use Rattle.plan_pruned.specs.Pruned.{asked_columns, asked_with, kept, mapped_names, pruned_output, top_below}
 use Rattle.plan_prune_parts.specs.declared.step.Step.TheVariants.{Leaf, Over, Each}
 use Rattle.plan_prune_parts.specs.Kept.{is_some_name, names_at, selected_at, stacked_at, stored_after}
-use Rattle.plan_renamed.specs.Renamed.{IsLonger}
+use Rattle.plan_pruned.specs.Renamed.{IsLonger}
 use Rattle.plan_prune_parts.specs.Places.{StandExprs}
 use Rattle.plan_prune.specs.Prunes.{AreInputs, InputsPruned, MarksAt, Prunes, PrunesAt, PrunesEach, PrunesUnder}
 use Rattle.plan_prune_parts.specs.Tops.{covered_at, with_columns_on}

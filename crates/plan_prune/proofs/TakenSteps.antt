@@ -18,7 +18,7 @@ use Rattle.plan_ir.specs.Plans.{bare, op_at, plans_of}
 use Rattle.plan_expr.specs.Leaves.{Name}
 use Rattle.plan_core.specs.Columns.{Columns}
 use Rattle.plan_meaning.specs.Counting.{is_closed, is_count, meet_count}
-use Rattle.plan_narrowing.specs.Pruned.{kept}
+use Rattle.plan_pruned.specs.Pruned.{kept}
 use Rattle.plan_prune_parts.specs.declared.step.Step.{Step}
 use Rattle.plan_prune_parts.specs.declared.step.Step.TheVariants.{Leaf, Over, Closed, Each}
 use Rattle.plan_prune.specs.Prunes.{MarksAt}

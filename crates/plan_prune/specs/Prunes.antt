@@ -9,7 +9,7 @@ use Rattle.plan_ir.specs.Parts.{plan_shape, roots_in}
 use Rattle.plan_ir.specs.Plans.{Op, bare, plans_of}
 use Rattle.plan_expr.specs.Leaves.{Name}
 use Rattle.plan_meaning.specs.Counting.{meet_count}
-use Rattle.plan_narrowing.specs.Pruned.{covered_each, pruned_all}
+use Rattle.plan_pruned.specs.Pruned.{covered_each, pruned_all}
 use Rattle.plan_prune_parts.specs.Places.{StandExprs, TakePlace}
 
 -- the tree t at a number became another, in place and over expressions of its own: t pruned to the asked names, while the arena of expressions grew

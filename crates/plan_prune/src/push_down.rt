@@ -14,9 +14,9 @@ ghost use Rattle.plan_meaning.specs.Asked.{sites_of};
 ghost use Rattle.plan_meaning.specs.Counting.{meets_count};
 ghost use Rattle.plan_meaning.specs.Scans.{nodes, scans};
 ghost use Rattle.plan_meaning.specs.Work.{made, kept};
-ghost use Rattle.plan_narrowing.specs.Pruned.{pruned_all};
-ghost use Rattle.plan_narrowing.specs.Reads.{ReadWithin, tops};
-ghost use Rattle.plan_renamed.specs.Renamed.{IsLonger};
+ghost use Rattle.plan_pruned.specs.Pruned.{pruned_all};
+ghost use Rattle.plan_pruned.specs.Reads.{ReadWithin, tops};
+ghost use Rattle.plan_pruned.specs.Renamed.{IsLonger};
 ghost use Rattle.plan_prune_parts.specs.declared.kept.Kept.{Kept as KeptType};
 ghost use Rattle.plan_prune_parts.specs.Places.{StandExprs};
 ghost use Rattle.plan_prune_parts.specs.Tops.{with_columns_on};
@@ -29,11 +29,11 @@ use crate::taken::{Rest, Taken, boxed};
 use plan_core::{Arena, Names, Node, Schema};
 use plan_expr::AExpr;
 use plan_ir::IR;
-use plan_narrowing::copied_names;
 use plan_prune_joins::join;
 use plan_prune_parts::cover;
 use plan_prune_parts::cover::cover;
 use plan_prune_steps::{select, step};
+use plan_pruned::copied_names;
 use std::alloc::{AllocError, Global};
 
 /// Puts a node without inputs at `node`, under a projection where there are columns and projections go on top. Refuses for want of

@@ -14,12 +14,12 @@ use Rattle.plan_ir.specs.Parts.{condition_of, is_join, list_of, plan_shape, root
 use Rattle.plan_join.specs.declared.options.JoinOptions.{JoinOptions}
 use Rattle.plan_join.specs.declared.origin.Side.{Side}
 use Rattle.plan_join.specs.Told.{told_at}
-use Rattle.plan_join_narrowing.specs.JoinPruned.{narrowed_args}
+use Rattle.plan_pruned.specs.JoinPruned.{narrowed_args}
 use Rattle.plan_meaning.specs.JoinAsked.{left_asked, right_asked}
 use Rattle.plan_expr.specs.Exprs.{all_named_at}
 use Rattle.plan_prune_parts.specs.declared.step.Step.TheVariants.{Each}
 use Rattle.plan_prune_joins.specs.Joined.{joined_step, IsKept, Keeps}
-use Rattle.plan_join_prune.specs.Origins.{origin_in}
+use Rattle.plan_prune_parts.specs.Origins.{origin_in}
 use Rattle.plan_prune_parts.specs.declared.kept.Kept.{Kept}
 use Rattle.plan_prune_parts.specs.Places.{StandExprs}
 use Rattle.plan_prune_parts.proofs.KeptLemmas.{each_stands, numbers_append, numbers_of}

@@ -14,11 +14,11 @@ use Rattle.plan_join.specs.declared.options.JoinOptions.{JoinOptions}
 use Rattle.plan_join.specs.declared.origin.Side.{Side}
 use Rattle.plan_join.specs.Naming.{has_right, join_columns}
 use Rattle.plan_join.specs.Told.{column_keys, told_at}
-use Rattle.plan_join_narrowing.specs.JoinPruned.{called_now, first_of_each, narrowed_told, topped_if, narrowed_args}
-use Rattle.plan_join_prune.specs.declared.top.Top.{Top}
-use Rattle.plan_join_prune.specs.declared.top.Top.TheVariants.{Nothing, Projection, Selection}
-use Rattle.plan_join_prune.specs.Left.{condition_nodes, put_on, top_nodes, StandFor}
-use Rattle.plan_join_prune.specs.Origins.{origin_in}
+use Rattle.plan_pruned.specs.JoinPruned.{called_now, first_of_each, narrowed_told, topped_if, narrowed_args}
+use Rattle.plan_prune_parts.specs.declared.top.Top.{Top}
+use Rattle.plan_prune_parts.specs.declared.top.Top.TheVariants.{Nothing, Projection, Selection}
+use Rattle.plan_prune_parts.specs.Left.{condition_nodes, put_on, top_nodes, StandFor}
+use Rattle.plan_prune_parts.specs.Origins.{origin_in}
 use Rattle.plan_meaning.specs.JoinAsked.{origin_of, left_names, right_names}
 use Rattle.plan_prune_parts.specs.declared.kept.Kept.{Kept}
 use Rattle.plan_prune_parts.specs.Tops.{with_top}

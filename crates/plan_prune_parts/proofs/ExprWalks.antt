@@ -11,8 +11,8 @@ use Rattle.plan_expr.specs.Leaves.{Name, leaves}
 use Rattle.plan_expr.specs.Naming.{name_of}
 use Rattle.plan_expr.specs.Scalars.{is_scalar}
 use Rattle.plan_frame.specs.ExprLists.{all_leaves}
-use Rattle.plan_narrowing.specs.Pruned.{typed_names}
-use Rattle.plan_narrowing.proofs.ListSteps.{with_names-append}
+use Rattle.plan_pruned.specs.Pruned.{typed_names}
+use Rattle.plan_pruned.proofs.ListSteps.{with_names-append}
 use Rattle.plan_prune_parts.specs.Kept.{many_at, names_at, with_typed}
 use Rattle.plan_core.specs.declared.arena.Node.{Node}
 use Rattle.plan_expr.specs.Operands.{IsExpr, operands_of}

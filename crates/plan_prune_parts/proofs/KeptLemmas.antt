@@ -23,7 +23,7 @@ use Rattle.plan_frame.specs.ExprLists.{all_scalar, first_many, out_names}
 use Rattle.plan_meaning.specs.Relating.{all, names}
 use Rattle.plan_meaning.specs.Asked.{kept_exprs, selected_exprs, set_of}
 use Rattle.plan_schema.specs.Stored.{stored_all}
-use Rattle.plan_narrowing.specs.Pruned.{added_names, stacked_names, pruned_select, stacked, pruned_hstack}
+use Rattle.plan_pruned.specs.Pruned.{added_names, stacked_names, pruned_select, stacked, pruned_hstack}
 use Rattle.plan_prune_parts.specs.Places.{StandExprs, TakePlace}
 use Rattle.plan_meaning.specs.PlanAt.{one_plan}
 use Rattle.plan_meaning.specs.Typing.{first_schema}

@@ -23,7 +23,7 @@ use Rattle.plan_ir.specs.declared.ir.IR.{IR}
 use Rattle.plan_ir.specs.declared.ir.IR.TheVariants.{Slice, Filter, Scan, DataFrameScan, SimpleProjection, Select, HStack, Sort, GroupBy, Join, Distinct, MapFunction, Sink, Union, HConcat, Cache, Invalid}
 use Rattle.plan_ir.specs.Parts.{IsPlan, condition_in, condition_of, list_of, plan_shape, roots_in, roots_of}
 use Rattle.plan_ir.specs.Plans.{Op, bare, filter, group_by, hstack, join, op_at, plans_of, scan, select, sort}
-use Rattle.plan_renamed.specs.Renamed.{IsLonger}
+use Rattle.plan_pruned.specs.Renamed.{IsLonger}
 use Rattle.plan_prune_parts.specs.Places.{StandExprs}
 
 -- an arena to which nothing was appended, and one to which entries were appended twice

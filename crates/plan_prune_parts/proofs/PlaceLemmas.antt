@@ -7,7 +7,7 @@ use Rattle.plan_tree.proofs.Frames.{join-left, join-right, Reaches-join}
 use Rattle.plan_tree.proofs.SplitLemmas.{StandsOnce-split, StandsOnce-join}
 use Rattle.plan_expr.specs.declared.aexpr.AExpr.{AExpr}
 use Rattle.plan_expr.specs.Operands.{expr_shape}
-use Rattle.plan_join_prune.specs.Left.{StandFor}
+use Rattle.plan_prune_parts.specs.Left.{StandFor}
 use Rattle.plan_prune_parts.specs.Places.{StandExprs, TakePlace}
 
 module _ (ex : List AExpr) where

@@ -14,7 +14,7 @@ use Rattle.plan_expr.specs.Naming.{name_of}
 use Rattle.plan_expr.specs.Scalars.{is_scalar}
 use Rattle.plan_frame.specs.ExprLists.{all_scalar}
 use Rattle.plan_frame.specs.Beside.{side_by_side}
-use Rattle.plan_narrowing.specs.Pruned.{typed_names, added_names}
+use Rattle.plan_pruned.specs.Pruned.{typed_names, added_names}
 
 -- the expressions that are asked, in their order
 abbrev pub asked_exprs : List Name → List ExprIR → List ExprIR

@@ -1,4 +1,6 @@
 -- The definitions that contracts cite.
+pub mod Origins
+pub mod Left
 pub mod Kept
 pub mod Places
 pub mod Said

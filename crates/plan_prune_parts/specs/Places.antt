@@ -4,7 +4,7 @@ use Rattle.plan_core.specs.declared.arena.Node.{Node}
 use Rattle.plan_tree.specs.Stands.{Trees, StandsOnce}
 use Rattle.plan_expr.specs.declared.aexpr.AExpr.{AExpr}
 use Rattle.plan_expr.specs.Operands.{expr_shape}
-use Rattle.plan_join_prune.specs.Left.{StandFor}
+use Rattle.plan_prune_parts.specs.Left.{StandFor}
 
 -- expressions stand over these numbers, no number twice
 abbrev pub StandExprs : List AExpr → List Node → Type 0

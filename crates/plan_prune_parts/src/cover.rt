@@ -5,13 +5,13 @@ ghost use Rattle.plan_tree.specs.Stands.{Trees, StandsOnce};
 ghost use Rattle.plan_expr.specs.declared.aexpr.AExpr.{AExpr};
 ghost use Rattle.plan_ir.specs.declared.ir.IR.{IR};
 ghost use Rattle.plan_ir.specs.Parts.{plan_shape};
-ghost use Rattle.plan_narrowing.specs.Pruned.{asked_columns as asked_of};
+ghost use Rattle.plan_pruned.specs.Pruned.{asked_columns as asked_of};
 ghost use Rattle.plan_prune_parts.specs.Tops.{covered_at, with_columns_on, with_top};
 ghost use Rattle.plan_prune_parts.specs.Said.{columns_at};
 
 use plan_core::{Arena, Names, Node, Schema};
 use plan_ir::IR;
-use plan_narrowing::asked_columns;
+use plan_pruned::asked_columns;
 use plan_schema::stored_schema;
 use std::alloc::{AllocError, Global};
 

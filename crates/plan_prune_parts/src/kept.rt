@@ -1,7 +1,7 @@
 //! What is kept of a join while its sides are pruned.
 
+use crate::Origins;
 use plan_core::Names;
-use plan_join_prune::Origins;
 
 /// What is kept of a join that is asked names, from before its sides are pruned.
 #[derive(Drop)]

@@ -2,7 +2,7 @@
 use Rattle.std.proofs.Common.{◌≡◌, ℕ, zero, suc, ◌+◌, ◌<◌, List, [], ◌∷◌, ◌++◌, length, take, refl, ap, arith, add-one}
 use Rattle.plan_core.specs.declared.arena.Node.{Node}
 use Rattle.plan_expr.specs.Leaves.{Name}
-use Rattle.plan_narrowing.specs.Pruned.{names_alike}
+use Rattle.plan_pruned.specs.Pruned.{names_alike}
 
 -- there are as many lists as inputs
 pub length-alike : (names : List Name) (ns : List Node) → length (names_alike names ns) ≡ length ns

@@ -9,7 +9,7 @@ use Rattle.plan_expr.specs.Leaves.{Name}
 use Rattle.plan_frame.specs.ExprLists.{all_leaves}
 use Rattle.plan_ir.specs.declared.functions.FunctionIR.{FunctionIR}
 use Rattle.plan_meaning.specs.Asked.{function_names}
-use Rattle.plan_narrowing.specs.Pruned.{asked_with, held_names, mapped_names}
+use Rattle.plan_pruned.specs.Pruned.{asked_with, held_names, mapped_names}
 use Rattle.plan_prune_parts.specs.Kept.{asks_after}
 
 pub with-some : (asked names : List Name) → (length asked ≡ 0 → ⊥) → with_names asked names ≡ asked_with asked names

@@ -12,8 +12,8 @@ use Rattle.plan_expr.specs.declared.aexpr.AExpr.{AExpr}
 use Rattle.plan_expr.specs.Leaves.{Name}
 use Rattle.plan_ir.specs.declared.ir.IR.{IR}
 use Rattle.plan_frame.specs.Beside.{in_a_row, side_by_side, with_new}
-use Rattle.plan_narrowing.specs.Pruned.{held_names}
-use Rattle.plan_narrowing.proofs.ListSteps.{take-next}
+use Rattle.plan_pruned.specs.Pruned.{held_names}
+use Rattle.plan_pruned.proofs.ListSteps.{take-next}
 use Rattle.plan_prune_parts.specs.Said.{columns_at}
 use Rattle.plan_prune_steps.specs.Steps.{held_at}
 

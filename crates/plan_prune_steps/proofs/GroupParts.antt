@@ -15,8 +15,8 @@ use Rattle.plan_expr.specs.Naming.{name_of}
 use Rattle.plan_frame.specs.ExprLists.{all_leaves}
 use Rattle.plan_core.specs.Names.{with_names}
 use Rattle.plan_frame.proofs.GroupLemmas.{leaves-join}
-use Rattle.plan_narrowing.specs.Pruned.{typed_name, typed_names}
-use Rattle.plan_narrowing.proofs.ListSteps.{with_names-append}
+use Rattle.plan_pruned.specs.Pruned.{typed_name, typed_names}
+use Rattle.plan_pruned.proofs.ListSteps.{with_names-append}
 use Rattle.plan_prune_parts.specs.Kept.{stacked_at, is_some_name, names_at, with_typed}
 use Rattle.plan_prune_parts.specs.Places.{StandExprs}
 use Rattle.plan_prune_parts.proofs.KeptLemmas.{numbers_append, numbers_of, each_stands, stacked_stand}

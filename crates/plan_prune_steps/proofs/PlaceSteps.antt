@@ -13,8 +13,8 @@ use Rattle.plan_core.specs.Columns.{names_of}
 use Rattle.plan_core.specs.Names.{AreDistinct, has, with_name}
 use Rattle.plan_expr.specs.Leaves.{Name}
 use Rattle.plan_frame.proofs.NameSets.{adds_name, has_cons, same_named}
-use Rattle.plan_narrowing.proofs.ListSteps.{Differs, before_differ, take-next}
-use Rattle.plan_narrowing.proofs.NameSteps.{where-next, where-skip}
+use Rattle.plan_pruned.proofs.ListSteps.{Differs, before_differ, take-next}
+use Rattle.plan_pruned.proofs.NameSteps.{where-next, where-skip}
 use Rattle.plan_schema.specs.Stored.{columns_told}
 use Rattle.plan_overlay.specs.declared.overlay.Overlay.{Overlay}
 use Rattle.plan_overlay.specs.Overlays.{names_in, names_told, type_in}

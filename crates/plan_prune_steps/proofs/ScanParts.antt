@@ -8,11 +8,11 @@ use Rattle.plan_expr.specs.declared.expr_ir.ExprIR.{ExprIR}
 use Rattle.plan_scan.specs.Stats.{Stats}
 use Rattle.plan_scan.specs.declared.file_scan.FileScan.{FileScan}
 use Rattle.plan_scan.specs.declared.sources.ScanSources.{ScanSources}
-use Rattle.plan_file_narrowing.specs.Left.{in_file_order, left_options, left_output, left_parts}
+use Rattle.plan_file_scan.specs.Left.{in_file_order, left_options, left_output, left_parts}
 use Rattle.plan_ir.specs.declared.ir.IR.{IR}
 use Rattle.plan_ir.specs.declared.ir.IR.TheVariants.{Scan}
 use Rattle.plan_ir.specs.declared.scan.FileInfo.{FileInfo}
-use Rattle.plan_narrowing.specs.Pruned.{reads_left, scan_columns_left, typed_names}
+use Rattle.plan_pruned.specs.Pruned.{reads_left, scan_columns_left, typed_names}
 use Rattle.plan_prune_parts.specs.declared.step.Step.TheVariants.{Leaf}
 use Rattle.plan_prune_steps.specs.Steps.{step_of}
 

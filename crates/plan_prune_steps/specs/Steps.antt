@@ -14,7 +14,7 @@ use Rattle.plan_expr.specs.Leaves.{Name, leaves}
 use Rattle.plan_frame.specs.Frames.{names_or}
 use Rattle.plan_frame.specs.ExprLists.{all_leaves}
 use Rattle.plan_meaning.specs.Asked.{grouping_names, needed_names}
-use Rattle.plan_narrowing.specs.Pruned.{asked_columns, asked_with, held_names, kept, mapped_names, names_alike, pruned_output}
+use Rattle.plan_pruned.specs.Pruned.{asked_columns, asked_with, held_names, kept, mapped_names, names_alike, pruned_output}
 use Rattle.plan_prune_parts.specs.declared.kept.Kept.{Kept}
 use Rattle.plan_prune_parts.specs.declared.step.Step.{Step}
 use Rattle.plan_prune_parts.specs.declared.step.Step.TheVariants.{Leaf, Over, Closed, Each}

@@ -9,8 +9,8 @@ ghost use Rattle.plan_prune_steps.specs.Steps.{is_cache, step_of};
 
 use plan_core::{Arena, Names};
 use plan_ir::IR;
-use plan_narrowing::asked_columns;
 use plan_prune_parts::Step;
+use plan_pruned::asked_columns;
 use plan_schema::stored_schema;
 use std::alloc::{AllocError, Global};
 

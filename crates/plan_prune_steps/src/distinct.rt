@@ -10,15 +10,15 @@ ghost use Rattle.plan_ir.specs.declared.ir.IR.{IR};
 ghost use Rattle.plan_ir.specs.declared.ir.IR.TheVariants.{Distinct};
 ghost use Rattle.plan_ir.specs.Parts.{plan_shape};
 ghost use Rattle.plan_frame.specs.Frames.{names_or};
-ghost use Rattle.plan_narrowing.specs.Pruned.{asked_with};
+ghost use Rattle.plan_pruned.specs.Pruned.{asked_with};
 ghost use Rattle.plan_prune_parts.specs.declared.step.Step.TheVariants.{Over};
 ghost use Rattle.plan_prune_parts.specs.Said.{columns_at};
 
 use plan_core::{Arena, Items, Names, Node, PlSmallStr};
 use plan_ir::IR;
-use plan_narrowing::{add_columns, add_listed};
 use plan_options::DistinctOptionsIR;
 use plan_prune_parts::Step;
+use plan_pruned::{add_columns, add_listed};
 use plan_schema::stored_schema;
 use std::alloc::{AllocError, Global};
 

@@ -6,7 +6,7 @@ ghost use Rattle.plan_ir.specs.declared.ir.IR.TheVariants.{Filter};
 ghost use Rattle.plan_expr.specs.Operands.{IsExpr};
 ghost use Rattle.plan_expr.specs.Exprs.{expr_at};
 ghost use Rattle.plan_expr.specs.Leaves.{leaves};
-ghost use Rattle.plan_narrowing.specs.Pruned.{asked_with};
+ghost use Rattle.plan_pruned.specs.Pruned.{asked_with};
 ghost use Rattle.plan_prune_parts.specs.declared.step.Step.TheVariants.{Over};
 
 use plan_core::{Arena, Names, Node};

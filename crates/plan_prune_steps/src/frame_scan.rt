@@ -7,8 +7,8 @@ ghost use Rattle.plan_prune_steps.specs.Steps.{step_of};
 
 use plan_core::Names;
 use plan_ir::IR;
-use plan_narrowing::pruned_output;
 use plan_prune_parts::Step;
+use plan_pruned::pruned_output;
 use std::alloc::{AllocError, Global};
 
 /// The step of a scan of a frame.

@@ -7,7 +7,7 @@ ghost use Rattle.plan_ir.specs.declared.ir.IR.{IR};
 ghost use Rattle.plan_ir.specs.declared.ir.IR.TheVariants.{MapFunction};
 ghost use Rattle.plan_ir.specs.Parts.{plan_shape};
 ghost use Rattle.plan_meaning.specs.Asked.{function_names};
-ghost use Rattle.plan_narrowing.specs.Pruned.{mapped_names};
+ghost use Rattle.plan_pruned.specs.Pruned.{mapped_names};
 ghost use Rattle.plan_prune_parts.specs.declared.step.Step.TheVariants.{Over};
 ghost use Rattle.plan_prune_parts.specs.Said.{columns_at};
 
@@ -15,8 +15,8 @@ use crate::known::known_at;
 use crate::renaming::renamed_at;
 use plan_core::{Arena, Names, Node, Schema};
 use plan_ir::{FunctionIR, IR};
-use plan_narrowing::needed_names;
 use plan_prune_parts::Step;
+use plan_pruned::needed_names;
 use plan_schema::stored_schema;
 use std::alloc::{AllocError, Global};
 

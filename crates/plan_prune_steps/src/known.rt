@@ -3,7 +3,7 @@ ghost use Rattle.std.specs.Prelude.{◌≡◌, List, [], ◌∷◌, IfOk, filter
 ghost use Rattle.plan_tree.specs.Stands.{Trees, StandsOnce};
 ghost use Rattle.plan_expr.specs.declared.aexpr.AExpr.{AExpr};
 ghost use Rattle.plan_ir.specs.Parts.{plan_shape};
-ghost use Rattle.plan_narrowing.specs.Pruned.{held_names};
+ghost use Rattle.plan_pruned.specs.Pruned.{held_names};
 ghost use Rattle.plan_overlay.specs.Overlays.{type_in};
 ghost use Rattle.plan_prune_parts.specs.Said.{columns_at};
 

@@ -4,13 +4,13 @@ ghost use Rattle.std.specs.Prelude.{◌≡◌, [], IfOk};
 ghost use Rattle.plan_core.specs.Columns.{names_of};
 ghost use Rattle.plan_core.specs.Names.{with_names};
 ghost use Rattle.plan_ir.specs.declared.ir.IR.TheVariants.{SimpleProjection};
-ghost use Rattle.plan_narrowing.specs.Pruned.{kept as kept_of};
+ghost use Rattle.plan_pruned.specs.Pruned.{kept as kept_of};
 ghost use Rattle.plan_prune_parts.specs.declared.step.Step.TheVariants.{Over};
 
 use plan_core::{Names, Node, Schema};
 use plan_ir::IR;
-use plan_narrowing::{add_columns, kept_columns};
 use plan_prune_parts::Step;
+use plan_pruned::{add_columns, kept_columns};
 use std::alloc::{AllocError, Global};
 
 /// What a projection asks its input: the names of its columns, in order.

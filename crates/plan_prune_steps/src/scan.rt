@@ -2,20 +2,20 @@
 //! goes on top where projections go on top. Asked nothing, a scan is unchanged.
 ghost use Rattle.std.specs.Prelude.{◌≡◌, ◌<◌, IfOk, IsTrue, List, Some, length};
 ghost use Rattle.plan_expr.specs.declared.aexpr.AExpr.{AExpr};
-ghost use Rattle.plan_file_narrowing.specs.Left.{in_file_order, left_options, left_output, left_parts};
+ghost use Rattle.plan_file_scan.specs.Left.{in_file_order, left_options, left_output, left_parts};
 ghost use Rattle.plan_ir.specs.declared.ir.IR.{IR};
 ghost use Rattle.plan_ir.specs.declared.ir.IR.TheVariants.{Scan};
 ghost use Rattle.plan_ir.specs.Parts.{is_file_scan};
-ghost use Rattle.plan_narrowing.specs.Pruned.{reads_left, scan_columns_left, typed_names};
+ghost use Rattle.plan_pruned.specs.Pruned.{reads_left, scan_columns_left, typed_names};
 ghost use Rattle.plan_prune_parts.specs.declared.step.Step.TheVariants.{Leaf};
 ghost use Rattle.plan_prune_steps.specs.Steps.{step_of};
 
 use plan_core::{FileScanOptions, Items, Names, Schema};
 use plan_expr::ExprIR;
-use plan_file_prune::{LeftScan, left_scan};
+use plan_file_tables::{LeftScan, left_scan};
 use plan_ir::{FileInfo, IR};
-use plan_narrowing::typed_columns;
 use plan_prune_parts::Step;
+use plan_pruned::typed_columns;
 use plan_scan::{FileScan, HivePartitions, ScanSources};
 use std::alloc::{AllocError, Global};
 

@@ -7,7 +7,7 @@ ghost use Rattle.plan_ir.specs.declared.ir.IR.{IR};
 ghost use Rattle.plan_ir.specs.Parts.{is_sort, roots_of};
 ghost use Rattle.plan_expr.specs.Exprs.{all_named_at};
 ghost use Rattle.plan_frame.specs.ExprLists.{all_leaves};
-ghost use Rattle.plan_narrowing.specs.Pruned.{asked_with};
+ghost use Rattle.plan_pruned.specs.Pruned.{asked_with};
 ghost use Rattle.plan_prune_parts.specs.Places.{StandExprs};
 ghost use Rattle.plan_prune_steps.specs.Steps.{step_of};
 

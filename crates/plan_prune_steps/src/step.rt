@@ -5,7 +5,7 @@ ghost use Rattle.plan_tree.specs.Stands.{Trees, StandsOnce};
 ghost use Rattle.plan_expr.specs.declared.aexpr.AExpr.{AExpr};
 ghost use Rattle.plan_ir.specs.declared.ir.IR.{IR};
 ghost use Rattle.plan_ir.specs.Parts.{IsPlan, inputs_of, is_join, is_over_one as over_one, plan_shape, roots_of};
-ghost use Rattle.plan_renamed.specs.Renamed.{IsLonger};
+ghost use Rattle.plan_pruned.specs.Renamed.{IsLonger};
 ghost use Rattle.plan_prune_parts.specs.declared.kept.Kept.{Kept as KeptType};
 ghost use Rattle.plan_prune_joins.specs.Joined.{IsKept};
 ghost use Rattle.plan_prune_steps.specs.Steps.{IsPutBack, has_exprs, put_back, step_of};

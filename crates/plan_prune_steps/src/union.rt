@@ -2,15 +2,15 @@
 //! Asked something, each of more than one input gets a projection to the asked names on top, so that all have the same columns.
 ghost use Rattle.std.specs.Prelude.{◌≡◌, IfOk, None};
 ghost use Rattle.plan_ir.specs.declared.ir.IR.TheVariants.{Union};
-ghost use Rattle.plan_narrowing.specs.Pruned.{names_alike};
+ghost use Rattle.plan_pruned.specs.Pruned.{names_alike};
 ghost use Rattle.plan_prune_parts.specs.declared.step.Step.TheVariants.{Each};
 ghost use Rattle.plan_prune_steps.specs.Steps.{covering};
 
 use plan_core::{Items, Names, Node, TryClone};
 use plan_ir::IR;
-use plan_narrowing::copied_names;
 use plan_options::UnionOptions;
 use plan_prune_parts::Step;
+use plan_pruned::copied_names;
 use std::alloc::{AllocError, Global};
 
 /// What a union asks its inputs: each of them the asked names.

@@ -11,8 +11,8 @@ ghost use Rattle.plan_meaning.specs.Steps.{IsValid};
 ghost use Rattle.plan_meaning.specs.Typing.{columns_or, first_schema, schema};
 ghost use Rattle.plan_schema.specs.Stored.{columns_told, given_by, stored_all, wants_memory};
 
+use crate::function_schema;
 use plan_core::{Arena, Node, PolarsError, Schema, TryClone};
-use plan_function::function_schema;
 use plan_ir::{FunctionIR, IR};
 use std::alloc::{AllocError, Global};
 

@@ -25,7 +25,7 @@ use Rattle.plan_table.specs.declared.table.Table.{Table}
 use Rattle.plan_value.specs.Shown.{frame_of}
 use Rattle.plan_fit.specs.Sources.{contents_of}
 use Rattle.plan_tool.specs.Rows.{AreRows, Given}
-use Rattle.plan_narrowing.specs.Reads.{ReadWithin, tops}
+use Rattle.plan_pruned.specs.Reads.{ReadWithin, tops}
 use Rattle.plan_tool.specs.declared.command.Command.{Command}
 use Rattle.plan_tool.specs.Answers.{AnswersBytes, Refuses, SaysOf, SaysOfDocument}
 use Rattle.plan_tool.specs.Listings.{IsAnswer, pushdown_bit}

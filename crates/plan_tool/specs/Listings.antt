@@ -14,10 +14,10 @@ use Rattle.plan_ir.specs.Reads.{scan_reads_of}
 use Rattle.plan_meaning.specs.Asked.{sites_of}
 use Rattle.plan_meaning.specs.PlanAt.{plan_at}
 use Rattle.plan_meaning.specs.Relating.{all, Refines}
-use Rattle.plan_narrowing.specs.Pruned.{pruned_all}
+use Rattle.plan_pruned.specs.Pruned.{pruned_all}
 use Rattle.plan_meaning.specs.Scans.{nodes, scans}
 use Rattle.plan_meaning.specs.Work.{made, kept}
-use Rattle.plan_narrowing.specs.Reads.{ReadWithin, tops}
+use Rattle.plan_pruned.specs.Reads.{ReadWithin, tops}
 use Rattle.plan_table.specs.declared.table.Table.{Table}
 use Rattle.plan_text.specs.Written.{listing_text}
 use Rattle.plan_tool.specs.Rows.{AreRows}

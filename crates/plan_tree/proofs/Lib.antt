@@ -8,3 +8,7 @@ pub mod JoinLemmas
 pub mod ReadLemmas
 pub mod WalkLemmas
 pub mod WalkTrees
+pub mod Neighbours
+pub mod Roots
+pub mod Pairs
+pub mod Replaced

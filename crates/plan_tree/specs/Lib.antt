@@ -4,3 +4,4 @@ pub mod Stands
 pub mod Read
 pub mod Walk
 pub mod Depths
+pub mod Forests

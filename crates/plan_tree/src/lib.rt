@@ -3,6 +3,7 @@
 
 mod deeper;
 mod entry;
+pub mod laws;
 mod levels;
 mod walking;
 

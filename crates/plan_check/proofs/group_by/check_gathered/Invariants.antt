@@ -3,7 +3,7 @@ use Rattle.plan_core.specs.declared.error.PolarsError.TheVariants.{SchemaMismatc
 use Rattle.plan_expr.specs.Exprs.{expr_at}
 use Rattle.plan_frame.specs.Exprs.{expr_type}
 use Rattle.plan_frame.specs.Grouping.{gathered_expr}
-use Rattle.plan_function.proofs.CheckLemmas.{Left}
+use Rattle.plan_schema.proofs.CheckLemmas.{Left}
 use Rattle.plan_check.proofs.group_by.check_gathered.Given as goal
 
 abbrev pub invariant-loop-i : goal.invariant-loop-i

@@ -4,7 +4,7 @@ use Rattle.plan_core.specs.declared.error.PolarsError.TheVariants.{SchemaMismatc
 use Rattle.plan_meaning.specs.Checks.{is_column}
 use Rattle.plan_meaning.specs.Typing.{is_number_or_read}
 use Rattle.plan_files.specs.FileColumns.{hive_columns, plain_columns, row_columns}
-use Rattle.plan_function.proofs.CheckLemmas.{left-next, left-bad, past}
+use Rattle.plan_schema.proofs.CheckLemmas.{left-next, left-bad, past}
 use Rattle.plan_check.proofs.scan_types.check_outputs.Goals.{in-Some+else-not-is_put_out, in_default}
 use Rattle.plan_check.proofs.scan_types.check_outputs.Goals as goal
 

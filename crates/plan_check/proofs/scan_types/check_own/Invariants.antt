@@ -3,7 +3,7 @@ use Rattle.plan_core.specs.declared.error.PolarsError.TheVariants.{SchemaMismatc
 use Rattle.plan_core.specs.Columns.{names_of}
 use Rattle.plan_core.specs.Names.{has}
 use Rattle.plan_files.specs.FileColumns.{hive_columns}
-use Rattle.plan_function.proofs.CheckLemmas.{Left}
+use Rattle.plan_schema.proofs.CheckLemmas.{Left}
 use Rattle.plan_check.proofs.scan_types.check_own.Given as goal
 
 abbrev pub invariant-loop-i : goal.invariant-loop-i

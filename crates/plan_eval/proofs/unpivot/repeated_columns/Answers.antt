@@ -7,7 +7,7 @@ use Rattle.plan_expr.specs.Leaves.{Name}
 use Rattle.plan_frame.specs.Frames.{Column, table_columns}
 use Rattle.plan_frame.specs.Reshaped.{columns_at, type_or, repeated}
 use Rattle.plan_frame.specs.Values.{Value}
-use Rattle.plan_function.proofs.UnpivotColumns.{names-at}
+use Rattle.plan_schema.proofs.UnpivotColumns.{names-at}
 use Rattle.plan_value.specs.Shown.{column_shown, frame_of, schema_of}
 use Rattle.plan_value.proofs.ColumnLemmas.{put-types, put-shown}
 use Rattle.plan_eval.proofs.UnpivotLemmas.{distinct-differ}

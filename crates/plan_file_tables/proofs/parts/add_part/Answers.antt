@@ -1,8 +1,7 @@
-use Rattle.std.proofs.Common.{refl, subst, sym}
+use Rattle.std.proofs.Common.{refl, subst, sym, ◌++◌, ◌∷◌, [], List}
 use Rattle.std.specs.Prelude.{IsTrue}
 use Rattle.plan_file_tables.specs.Parts.{GiveSame, part_shown, parts_shown}
 use Rattle.plan_file_tables.specs.declared.parts.Part.{Part as Lent}
-use Rattle.std.proofs.Common.{◌++◌, ◌∷◌, [], List}
 use Rattle.plan_file_tables.proofs.SameLemmas.{with-one, without-bare}
 use Rattle.plan_file_tables.proofs.parts.add_part.Goals as goal
 

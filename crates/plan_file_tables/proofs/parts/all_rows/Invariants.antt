@@ -1,5 +1,5 @@
 use Rattle.std.proofs.Common.{◌≡◌, take}
-use Rattle.plan_file_frames.specs.FileFrames.{rows_in_turn}
+use Rattle.plan_file_scan.specs.FileFrames.{rows_in_turn}
 use Rattle.plan_file_tables.specs.Parts.{parts_shown}
 use Rattle.plan_file_tables.proofs.parts.all_rows.Given as goal
 

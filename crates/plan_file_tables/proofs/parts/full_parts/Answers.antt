@@ -1,6 +1,6 @@
 use Rattle.std.proofs.Common.{List, take, sym, subst, arith}
 use Rattle.std.proofs.lemmas.List.{take_all}
-use Rattle.plan_file_frames.specs.FileFrames.{Part}
+use Rattle.plan_file_scan.specs.FileFrames.{Part}
 use Rattle.plan_file_tables.specs.Parts.{GiveSame, part_shown, parts_shown}
 use Rattle.plan_file_tables.specs.declared.parts.Part.{Part as Lent}
 use Rattle.plan_file_tables.proofs.PartLemmas.{shown-next}

@@ -2,7 +2,7 @@ use Rattle.std.proofs.Common.{◌≡◌, ◌∙◌, [], None, Some, slice_get, a
 use Rattle.std.specs.Option.{option_copied, option_map, unwrap_or}
 use Rattle.std.proofs.lemmas.Option.{slice_get-get_or}
 use Rattle.plan_core.specs.Columns.{Columns, type_of, place_of}
-use Rattle.plan_file_frames.specs.FileFrames.{hive_value}
+use Rattle.plan_file_scan.specs.FileFrames.{hive_value}
 use Rattle.plan_scan.specs.Stats.{Stats, columns_of}
 use Rattle.plan_scan.specs.declared.stats.ColumnStats.{ColumnStats}
 use Rattle.plan_value.specs.Shown.{value_of}

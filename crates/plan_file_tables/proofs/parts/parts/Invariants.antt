@@ -1,5 +1,5 @@
 use Rattle.std.proofs.Common.{◌≡◌, ◌++◌, length}
-use Rattle.plan_file_frames.specs.FileFrames.{parts_of}
+use Rattle.plan_file_scan.specs.FileFrames.{parts_of}
 use Rattle.plan_scan.specs.Sources.{sources_of}
 use Rattle.plan_file_tables.specs.Parts.{frames_found, parts_shown}
 use Rattle.plan_file_tables.proofs.PartLemmas.{parts_from}

@@ -2,7 +2,7 @@ use Rattle.std.proofs.Common.{◌≡◌, ◌∙◌, ◌∷◌, List, ap, ap₂, 
 use Rattle.plan_core.specs.Columns.{Columns, names_of}
 use Rattle.plan_core.specs.declared.data_type.DataType.{DataType}
 use Rattle.plan_expr.specs.Leaves.{Name}
-use Rattle.plan_file_frames.specs.FileFrames.{scan_values}
+use Rattle.plan_file_scan.specs.FileFrames.{scan_values}
 use Rattle.plan_frame.specs.Frames.{Column, table_columns}
 use Rattle.plan_frame.specs.Values.{Value}
 use Rattle.plan_value.proofs.ColumnLemmas.{put-types, put-shown}

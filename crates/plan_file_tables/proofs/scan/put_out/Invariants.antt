@@ -1,6 +1,6 @@
 use Rattle.std.proofs.Common.{◌≡◌, ◌++◌}
 use Rattle.plan_core.specs.Columns.{names_of}
-use Rattle.plan_file_frames.specs.FileFrames.{scan_values}
+use Rattle.plan_file_scan.specs.FileFrames.{scan_values}
 use Rattle.plan_frame.specs.Frames.{table_columns}
 use Rattle.plan_table.specs.Tables.{types_of}
 use Rattle.plan_value.specs.Shown.{columns_shown}

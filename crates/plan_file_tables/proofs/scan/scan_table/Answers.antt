@@ -1,6 +1,6 @@
 use Rattle.std.proofs.Common.{◌∙◌, List, ap}
 use Rattle.plan_core.specs.Columns.{names_of}
-use Rattle.plan_file_frames.specs.FileFrames.{scan_frame}
+use Rattle.plan_file_scan.specs.FileFrames.{scan_frame}
 use Rattle.plan_file_tables.specs.Parts.{parts_shown}
 use Rattle.plan_file_tables.specs.declared.parts.Part.{Part as Lent}
 use Rattle.plan_file_tables.proofs.SameLemmas.{frames-same}

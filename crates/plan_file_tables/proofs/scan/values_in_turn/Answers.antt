@@ -1,5 +1,5 @@
 use Rattle.std.proofs.Common.{◌∙◌, ◌++◌, List, ap, sym}
-use Rattle.plan_file_frames.specs.FileFrames.{part_values}
+use Rattle.plan_file_scan.specs.FileFrames.{part_values}
 use Rattle.plan_frame.specs.Values.{Value}
 use Rattle.plan_file_tables.specs.Parts.{part_shown}
 use Rattle.plan_file_tables.proofs.PartLemmas.{values-next}

@@ -1,5 +1,5 @@
 use Rattle.std.proofs.Common.{◌≡◌, take}
-use Rattle.plan_file_frames.specs.FileFrames.{values_in_turn}
+use Rattle.plan_file_scan.specs.FileFrames.{values_in_turn}
 use Rattle.plan_value.specs.Shown.{values_of}
 use Rattle.plan_file_tables.specs.Parts.{parts_shown}
 use Rattle.plan_file_tables.proofs.scan.values_in_turn.Given as goal

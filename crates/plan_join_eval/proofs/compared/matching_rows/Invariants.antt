@@ -1,5 +1,5 @@
 use Rattle.std.proofs.Common.{◌≡◌}
-use Rattle.plan_pairs.specs.Pairs.{passing}
+use Rattle.plan_join.specs.Pairs.{passing}
 use Rattle.plan_value.specs.Cells.{cells_of}
 use Rattle.plan_value.specs.Shown.{frame_of}
 use Rattle.plan_join_eval.specs.Compared.{kind_test, sided}

@@ -4,7 +4,7 @@ use Rattle.std.proofs.lemmas.List.{get_or-drop, get_or-take, length-drop, length
 use Rattle.std.proofs.lemmas.List.FromFn.{length-map-range_with_len}
 use Rattle.plan_frame.proofs.FrameLemmas.{length-map}
 use Rattle.plan_frame.specs.Meaning.{Cell, are_alike}
-use Rattle.plan_pairs.specs.Rows.{listed_at}
+use Rattle.plan_join.specs.Rows.{listed_at}
 use Rattle.plan_value.specs.Cells.{cell_of, cells_of}
 use Rattle.plan_join_eval.specs.Equal.{number_where, stacked_cells}
 use Rattle.plan_join_eval.proofs.EqualLemmas.{listed-where}

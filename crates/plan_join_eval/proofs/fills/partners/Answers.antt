@@ -4,7 +4,7 @@ use Rattle.std.proofs.lemmas.List.{length-drop}
 use Rattle.std.proofs.lemmas.Option.{slice_get-get_or}
 use Rattle.plan_expr.specs.Leaves.{Name}
 use Rattle.plan_frame.proofs.ScalarExprs.{item_here}
-use Rattle.plan_joined.specs.Sides.{partner}
+use Rattle.plan_join.specs.Sides.{partner}
 use Rattle.plan_join_eval.specs.Fills.{ArePartners}
 use Rattle.plan_join_eval.proofs.FillLemmas.{none-partners, step-absent, step-put}
 use Rattle.plan_join_eval.proofs.fills.partners.Goals as goal

@@ -1,5 +1,5 @@
 use Rattle.std.proofs.Common.{◌≤◌, drop, length}
-use Rattle.plan_joined.specs.Sides.{partner}
+use Rattle.plan_join.specs.Sides.{partner}
 use Rattle.plan_join_eval.specs.Fills.{ArePartners}
 use Rattle.plan_join_eval.proofs.fills.partners.Given as goal
 

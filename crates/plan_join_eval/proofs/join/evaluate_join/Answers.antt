@@ -5,15 +5,15 @@ use Rattle.plan_frame.specs.Orders.{key_cells}
 use Rattle.std.proofs.lemmas.Result.{IfOk-weaker}
 use Rattle.plan_join.specs.Naming.{key_columns}
 use Rattle.plan_join.specs.Told.{told_at}
-use Rattle.plan_joined.specs.Joined.{joined}
-use Rattle.plan_joined.specs.Matching.{Joins}
-use Rattle.plan_pairs.specs.declared.pairs.RowPair.{RowPair}
-use Rattle.plan_pairs.specs.Rows.{goes_right, AreJoined}
+use Rattle.plan_join.specs.Joined.{joined}
+use Rattle.plan_join.specs.Matching.{Joins}
+use Rattle.plan_join.specs.declared.pairs.RowPair.{RowPair}
+use Rattle.plan_join.specs.Rows.{goes_right, AreJoined}
 use Rattle.plan_table.specs.declared.table.Table.{Table}
 use Rattle.plan_value.specs.Cells.{cells_of}
 use Rattle.plan_value.specs.Shown.{frame_of}
-use Rattle.plan_pair_orders.specs.OwnOrders.{own_told}
-use Rattle.plan_pair_orders.proofs.OwnJoins.{own_joins}
+use Rattle.plan_join.specs.OwnOrders.{own_told}
+use Rattle.plan_join.proofs.OwnJoins.{own_joins}
 use Rattle.plan_join_eval.specs.Compared.{option_test}
 use Rattle.plan_join_eval.proofs.JoinLemmas.{picked-joins, within}
 use Rattle.plan_join_eval.proofs.join.evaluate_join.Goals as goal

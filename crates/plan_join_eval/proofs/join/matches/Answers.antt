@@ -1,9 +1,9 @@
 use Rattle.std.proofs.Common.{Bool, Option, sym, subst, true}
 use Rattle.std.proofs.lemmas.Result.{IfOk-weaker}
 use Rattle.plan_join.specs.declared.options.JoinTypeOptionsIR.{JoinTypeOptionsIR}
-use Rattle.plan_pairs.specs.declared.matches.Matches.{Matches}
-use Rattle.plan_pairs.specs.Rows.{AreJoined, AreMatches}
-use Rattle.plan_joined.specs.Matching.{keys_match}
+use Rattle.plan_join.specs.declared.matches.Matches.{Matches}
+use Rattle.plan_join.specs.Rows.{AreJoined, AreMatches}
+use Rattle.plan_join.specs.Matching.{keys_match}
 use Rattle.plan_value.specs.Cells.{cells_of}
 use Rattle.plan_value.specs.Shown.{frame_of}
 use Rattle.plan_join_eval.specs.Compared.{option_test}

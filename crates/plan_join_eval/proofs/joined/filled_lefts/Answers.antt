@@ -2,7 +2,7 @@ use Rattle.std.proofs.Common.{◌≡◌, ◌∙◌, List, Option, ℕ, ap₂, ma
 use Rattle.std.proofs.lemmas.Result.{IfOk-weaker}
 use Rattle.plan_core.specs.Columns.{Columns, names_of}
 use Rattle.plan_join.specs.Naming.{key_columns}
-use Rattle.plan_joined.specs.Sides.{filler}
+use Rattle.plan_join.specs.Sides.{filler}
 use Rattle.plan_value.specs.Shown.{frame_of, schema_of}
 use Rattle.plan_join_eval.specs.Along.{filled_column, left_column}
 use Rattle.plan_join_eval.specs.Fills.{ArePartners}

@@ -4,7 +4,7 @@ use Rattle.plan_options.specs.Join.{suffix_of}
 use Rattle.plan_expr.specs.Leaves.{Name}
 use Rattle.plan_frame.specs.Frames.{Column}
 use Rattle.plan_join.specs.Naming.{key_columns, left_rest, right_name}
-use Rattle.plan_joined.specs.Sides.{filler}
+use Rattle.plan_join.specs.Sides.{filler}
 use Rattle.plan_value.specs.Shown.{frame_of, schema_of}
 use Rattle.plan_join_eval.specs.Along.{filled_column, right_column}
 use Rattle.plan_join_eval.proofs.TableLemmas.{table-joined}

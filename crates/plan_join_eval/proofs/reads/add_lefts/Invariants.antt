@@ -1,7 +1,7 @@
 use Rattle.std.proofs.Common.{◌≡◌, ◌++◌, List, map}
 use Rattle.std.specs.List.{filter as only_where}
 use Rattle.plan_core.specs.Columns.{names_of}
-use Rattle.plan_pairs.specs.declared.pairs.RowPair.{RowPair}
+use Rattle.plan_join.specs.declared.pairs.RowPair.{RowPair}
 use Rattle.plan_value.specs.Shown.{frame_of}
 use Rattle.plan_join_eval.specs.Reads.{is_named, is_read, left_along, read_column, read_type}
 use Rattle.plan_join_eval.proofs.reads.add_lefts.Given as goal

@@ -4,7 +4,7 @@ use Rattle.plan_core.specs.declared.data_type.DataType.{DataType}
 use Rattle.plan_core.specs.Columns.{names_of}
 use Rattle.plan_expr.specs.Leaves.{Name}
 use Rattle.plan_join.specs.Naming.{right_name}
-use Rattle.plan_pairs.specs.declared.pairs.RowPair.{RowPair}
+use Rattle.plan_join.specs.declared.pairs.RowPair.{RowPair}
 use Rattle.plan_value.specs.Shown.{frame_of}
 use Rattle.plan_join_eval.specs.Along.{right_column}
 use Rattle.plan_join_eval.specs.Reads.{is_named, is_read, read_column, read_type}

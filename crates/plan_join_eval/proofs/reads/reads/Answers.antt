@@ -1,7 +1,7 @@
 use Rattle.std.proofs.Common.{◌∙◌, [], List, ap}
 use Rattle.std.specs.List.{filter as only_where}
 use Rattle.plan_expr.specs.Leaves.{Name}
-use Rattle.plan_joined.specs.Joined.{joined}
+use Rattle.plan_join.specs.Joined.{joined}
 use Rattle.plan_value.specs.Shown.{frame_of}
 use Rattle.plan_join_eval.specs.Reads.{is_read}
 use Rattle.plan_join_eval.proofs.reads.reads.Goals as goal

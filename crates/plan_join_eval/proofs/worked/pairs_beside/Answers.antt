@@ -1,8 +1,8 @@
 use Rattle.std.proofs.Common.{◌∙◌, ◌++◌, ◌∷◌, [], List, ℕ, map, ap, sym}
 use Rattle.std.proofs.lemmas.List.{map-append}
 use Rattle.std.specs.List.{range_with_len}
-use Rattle.plan_pairs.proofs.PlaceLemmas.{range-next}
-use Rattle.plan_pairs.specs.declared.pairs.RowPair.{RowPair}
+use Rattle.plan_join.proofs.PlaceLemmas.{range-next}
+use Rattle.plan_join.specs.declared.pairs.RowPair.{RowPair}
 use Rattle.plan_join_eval.specs.Reads.{all_beside, beside}
 use Rattle.plan_join_eval.proofs.worked.pairs_beside.Goals as goal
 

@@ -3,8 +3,8 @@ use Rattle.std.proofs.lemmas.Result.{IfOk-weaker}
 use Rattle.plan_expr.specs.Exprs.{expr_at}
 use Rattle.plan_frame.specs.Meaning.{Cell, val, value_at}
 use Rattle.plan_frame.specs.Values.{is_true}
-use Rattle.plan_pairs.specs.declared.pairs.RowPair.{RowPair}
-use Rattle.plan_pairs.specs.Pairs.{passing}
+use Rattle.plan_join.specs.declared.pairs.RowPair.{RowPair}
+use Rattle.plan_join.specs.Pairs.{passing}
 use Rattle.plan_value.specs.Cells.{cell_of}
 use Rattle.plan_join_eval.specs.Reads.{all_beside, is_beside_true, read_frame}
 use Rattle.plan_join_eval.proofs.worked.rows_where.Goals as goal

@@ -1,7 +1,7 @@
 use Rattle.std.proofs.Common.{◌∙◌, ◌++◌, ◌∷◌, [], List, ℕ, Bool, true, false, ap, sym, append-nil}
 use Rattle.plan_frame.specs.Meaning.{value_at}
 use Rattle.plan_frame.specs.Values.{is_true}
-use Rattle.plan_pairs.specs.Pairs.{passing}
+use Rattle.plan_join.specs.Pairs.{passing}
 use Rattle.plan_value.specs.Cells.{cell_of}
 use Rattle.plan_join_eval.proofs.CompareLemmas.{passing-next}
 use Rattle.plan_join_eval.proofs.worked.true_rows.Goals.{then-is_true_at+in_ok-push, else-is_true_at}

@@ -4,8 +4,8 @@ use Rattle.std.proofs.lemmas.Result.{IfOk-weaker}
 use Rattle.plan_core.specs.Names.{with_names}
 use Rattle.plan_expr.specs.Exprs.{expr_at}
 use Rattle.plan_expr.specs.Leaves.{leaves}
-use Rattle.plan_joined.specs.Joined.{joined}
-use Rattle.plan_pairs.specs.declared.pairs.RowPair.{RowPair}
+use Rattle.plan_join.specs.Joined.{joined}
+use Rattle.plan_join.specs.declared.pairs.RowPair.{RowPair}
 use Rattle.plan_value.specs.Shown.{frame_of}
 use Rattle.plan_join_eval.specs.Compared.{condition_test, sided}
 use Rattle.plan_join_eval.specs.Reads.{is_beside_true, is_read, read_column}

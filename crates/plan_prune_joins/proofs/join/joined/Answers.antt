@@ -10,8 +10,8 @@ use Rattle.plan_ir.specs.declared.ir.IR.TheVariants.{Join}
 use Rattle.plan_ir.specs.Parts.{inputs_of, plan_shape, roots_of}
 use Rattle.plan_join.specs.Naming.{has_right, join_columns}
 use Rattle.plan_join.specs.Told.{column_keys, told_at}
-use Rattle.plan_join_narrowing.specs.JoinPruned.{called_now, first_of_each, narrowed_told, topped_if}
-use Rattle.plan_join_prune.specs.Origins.{origin_in}
+use Rattle.plan_pruned.specs.JoinPruned.{called_now, first_of_each, narrowed_told, topped_if}
+use Rattle.plan_prune_parts.specs.Origins.{origin_in}
 use Rattle.plan_prune_joins.specs.Joined.{IsJoined, JoinMade}
 use Rattle.plan_prune_parts.specs.Places.{StandExprs}
 use Rattle.plan_prune_parts.specs.Said.{columns_at}

@@ -9,7 +9,7 @@ use Rattle.plan_ir.specs.declared.ir.IR.{IR}
 use Rattle.plan_ir.specs.Parts.{inputs_of, plan_shape, roots_of}
 use Rattle.plan_join.specs.Naming.{key_columns, origin}
 use Rattle.plan_join.specs.Told.{told_at}
-use Rattle.plan_join_prune.proofs.KeyLemmas.{columns_at as keys_at}
+use Rattle.plan_prune_parts.proofs.KeyLemmas.{columns_at as keys_at}
 use Rattle.plan_meaning.specs.JoinAsked.{origin_of}
 use Rattle.plan_prune_joins.specs.Joined.{IsKept}
 use Rattle.plan_prune_parts.specs.Places.{StandExprs}

@@ -7,7 +7,7 @@ use Rattle.plan_expr.specs.Operands.{IsExpr}
 use Rattle.plan_ir.specs.declared.ir.IR.{IR}
 use Rattle.plan_ir.specs.Parts.{inputs_of, plan_shape, roots_of}
 use Rattle.plan_join.specs.Told.{told_at}
-use Rattle.plan_join_narrowing.specs.JoinPruned.{narrowed_args}
+use Rattle.plan_pruned.specs.JoinPruned.{narrowed_args}
 use Rattle.plan_meaning.specs.JoinAsked.{left_asked, origin_of, right_asked}
 use Rattle.plan_prune_parts.specs.Places.{StandExprs}
 use Rattle.plan_prune_parts.specs.Said.{columns_at}

@@ -1,5 +1,5 @@
 use Rattle.std.proofs.Common.{◌∙◌, ap}
-use Rattle.plan_narrowing.specs.Pruned.{asked_columns}
+use Rattle.plan_pruned.specs.Pruned.{asked_columns}
 use Rattle.plan_prune_parts.proofs.cover.asked_at.Goals as goal
 
 pub returns : goal.returns

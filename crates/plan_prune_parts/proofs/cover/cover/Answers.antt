@@ -1,7 +1,7 @@
 use Rattle.std.proofs.Common.{◌∙◌, Option, ap, sym}
 use Rattle.std.proofs.lemmas.Result.{on_ok_weaker}
 use Rattle.plan_core.specs.Columns.{Columns}
-use Rattle.plan_narrowing.specs.Pruned.{asked_columns}
+use Rattle.plan_pruned.specs.Pruned.{asked_columns}
 use Rattle.plan_prune_parts.specs.Said.{columns_at}
 use Rattle.plan_prune_parts.specs.Tops.{covered_at}
 use Rattle.plan_prune_parts.proofs.CoverLemmas.{cover_placed}

@@ -1,7 +1,7 @@
 use Rattle.std.proofs.Common.{◌∙◌, ap, sym, Option}
 use Rattle.plan_core.specs.Columns.{Columns}
 use Rattle.plan_ir.specs.declared.ir.IR.TheVariants.{Cache}
-use Rattle.plan_narrowing.specs.Pruned.{asked_columns}
+use Rattle.plan_pruned.specs.Pruned.{asked_columns}
 use Rattle.plan_prune_parts.specs.declared.step.Step.TheVariants.{Closed}
 use Rattle.plan_prune_steps.specs.Steps.{step_of}
 use Rattle.plan_prune_steps.proofs.cache.prepare.Goals as goal

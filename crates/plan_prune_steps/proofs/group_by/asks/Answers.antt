@@ -3,7 +3,7 @@ use Rattle.plan_core.specs.Names.{with_names}
 use Rattle.plan_expr.specs.Exprs.{Named, all_named_at}
 use Rattle.plan_expr.specs.Leaves.{Name}
 use Rattle.plan_frame.specs.ExprLists.{all_leaves}
-use Rattle.plan_narrowing.specs.Pruned.{held_names}
+use Rattle.plan_pruned.specs.Pruned.{held_names}
 use Rattle.plan_prune_parts.specs.Said.{columns_at}
 use Rattle.plan_prune_steps.proofs.GroupParts.{grouped-names}
 use Rattle.plan_prune_steps.proofs.group_by.asks.Goals as goal

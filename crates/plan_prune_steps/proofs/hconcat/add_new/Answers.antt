@@ -4,7 +4,7 @@ use Rattle.plan_core.specs.Names.{has}
 use Rattle.plan_expr.specs.Leaves.{Name}
 use Rattle.plan_frame.specs.Beside.{with_new}
 use Rattle.plan_frame.proofs.NameSets.{some-type_of}
-use Rattle.plan_narrowing.proofs.ListSteps.{not_past}
+use Rattle.plan_pruned.proofs.ListSteps.{not_past}
 use Rattle.plan_prune_steps.proofs.ConcatParts.{new_last, new_there, new-next}
 use Rattle.plan_prune_steps.proofs.hconcat.add_new.Goals.{in-Some+then-is_none+in_ok-new+in_ok-with_column, in-Some+else-is_none, in_default}
 use Rattle.plan_prune_steps.proofs.hconcat.add_new.Goals as goal

@@ -1,7 +1,7 @@
 use Rattle.std.proofs.Common.{◌∙◌, ◌++◌, ◌∷◌, [], ap, arith, ℕ, List}
 use Rattle.plan_core.specs.declared.data_type.DataType.{DataType}
 use Rattle.plan_expr.specs.Leaves.{Name}
-use Rattle.plan_narrowing.proofs.ListSteps.{name_at, not_past}
+use Rattle.plan_pruned.proofs.ListSteps.{name_at, not_past}
 use Rattle.plan_prune_steps.specs.Places.{places_in}
 use Rattle.plan_prune_steps.proofs.PlaceSteps.{places-next}
 use Rattle.plan_prune_steps.proofs.held.add_stored.Goals.{in-Some+in_ok-add_place, in_default}

@@ -2,8 +2,8 @@ use Rattle.std.proofs.Common.{◌≡◌, ◌∙◌, ap, sym, arith, rules, true,
 use Rattle.plan_core.specs.Names.{with_name}
 use Rattle.plan_core.specs.declared.data_type.DataType.{DataType}
 use Rattle.plan_expr.specs.Leaves.{Name}
-use Rattle.plan_narrowing.proofs.ListSteps.{not_past}
-use Rattle.plan_narrowing.proofs.NameSteps.{where-next, where-skip}
+use Rattle.plan_pruned.proofs.ListSteps.{not_past}
+use Rattle.plan_pruned.proofs.NameSteps.{where-next, where-skip}
 use Rattle.plan_overlay.specs.Overlays.{type_in}
 use Rattle.plan_prune_steps.proofs.known.known.Goals.{in-Some+then-is_some+in_ok-add, in-Some+else-is_some, in_default}
 use Rattle.plan_prune_steps.proofs.known.known.Goals as goal

@@ -3,8 +3,8 @@ use Rattle.plan_core.specs.Columns.{names_of}
 use Rattle.plan_core.specs.Names.{with_name}
 use Rattle.plan_expr.specs.Leaves.{Name}
 use Rattle.plan_meaning.specs.Functions.{former, renamed}
-use Rattle.plan_narrowing.proofs.ListSteps.{not_past}
-use Rattle.plan_narrowing.proofs.NameSteps.{former-next, former-skip}
+use Rattle.plan_pruned.proofs.ListSteps.{not_past}
+use Rattle.plan_pruned.proofs.NameSteps.{former-next, former-skip}
 use Rattle.plan_prune_steps.proofs.RenamingParts.{former-shown}
 use Rattle.plan_prune_steps.proofs.renaming.old_names.Goals.{in-Some+in-Some-old_name+in_ok-add, in-Some+in_default-old_name, in_default}
 use Rattle.plan_prune_steps.proofs.renaming.old_names.Goals as goal

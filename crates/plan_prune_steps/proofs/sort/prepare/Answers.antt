@@ -7,7 +7,7 @@ use Rattle.plan_expr.specs.Operands.{IsExpr}
 use Rattle.plan_expr.specs.Exprs.{all_named_at}
 use Rattle.plan_expr.specs.Leaves.{Name}
 use Rattle.plan_frame.specs.ExprLists.{all_leaves}
-use Rattle.plan_narrowing.specs.Pruned.{asked_with}
+use Rattle.plan_pruned.specs.Pruned.{asked_with}
 use Rattle.plan_prune_parts.specs.declared.step.Step.TheVariants.{Over}
 use Rattle.plan_prune_parts.specs.Places.{StandExprs}
 use Rattle.plan_prune_steps.specs.Steps.{step_of}

@@ -1,5 +1,5 @@
 use Rattle.std.proofs.Common.{◌≡◌, take}
-use Rattle.plan_narrowing.specs.Pruned.{names_alike}
+use Rattle.plan_pruned.specs.Pruned.{names_alike}
 use Rattle.plan_prune_steps.proofs.union.asks.Given as goal
 
 -- each input up to here is asked the names

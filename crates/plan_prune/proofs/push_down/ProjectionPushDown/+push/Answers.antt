@@ -1,5 +1,5 @@
 use Rattle.std.proofs.Common.{◌≡◌, ◌≤◌, ℕ, ◌∙◌, ap, refl, sym, subst, arith, not, Bool, List, [], ◌∷◌, length, min, rules, Some}
-use Rattle.plan_narrowing.specs.Pruned.{asked_columns}
+use Rattle.plan_pruned.specs.Pruned.{asked_columns}
 use Rattle.plan_prune_parts.specs.Tops.{covered_at}
 use Rattle.plan_prune_parts.specs.Said.{columns_at}
 use Rattle.std.proofs.lemmas.List.{length_push}

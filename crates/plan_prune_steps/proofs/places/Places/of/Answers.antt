@@ -1,7 +1,7 @@
 use Rattle.std.proofs.Common.{◌∙◌, ap, sym, arith, List, take}
 use Rattle.plan_core.specs.Names.{with_name}
 use Rattle.plan_expr.specs.Leaves.{Name}
-use Rattle.plan_narrowing.proofs.ListSteps.{before_differ, not_past, take-next, with_name-last}
+use Rattle.plan_pruned.proofs.ListSteps.{before_differ, not_past, take-next, with_name-last}
 use Rattle.plan_prune_steps.proofs.places.Places.of.Goals.{in-Some+in_ok-add, in_default}
 use Rattle.plan_prune_steps.proofs.places.Places.of.Goals as goal
 

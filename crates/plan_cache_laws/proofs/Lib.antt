@@ -1,0 +1,25 @@
+-- The lemmas of this crate.
+pub mod SiteViews
+pub mod NarrowedRefines
+pub mod RemovedRefines
+pub mod RenewedNarrows
+pub mod HandledRefines
+pub mod SiteCuts
+pub mod SiteReads
+pub mod SiteInputs
+pub mod KeptScans
+pub mod MarksPruned
+pub mod MarksKept
+pub mod SingleRefines
+pub mod SharedRemoved
+pub mod SharedNarrowed
+pub mod FreePlans
+pub mod FlatNarrowed
+pub mod FlatRemoved
+pub mod HandledFlat
+pub mod HandledAll
+pub mod SinglePlans
+pub mod SingleSites
+pub mod States
+pub mod StateMarks
+pub mod RankedOnce

@@ -1,5 +1,0 @@
--- The lemmas of this crate.
-mod JoinLemmas
-mod PairFaults
-mod FirstColumns
-mod JoinFaults

@@ -1,0 +1,23 @@
+-- The lemmas of this crate.
+pub mod Shuffled
+pub mod Extended
+pub mod FilteredJoins
+pub mod JoinFrames
+pub mod Keys
+pub mod Predicates
+pub mod OneSide
+pub mod PairHolds
+pub mod KeyTests
+pub mod Splits
+pub mod JoinTests
+pub mod Filters
+pub mod JoinChecked
+pub mod CrossStep
+pub mod CrossRefines
+pub mod NodeKinds
+pub mod Collapsed
+pub mod CollapsedScans
+pub mod CollapsedIdle
+pub mod CollapsedShared
+pub mod CollapsedNodes
+pub mod CollapsedSites

@@ -1,8 +1,0 @@
-use Rattle.plan_counts.proofs.CountRefines.{counted_refines, not_countable}
-use Rattle.plan_counts.proofs.laws.counted_plans_refine.Goals as goal
-
-pub returns-clause-refines : goal.returns-clause-refines
-returns-clause-refines c = λ p v. counted_refines p v
-
-pub returns-clause-given : goal.returns-clause-given
-returns-clause-given c = λ p e. not_countable p e

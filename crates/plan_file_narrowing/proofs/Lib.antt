@@ -1,6 +1,0 @@
--- The lemmas of this crate.
-pub mod NameLemmas
-pub mod ScanColumns
-pub mod ScanReads
-pub mod LeftOutput
-pub mod LeftFrames

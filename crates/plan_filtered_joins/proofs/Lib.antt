@@ -1,5 +1,0 @@
--- The lemmas of this crate.
-pub mod Shuffled
-pub mod Extended
-pub mod FilteredJoins
-pub mod JoinFrames

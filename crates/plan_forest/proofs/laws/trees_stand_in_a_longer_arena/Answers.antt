@@ -1,5 +1,0 @@
-use Rattle.plan_forest.proofs.Roots.{StandsOnce-longer}
-use Rattle.plan_forest.proofs.laws.trees_stand_in_a_longer_arena.Goals as goal
-
-pub returns : goal.returns
-returns g c = λ S lp q ns t s. StandsOnce-longer S lp q ns t s

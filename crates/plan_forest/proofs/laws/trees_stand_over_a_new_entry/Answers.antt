@@ -1,5 +1,0 @@
-use Rattle.plan_forest.proofs.Roots.{StandsOnce-topped}
-use Rattle.plan_forest.proofs.laws.trees_stand_over_a_new_entry.Goals as goal
-
-pub returns : goal.returns
-returns g c = λ S lp q n ns ms t e i b s. StandsOnce-topped S lp q n ns ms t e i b s

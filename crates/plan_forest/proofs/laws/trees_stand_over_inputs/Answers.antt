@@ -1,5 +1,0 @@
-use Rattle.plan_forest.proofs.Roots.{StandsOnce-opened}
-use Rattle.plan_forest.proofs.laws.trees_stand_over_inputs.Goals as goal
-
-pub returns : goal.returns
-returns g c = λ S lp n p ns t e s. StandsOnce-opened S lp n p ns t e s

@@ -1,4 +1,0 @@
--- The lemmas of this crate.
-pub mod CheckLemmas
-pub mod RenameLemmas
-pub mod UnpivotColumns

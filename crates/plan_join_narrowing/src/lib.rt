@@ -1,4 +1,0 @@
-//! What pruning makes of a join over pruned sides, and that this narrows the join.
-#![tactic(auto)]
-
-pub mod laws;

@@ -1,5 +1,0 @@
-use Rattle.plan_joined.proofs.JoinedLemmas.{joins-exist}
-use Rattle.plan_joined.proofs.laws.each_join_has_a_frame.Goals as goal
-
-pub returns : goal.returns
-returns c = joins-exist

@@ -1,4 +1,0 @@
-//! Joins of frames: the definitions, and their laws.
-#![tactic(auto)]
-
-pub mod laws;

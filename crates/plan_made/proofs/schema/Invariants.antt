@@ -1,6 +1,0 @@
-use Rattle.std.proofs.Common.{◌≡◌, [], map, take}
-use Rattle.plan_core.specs.Columns.{with_types}
-use Rattle.plan_made.proofs.schema.Given as goal
-
-abbrev pub invariant-loop-column : goal.invariant-loop-column
-invariant-loop-column l = l.schema ≡ with_types [] (map (λ c. (c.0.now, c.1)) (take l.column-index l.columns))

@@ -1,5 +1,0 @@
-use Rattle.plan_narrowing.proofs.AlikePruned.{alike_pruned}
-use Rattle.plan_narrowing.proofs.laws.alike_plans_are_pruned_alike.Goals as goal
-
-pub returns : goal.returns
-returns c = λ top asked p q alike. alike_pruned top asked p q alike

@@ -1,5 +1,0 @@
-use Rattle.plan_narrowing.proofs.PrunedNarrows.{pruned_narrows}
-use Rattle.plan_narrowing.proofs.laws.pruned_plans_narrow.Goals as goal
-
-pub returns : goal.returns
-returns c = λ top asked p v f. pruned_narrows top asked p v f

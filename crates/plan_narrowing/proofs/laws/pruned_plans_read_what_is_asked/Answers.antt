@@ -1,5 +1,0 @@
-use Rattle.plan_narrowing.proofs.PrunedReads.{pruned_reads}
-use Rattle.plan_narrowing.proofs.laws.pruned_plans_read_what_is_asked.Goals as goal
-
-pub returns : goal.returns
-returns c = λ top p v. pruned_reads top p v

@@ -1,5 +1,0 @@
-use Rattle.plan_narrowing.proofs.PrunedNarrows.{pruned_refines}
-use Rattle.plan_narrowing.proofs.laws.pruned_plans_refine.Goals as goal
-
-pub returns : goal.returns
-returns c = λ top p v. pruned_refines top p v

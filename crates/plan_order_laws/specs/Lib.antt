@@ -1,0 +1,11 @@
+-- The definitions that contracts cite.
+pub mod Rows
+pub mod Reordering
+pub mod Shuffles
+pub mod Orderless
+pub mod Elementwise
+pub mod Demands
+pub mod Reorders
+pub mod WorkedDemands
+pub mod Counted
+pub mod WorkedCounts

@@ -1,0 +1,7 @@
+//! Laws of frames whose rows stand in another order.
+#![tactic(auto)]
+
+pub mod count_laws;
+pub mod demand_laws;
+pub mod row_expr_laws;
+pub mod row_laws;

@@ -1,5 +1,0 @@
-use Rattle.plan_pair_orders.proofs.OwnJoins.{own_joins}
-use Rattle.plan_pair_orders.proofs.laws.joins_may_choose_their_order.Goals as goal
-
-pub returns : goal.returns
-returns c = λ told left_on right_on f g frame h. own_joins told left_on right_on f g frame h

@@ -1,6 +1,0 @@
-use Rattle.std.proofs.Common.{◌≡◌, false, replicate}
-use Rattle.plan_pairs.proofs.matches.no_marks.Given as goal
-
--- so many marks are made
-abbrev pub invariant-loop : goal.invariant-loop
-invariant-loop l = l.met.items ≡ replicate l.counter false

@@ -1,6 +1,0 @@
-//! Copies of expressions under other names.
-#![tactic(auto)]
-
-mod renamed;
-
-pub use renamed::copy_renamed;

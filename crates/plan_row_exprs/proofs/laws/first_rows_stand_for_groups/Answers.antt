@@ -1,5 +1,0 @@
-use Rattle.plan_row_exprs.proofs.GroupedRows.{first_rows}
-use Rattle.plan_row_exprs.proofs.laws.first_rows_stand_for_groups.Goals as goal
-
-pub returns : goal.returns
-returns c = λ same o h f even rows k. first_rows same o h f even rows k

@@ -1,5 +1,0 @@
-use Rattle.plan_row_exprs.proofs.GroupedRows.{over_rows}
-use Rattle.plan_row_exprs.proofs.laws.summaries_ignore_the_order.Goals as goal
-
-pub returns : goal.returns
-returns c = λ g s has ps p keys w e sums typed. over_rows g s has ps p keys w e sums typed

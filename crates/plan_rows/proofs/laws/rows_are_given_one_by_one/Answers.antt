@@ -1,5 +1,0 @@
-use Rattle.plan_rows.proofs.Cells.{numbers_rows}
-use Rattle.plan_rows.proofs.laws.rows_are_given_one_by_one.Goals as goal
-
-pub returns : goal.returns
-returns c = λ at by h ps b same. numbers_rows at by h ps b same

@@ -1,0 +1,12 @@
+-- The lemmas of this crate.
+pub mod ClearedPlans
+pub mod AnswerViews
+pub mod CollapseRefines
+pub mod FilterRefines
+pub mod FlattenRefines
+pub mod AnswerLaws
+pub mod AlikeAnswers
+pub mod ClearedPatterns
+pub mod WalksOne
+pub mod WalkCaches
+pub mod Reworked

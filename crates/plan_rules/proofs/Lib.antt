@@ -1,9 +1,0 @@
--- The lemmas of this crate.
-pub mod ClearedPlans
-pub mod AnswerViews
-pub mod CollapseRefines
-pub mod FilterRefines
-pub mod FlattenRefines
-pub mod AnswerLaws
-pub mod AlikeAnswers
-pub mod ClearedPatterns

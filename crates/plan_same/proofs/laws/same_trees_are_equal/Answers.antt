@@ -1,5 +1,0 @@
-use Rattle.plan_same.proofs.SameTrees.{same_tree_is}
-use Rattle.plan_same.proofs.laws.same_trees_are_equal.Goals as goal
-
-pub returns : goal.returns
-returns c = λ x y. same_tree_is x y

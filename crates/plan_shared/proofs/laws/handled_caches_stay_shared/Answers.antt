@@ -1,5 +1,0 @@
-use Rattle.plan_shared.proofs.SharedNarrowed.{handled_shared}
-use Rattle.plan_shared.proofs.laws.handled_caches_stay_shared.Goals as goal
-
-pub returns : goal.returns
-returns c = λ differ id p v h. handled_shared differ id p v h

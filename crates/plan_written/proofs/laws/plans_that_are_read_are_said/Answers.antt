@@ -1,5 +1,0 @@
-use Rattle.plan_written.proofs.Plans.{plan_said}
-use Rattle.plan_written.proofs.laws.plans_that_are_read_are_said.Goals as goal
-
-pub returns : goal.returns
-returns c = λ d lp ex root canonical read. plan_said d lp ex root canonical read

@@ -1,5 +1,0 @@
-use Rattle.plan_written.proofs.Reading.{read_canonical}
-use Rattle.plan_written.proofs.laws.values_of_texts_are_canonical.Goals as goal
-
-pub returns : goal.returns
-returns c = λ text d read. read_canonical text d read

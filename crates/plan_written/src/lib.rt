@@ -1,4 +1,0 @@
-//! A plan that is written as a JSON value reads as that plan: the definitions, and their laws.
-#![tactic(auto)]
-
-pub mod laws;
