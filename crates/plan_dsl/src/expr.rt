@@ -6,7 +6,7 @@ use plan_options::FunctionOptions;
 
 /// An expression, with the expressions that it is made of.
 #[cycle(expr)]
-#[derive(Drop, PartialEq, Eq, Debug)]
+#[derive(Drop, PartialEq, Eq)]
 pub enum Expr {
     /// The expression under another name.
     Alias(Box<Expr>, PlSmallStr),
@@ -125,7 +125,7 @@ pub enum Expr {
 
 /// What an aggregate makes of all values of an expression.
 #[cycle(expr)]
-#[derive(Drop, PartialEq, Eq, Debug)]
+#[derive(Drop, PartialEq, Eq)]
 pub enum AggExpr {
     /// The least value.
     Min(Box<Expr>),

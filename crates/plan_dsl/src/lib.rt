@@ -16,6 +16,7 @@ mod output_name;
 mod over;
 mod parts;
 mod schema;
+mod shown;
 mod typing;
 mod walk;
 

@@ -34,21 +34,56 @@ impl Head {
     {
         match self.arity() {
             Arity::Zero => Ok(self.over_none()),
-            Arity::One => Ok(self.over_one(only(alloc, parts)?)),
-            Arity::Two => {
-                let (first, second) = both(alloc, parts)?;
-                Ok(self.over_two(first, second))
-            }
-            Arity::Three => {
-                let (first, second, third) = all_three(alloc, parts)?;
-                Ok(self.over_three(first, second, third))
-            }
+            Arity::One => self.over_only(alloc, parts),
+            Arity::Two => self.over_both(alloc, parts),
+            Arity::Three => self.over_all_three(alloc, parts),
             Arity::All => Ok(self.over_all(parts)),
-            Arity::Before => {
-                let (first, rest) = first_and_rest(alloc, parts)?;
-                Ok(self.over_before(first, rest))
-            }
+            Arity::Before => self.over_first_and_rest(alloc, parts),
         }
+    }
+
+    /// The expression that is this, made of one in a list.
+    fn over_only(self, alloc: Global, parts: Vec<Expr>) -> Result<Expr, AllocError>
+        requires arity { arity_of self ≡ Arity.One }
+        requires parts { length parts.items ≡ 1 }
+        ensures head { IfOk result (λ e. head_of e ≡ self) }
+        ensures parts { IfOk result (λ e. children e ≡ parts.items) }
+    {
+        let only = only(alloc, parts)?;
+        Ok(self.over_one(only))
+    }
+
+    /// The expression that is this, made of two in a list.
+    fn over_both(self, alloc: Global, parts: Vec<Expr>) -> Result<Expr, AllocError>
+        requires arity { arity_of self ≡ Arity.Two }
+        requires parts { length parts.items ≡ 2 }
+        ensures head { IfOk result (λ e. head_of e ≡ self) }
+        ensures parts { IfOk result (λ e. children e ≡ parts.items) }
+    {
+        let (first, second) = both(alloc, parts)?;
+        Ok(self.over_two(first, second))
+    }
+
+    /// The expression that is this, made of three in a list.
+    fn over_all_three(self, alloc: Global, parts: Vec<Expr>) -> Result<Expr, AllocError>
+        requires arity { arity_of self ≡ Arity.Three }
+        requires parts { length parts.items ≡ 3 }
+        ensures head { IfOk result (λ e. head_of e ≡ self) }
+        ensures parts { IfOk result (λ e. children e ≡ parts.items) }
+    {
+        let (first, second, third) = all_three(alloc, parts)?;
+        Ok(self.over_three(first, second, third))
+    }
+
+    /// The expression that is this, made of the first in a list, and then of the others.
+    fn over_first_and_rest(self, alloc: Global, parts: Vec<Expr>) -> Result<Expr, AllocError>
+        requires arity { arity_of self ≡ Arity.Before }
+        requires parts { 0 < length parts.items }
+        ensures head { IfOk result (λ e. head_of e ≡ self) }
+        ensures parts { IfOk result (λ e. children e ≡ parts.items) }
+    {
+        let (first, rest) = first_and_rest(alloc, parts)?;
+        Ok(self.over_before(first, rest))
     }
 
     /// The expression that is this, made of none.
@@ -191,7 +226,7 @@ fn only(alloc: Global, mut parts: Vec<Expr>) -> Result<Box<Expr>, AllocError>
     requires { length parts.items ≡ 1 }
     ensures { IfOk result (λ r. parts.items ≡ r.value ∷ []) }
 {
-    Ok(take_first(alloc, &mut parts)?)
+    take_first(alloc, &mut parts)
 }
 
 /// The two expressions, in boxes.

@@ -59,34 +59,29 @@ pub(crate) enum Owned {
 }
 
 impl Owned {
+    /// Those before the last one, and the last one, if there is one.
+    fn split_last(self) -> (Owned, Option<Expr>)
+        ensures { MatchOption result.1 (owned self ≡ [] × owned result.0 ≡ []) (λ x. owned self ≡ owned result.0 ++ x ∷ []) }
+    {
+        match self {
+            Owned::Zero => (Owned::Zero, None),
+            Owned::One(first) => (Owned::Zero, Some(Box::into_inner(first))),
+            Owned::Two(first, second) => (Owned::One(first), Some(Box::into_inner(second))),
+            Owned::Three(first, second, third) => {
+                (Owned::Two(first, second), Some(Box::into_inner(third)))
+            }
+            Owned::All(list) => split_list(list),
+            Owned::Before(first, list) => split_before(first, list),
+        }
+    }
+
     /// Takes the last one, if there is one.
     pub(crate) fn pop(&mut self) -> Option<Expr>
         ensures { MatchOption result (owned self.old ≡ [] × owned self.new ≡ []) (λ x. owned self.old ≡ owned self.new ++ x ∷ []) }
     {
-        match mem::replace(self, Owned::Zero) {
-            Owned::Zero => None,
-            Owned::One(first) => Some(Box::into_inner(first)),
-            Owned::Two(first, second) => {
-                *self = Owned::One(first);
-                Some(Box::into_inner(second))
-            }
-            Owned::Three(first, second, third) => {
-                *self = Owned::Two(first, second);
-                Some(Box::into_inner(third))
-            }
-            Owned::All(mut list) => {
-                let last = list.pop();
-                *self = Owned::All(list);
-                last
-            }
-            Owned::Before(first, mut list) => match list.pop() {
-                None => Some(Box::into_inner(first)),
-                Some(last) => {
-                    *self = Owned::Before(first, list);
-                    Some(last)
-                }
-            },
-        }
+        let (rest, last) = mem::replace(self, Owned::Zero).split_last();
+        *self = rest;
+        last
     }
 
     /// Appends them, last first.
@@ -99,6 +94,24 @@ impl Owned {
             out.push(expr)?;
         }
         Ok(())
+    }
+}
+
+/// The expressions of a list before the last one, and the last one, if there is one.
+fn split_list(mut list: Vec<Expr>) -> (Owned, Option<Expr>)
+    ensures { MatchOption result.1 (list.items ≡ [] × owned result.0 ≡ []) (λ x. list.items ≡ owned result.0 ++ x ∷ []) }
+{
+    let last = list.pop();
+    (Owned::All(list), last)
+}
+
+/// An expression and those of a list before the last one, and the last one.
+fn split_before(first: Box<Expr>, mut list: Vec<Expr>) -> (Owned, Option<Expr>)
+    ensures { MatchOption result.1 (first.value ∷ list.items ≡ [] × owned result.0 ≡ []) (λ x. first.value ∷ list.items ≡ owned result.0 ++ x ∷ []) }
+{
+    match list.pop() {
+        None => (Owned::Zero, Some(Box::into_inner(first))),
+        Some(last) => (Owned::Before(first, list), Some(last)),
     }
 }
 
