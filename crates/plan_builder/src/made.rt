@@ -4,7 +4,7 @@ ghost use Rattle.plan_expr.specs.Operands.{IsExpr};
 ghost use Rattle.plan_builder.specs.Builds.{addition, Adds, IsBuilt, MayFollow, own_expr, selection, Stays};
 
 use crate::builder::IRBuilder;
-use plan_check::made_schema;
+use plan_check_parts::made_schema;
 use plan_core::{Arena, Items, Node, ProjectionOptions, Schema, TryClone};
 use plan_expr::{AExpr, ExprIR};
 use plan_ir::IR;

@@ -31,7 +31,7 @@ use Rattle.plan_frame.specs.Made.{made_schema}
 use Rattle.plan_frame.specs.ExprLists.{out_names}
 use Rattle.plan_frame.proofs.GroupLemmas.{gathered-leaves, gathered-names}
 use Rattle.plan_schema.proofs.CheckLemmas.{each-map, fault_append}
-use Rattle.plan_check.proofs.EachLemmas.{each-append}
+use Rattle.plan_check_parts.proofs.EachLemmas.{each-append}
 
 -- gathered expressions
 

@@ -1,10 +1,4 @@
 -- The lemmas of this crate.
-pub mod EachLemmas
-pub mod MadeLemmas
-mod JoinLemmas
-mod PairFaults
-mod FirstColumns
-mod JoinFaults
 mod ApartLemmas
 mod GroupFaults
 mod ReadLemmas

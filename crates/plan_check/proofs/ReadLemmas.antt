@@ -12,7 +12,7 @@ use Rattle.plan_files.specs.FileReads.{is_read, is_told}
 use Rattle.plan_files.proofs.FileLemmas.{known_none, known_there}
 use Rattle.plan_frame.proofs.NameSets.{named}
 use Rattle.plan_meaning.specs.Typing.{all_read, put_out_checks}
-use Rattle.plan_check.proofs.EachLemmas.{each-same}
+use Rattle.plan_check_parts.proofs.EachLemmas.{each-same}
 
 or_assoc : (a b c : Bool) → ((a || b) || c) ≡ (a || (b || c))
 or_assoc true b c = refl

@@ -23,7 +23,7 @@ use Rattle.plan_meaning.proofs.CheckParts.{same_is, scan_good}
 use Rattle.plan_meaning.proofs.JoinLemmas.{differ_distinct, distinct_differ}
 use Rattle.plan_meaning.proofs.Validity.{all_hold_unless}
 use Rattle.plan_schema.proofs.CheckLemmas.{fault_append}
-use Rattle.plan_check.proofs.EachLemmas.{differ_none, each-same}
+use Rattle.plan_check_parts.proofs.EachLemmas.{differ_none, each-same}
 use Rattle.plan_scan.specs.Stats.{Stats}
 
 -- of each name the first column has the type that it has among all

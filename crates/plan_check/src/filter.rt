@@ -6,7 +6,7 @@ ghost use Rattle.plan_ir.specs.Plans.{filter};
 ghost use Rattle.plan_meaning.specs.Typing.{filter_checks, first_fault, Says};
 ghost use Rattle.plan_meaning.specs.Typed.{IsNodeTyped};
 
-use crate::is_boolean;
+use plan_check_parts::is_boolean;
 use plan_core::{Arena, Node, PolarsError, PolarsResult, Schema};
 use plan_expr::{AExpr, ExprIR, has_form, may_be_named};
 use plan_frame::{expr_type, reads_only};

@@ -8,7 +8,7 @@ ghost use Rattle.plan_meaning.specs.Checks.{check};
 ghost use Rattle.plan_meaning.specs.Typing.{first_fault, Says};
 ghost use Rattle.plan_meaning.specs.Typed.{IsNodeTyped};
 
-use crate::check_stored;
+use plan_check_parts::check_stored;
 use plan_core::{Node, PolarsError, PolarsResult, Schema};
 use plan_options::merge_schemas;
 use plan_schema::at;

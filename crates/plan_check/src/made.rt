@@ -7,7 +7,7 @@ ghost use Rattle.plan_expr.specs.Exprs.{all_named_at};
 ghost use Rattle.plan_ir.specs.Plans.{hstack, select};
 ghost use Rattle.plan_meaning.specs.Typed.{IsNodeTyped};
 
-use crate::check_made;
+use plan_check_parts::check_made;
 use plan_core::{Arena, Node, PolarsError, PolarsResult, Schema, TryClone};
 use plan_expr::{AExpr, ExprIR};
 use plan_schema::at;

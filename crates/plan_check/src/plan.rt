@@ -14,7 +14,7 @@ use crate::filter::filter_schema;
 use crate::frame_scan::frame_scan_schema;
 use crate::group_by::group_by_schema;
 use crate::hconcat::hconcat_schema;
-use crate::joined_schema;
+use plan_check_parts::joined_schema;
 use crate::made::{hstack_schema, select_schema};
 use crate::projection::projection_schema;
 use crate::scan::scan_schema;

@@ -4,7 +4,7 @@ ghost use Rattle.plan_ir.specs.Plans.{simple_projection};
 ghost use Rattle.plan_meaning.specs.Typing.{projection_checks, first_fault, Says};
 ghost use Rattle.plan_meaning.specs.Typed.{IsNodeTyped};
 
-use crate::{check_columns_known, check_columns_typed, columns_differ};
+use plan_check_parts::{check_columns_known, check_columns_typed, columns_differ};
 use plan_core::{Node, PolarsError, PolarsResult, Schema, TryClone};
 use plan_schema::at;
 use std::alloc::Global;

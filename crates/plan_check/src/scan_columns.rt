@@ -8,7 +8,7 @@ ghost use Rattle.plan_frame.specs.Frames.{names_or};
 ghost use Rattle.plan_meaning.specs.Typing.{columns_or, differ_checks, first_fault, scan_column_checks, scan_name_checks, scan_type_checks, schema_checks, Says};
 
 use crate::scan_types::{check_own, check_put_out};
-use crate::{check_columns_known, columns_differ};
+use plan_check_parts::{check_columns_known, columns_differ};
 use plan_core::{FileScanOptions, Items, Node, PlSmallStr, PolarsError, PolarsResult, Schema};
 use plan_files::{FileColumns, file_columns, parts_alike};
 use plan_scan::HivePartitions;

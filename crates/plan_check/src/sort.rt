@@ -7,7 +7,7 @@ ghost use Rattle.plan_ir.specs.Plans.{sort};
 ghost use Rattle.plan_meaning.specs.Typing.{are_marks, is_built_sort, key_checks, first_fault, Says};
 ghost use Rattle.plan_meaning.specs.Typed.{IsNodeTyped};
 
-use crate::{check_forms, check_leaves, check_namings, check_plain};
+use plan_check_parts::{check_forms, check_leaves, check_namings, check_plain};
 use plan_core::{Arena, Node, PolarsError, PolarsResult, Schema};
 use plan_expr::{AExpr, ExprIR};
 use plan_options::SortMultipleOptions;

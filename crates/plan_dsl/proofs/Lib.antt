@@ -5,7 +5,6 @@ pub mod FormLemmas
 pub mod ListLemmas
 pub mod MapLemmas
 pub mod NameLemmas
-pub mod SchemaLemmas
 pub mod SizeLemmas
 pub mod TypeLemmas
 pub mod WalkLemmas

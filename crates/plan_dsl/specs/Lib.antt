@@ -7,6 +7,5 @@ pub mod Names
 pub mod Naming
 pub mod Owned
 pub mod Parts
-pub mod Schemas
 pub mod Typing
 pub mod Walks

@@ -69,7 +69,7 @@ impl AggExpr {
     ghost use Rattle.plan_dsl.specs.Parts.{aggregated};
 
     /// The expression that is aggregated.
-    pub(crate) fn input(&self) -> &Expr
+    pub fn input(&self) -> &Expr
         ensures { result.now ≡ aggregated self.now }
     {
         match self {

@@ -10,7 +10,7 @@ use plan_core::Schema;
 impl Expr {
     /// Whether the expression has one value, whatever the frame. Kinds that plans don't have are left out.
     #[cycle(scalar)]
-    pub(crate) fn is_scalar(&self) -> bool
+    pub fn is_scalar(&self) -> bool
         ensures { result ≡ is_single self.now }
     {
         match self {
@@ -53,7 +53,7 @@ impl Expr {
     }
 
     /// Whether the expression has a form in plans: it and each one below it is one that plans have.
-    pub(crate) fn has_form(&self) -> bool
+    pub fn has_form(&self) -> bool
         ensures { result ≡ is_formed self.now }
     {
         !has_expr(
@@ -75,7 +75,7 @@ impl Expr {
     }
 
     /// Whether each column in the expression is one of the schema's.
-    pub(crate) fn reads_only(&self, schema: &Schema) -> bool
+    pub fn reads_only(&self, schema: &Schema) -> bool
         ensures { result ≡ reads_found schema.now self.now }
     {
         !has_expr(

@@ -15,9 +15,7 @@ mod mapper;
 mod output_name;
 mod over;
 mod parts;
-mod schema;
 mod shown;
-mod typing;
 mod walk;
 
 pub use expr::{AggExpr, Expr};
@@ -30,4 +28,3 @@ pub use leaves::{
 pub use mapper::{ExprMapper, RewritingVisitor};
 pub use output_name::expr_output_name;
 pub use plan_expr::FunctionExpr;
-pub use schema::{Context, expressions_to_schema};

@@ -88,7 +88,7 @@ fn first_naming(expr: &Expr) -> Naming<'_>
 
 impl Expr {
     /// The name under which an expression is put out that has a form in plans.
-    pub(crate) fn form_name(&self) -> &str
+    pub fn form_name(&self) -> &str
         requires { has_form self.now ≡ true }
         ensures { output_name self.now ≡ Some result.now }
     {

@@ -117,7 +117,7 @@ fn split_before(first: Box<Expr>, mut list: Vec<Expr>) -> (Owned, Option<Expr>)
 
 impl AggExpr {
     /// The aggregate.
-    pub(crate) fn aggregate(&self) -> Aggregate
+    pub fn aggregate(&self) -> Aggregate
         ensures { result ≡ aggregate_of self.now }
     {
         match self {

@@ -17,7 +17,7 @@ use Rattle.plan_table.specs.declared.column.Column.{Column as Typed}
 use Rattle.plan_table.specs.Tables.{types_of, with_column}
 use Rattle.plan_value.specs.Shown.{column_shown, columns_shown}
 use Rattle.plan_value.proofs.ColumnLemmas.{shown-with, types-with}
-use Rattle.plan_eval.specs.Given.{stored_column}
+use Rattle.plan_function_tables.specs.Given.{stored_column}
 
 -- expressions one after another
 module _ (ex : List AExpr) (h : ℕ) (g : Frame) (schema : Columns) (es : List ExprIR) (i : ℕ) (e : ExprIR) (lt : i < length es) (is : e ≡ get_or es i e) (c : Typed) where

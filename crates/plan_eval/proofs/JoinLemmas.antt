@@ -36,7 +36,7 @@ use Rattle.plan_table.specs.declared.table.Table.{Table}
 use Rattle.plan_value.specs.Shown.{frame_of, schema_of}
 use Rattle.plan_join.specs.Matching.{Joins}
 use Rattle.plan_ir.specs.Plans.{join}
-use Rattle.plan_eval.specs.Given.{Gives}
+use Rattle.plan_function_tables.specs.Given.{Gives}
 use Rattle.std.specs.Prelude.{IfOk}
 use Rattle.plan_eval.proofs.PlanLemmas.{all-first, all-second}
 

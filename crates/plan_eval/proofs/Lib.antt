@@ -1,6 +1,5 @@
 -- The lemmas of this crate.
 mod StackLemmas
-mod ScanLemmas
 mod ColumnLemmas
 mod MadeLemmas
 mod GivenLemmas
@@ -12,8 +11,4 @@ mod GroupLemmas
 mod BesideLemmas
 mod JoinLemmas
 mod SortLemmas
-mod CountLemmas
-mod FunctionLemmas
-mod UnpivotLemmas
-mod ExplodeLemmas
 mod PickLemmas

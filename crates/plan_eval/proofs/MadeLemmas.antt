@@ -21,7 +21,7 @@ use Rattle.plan_meaning.proofs.CheckParts.{MadeGood, made_good}
 use Rattle.plan_frame.proofs.GroupLemmas.{all_back, all_front}
 use Rattle.plan_meaning.proofs.KeptExprs.{new_distinct}
 use Rattle.plan_frame.proofs.MadeColumns.{types_made}
-use Rattle.plan_eval.specs.Given.{stored_column}
+use Rattle.plan_function_tables.specs.Given.{stored_column}
 
 abbrev HasType : Columns → Columns → Named → Type 0
 HasType stored s e = type_of stored (name_of e.name) ≡ Some (made_column s e).1

@@ -18,7 +18,7 @@ use Rattle.plan_table.specs.declared.source_key.SourceKey.{SourceKey}
 use Rattle.plan_table.specs.declared.table.Table.{Table}
 use Rattle.plan_table.specs.Tables.{HasRows}
 use Rattle.plan_value.specs.Shown.{frame_of, schema_of}
-use Rattle.plan_eval.specs.Given.{Gives}
+use Rattle.plan_function_tables.specs.Given.{Gives}
 use Rattle.plan_fit.proofs.FormedLemmas.{columns-have, have-columns}
 use Rattle.plan_eval.proofs.StackLemmas.{stack-one}
 

@@ -13,7 +13,7 @@ ghost use Rattle.plan_table.specs.declared.source_key.SourceKey.{SourceKey};
 ghost use Rattle.plan_table.specs.declared.table.Table.{Table as TableType};
 ghost use Rattle.plan_table.specs.Tables.{HasRows};
 ghost use Rattle.plan_eval.specs.Distinct.{kept, kept_of, columns_named};
-ghost use Rattle.plan_eval.specs.Given.{Gives};
+ghost use Rattle.plan_function_tables.specs.Given.{Gives};
 ghost use Rattle.plan_value.specs.Cells.{cells_of};
 ghost use Rattle.plan_value.specs.Shown.{columns_shown, frame_of};
 

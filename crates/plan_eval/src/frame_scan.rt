@@ -4,7 +4,7 @@ ghost use Rattle.plan_file_tables.specs.Parts.{frame_found};
 ghost use Rattle.plan_ir.specs.Plans.{frame_scan as frame_scan_op};
 ghost use Rattle.plan_meaning.specs.Contents.{handed_in as handed_frame};
 ghost use Rattle.plan_meaning.specs.Typing.{columns_or as columns_told};
-ghost use Rattle.plan_eval.specs.Given.{Gives};
+ghost use Rattle.plan_function_tables.specs.Given.{Gives};
 ghost use Rattle.plan_fit.specs.Sources.{contents_of};
 
 use crate::stack::stack;

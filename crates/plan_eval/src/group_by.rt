@@ -14,7 +14,7 @@ ghost use Rattle.plan_options.specs.declared.group.GroupbyOptions.{GroupbyOption
 ghost use Rattle.plan_table.specs.declared.source_key.SourceKey.{SourceKey};
 ghost use Rattle.plan_table.specs.declared.table.Table.{Table as TableType};
 ghost use Rattle.plan_table.specs.Tables.{types_of};
-ghost use Rattle.plan_eval.specs.Given.{Gives, stored_column};
+ghost use Rattle.plan_function_tables.specs.Given.{Gives, stored_column};
 ghost use Rattle.plan_eval.specs.Groups.{columns_in, group_column};
 ghost use Rattle.plan_value.specs.Cells.{cell_of, cells_of};
 ghost use Rattle.plan_value.specs.Shown.{columns_shown, frame_of, schema_of, values_of};

@@ -10,7 +10,7 @@ ghost use Rattle.plan_options.specs.declared.union.HConcatOptions.{HConcatOption
 ghost use Rattle.plan_table.specs.declared.source_key.SourceKey.{SourceKey};
 ghost use Rattle.plan_table.specs.declared.table.Table.{Table as TableType};
 ghost use Rattle.plan_table.specs.Tables.{types_of};
-ghost use Rattle.plan_eval.specs.Given.{Gives};
+ghost use Rattle.plan_function_tables.specs.Given.{Gives};
 ghost use Rattle.plan_value.specs.Shown.{columns_shown, frame_of, values_of};
 
 use crate::between::column_between;

@@ -10,7 +10,7 @@ ghost use Rattle.plan_ir.specs.Plans.{hstack as hstack_op};
 ghost use Rattle.plan_meaning.specs.Typing.{AllHold, checks};
 ghost use Rattle.plan_table.specs.declared.source_key.SourceKey.{SourceKey};
 ghost use Rattle.plan_table.specs.declared.table.Table.{Table as TableType};
-ghost use Rattle.plan_eval.specs.Given.{Gives};
+ghost use Rattle.plan_function_tables.specs.Given.{Gives};
 ghost use Rattle.plan_table.specs.Tables.{types_of};
 ghost use Rattle.plan_value.specs.Shown.{columns_shown, frame_of, schema_of};
 

@@ -9,7 +9,7 @@ ghost use Rattle.plan_join.specs.Told.{told_at};
 ghost use Rattle.plan_meaning.specs.Typing.{AllHold, checks};
 ghost use Rattle.plan_table.specs.declared.source_key.SourceKey.{SourceKey};
 ghost use Rattle.plan_table.specs.declared.table.Table.{Table as TableType};
-ghost use Rattle.plan_eval.specs.Given.{Gives};
+ghost use Rattle.plan_function_tables.specs.Given.{Gives};
 ghost use Rattle.plan_value.specs.Shown.{schema_of};
 
 use plan_core::Arena;

@@ -2,12 +2,9 @@
 #![tactic(auto)]
 
 mod between;
-mod count;
 mod distinct;
-mod explode;
 mod filter;
 mod frame_scan;
-mod function;
 mod group_by;
 mod hconcat;
 mod hstack;
@@ -17,14 +14,12 @@ mod only;
 mod picked;
 mod plan;
 mod projection;
-mod scan;
 mod select;
 mod slice;
 mod sort;
 mod stack;
 mod unchanged;
 mod union;
-mod unpivot;
 
 pub use plan::evaluate;
 pub use plan_choices::laws;

@@ -7,7 +7,7 @@ ghost use Rattle.plan_expr.specs.Naming.{name_of};
 ghost use Rattle.plan_frame.specs.Meaning.{filled as filled_with, val};
 ghost use Rattle.plan_frame.specs.Made.{made as made_of, made_columns as columns_made};
 ghost use Rattle.plan_table.specs.Tables.{types_of};
-ghost use Rattle.plan_eval.specs.Given.{stored_column};
+ghost use Rattle.plan_function_tables.specs.Given.{stored_column};
 ghost use Rattle.plan_value.specs.Shown.{column_shown, columns_shown, frame_of, schema_of, values_of};
 
 use plan_core::{Arena, DataType, Items, PlSmallStr, Schema};

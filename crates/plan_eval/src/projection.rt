@@ -3,7 +3,7 @@ ghost use Rattle.std.specs.Prelude.{List, [], ◌∷◌, IfOk};
 ghost use Rattle.plan_ir.specs.Plans.{simple_projection};
 ghost use Rattle.plan_table.specs.declared.source_key.SourceKey.{SourceKey};
 ghost use Rattle.plan_table.specs.declared.table.Table.{Table as TableType};
-ghost use Rattle.plan_eval.specs.Given.{Gives};
+ghost use Rattle.plan_function_tables.specs.Given.{Gives};
 
 use crate::stack::stack;
 use plan_core::Schema;

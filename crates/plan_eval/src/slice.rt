@@ -5,7 +5,7 @@ ghost use Rattle.std.specs.List.{range_with_len};
 ghost use Rattle.plan_ir.specs.Plans.{slice as slice_op};
 ghost use Rattle.plan_frame.specs.Frames.{rows_at as rows_of};
 ghost use Rattle.plan_frame.specs.Rows.{cut_to, start_of as start};
-ghost use Rattle.plan_eval.specs.Given.{Gives};
+ghost use Rattle.plan_function_tables.specs.Given.{Gives};
 ghost use Rattle.plan_table.specs.declared.source_key.SourceKey.{SourceKey};
 ghost use Rattle.plan_table.specs.declared.table.Table.{Table as TableType};
 ghost use Rattle.plan_table.specs.Tables.{HasRows};

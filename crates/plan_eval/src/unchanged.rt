@@ -4,7 +4,7 @@ ghost use Rattle.plan_ir.specs.Plans.{cache as cache_op, sink as sink_op};
 ghost use Rattle.plan_options.specs.declared.sink.SinkType.{SinkType};
 ghost use Rattle.plan_table.specs.declared.source_key.SourceKey.{SourceKey};
 ghost use Rattle.plan_table.specs.declared.table.Table.{Table as TableType};
-ghost use Rattle.plan_eval.specs.Given.{Gives};
+ghost use Rattle.plan_function_tables.specs.Given.{Gives};
 
 use plan_table::Table;
 use std::alloc::AllocError;

@@ -8,7 +8,7 @@ ghost use Rattle.plan_table.specs.declared.source_key.SourceKey.{SourceKey};
 ghost use Rattle.plan_table.specs.declared.table.Table.{Table as TableType};
 ghost use Rattle.plan_table.specs.Tables.{HasRows};
 ghost use Rattle.plan_value.specs.Shown.{frame_of, schema_of};
-ghost use Rattle.plan_eval.specs.Given.{Gives};
+ghost use Rattle.plan_function_tables.specs.Given.{Gives};
 ghost use Rattle.plan_eval.specs.Stacks.{shown_tables};
 
 use crate::only::only;

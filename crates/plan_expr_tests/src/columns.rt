@@ -1,7 +1,8 @@
 //! The columns that small expressions in boxes make.
 use crate::made::{boxed, column, named};
 use plan_core::{At, DataType, PlainType, PolarsError, PolarsResult, Schema};
-use plan_dsl::{AggExpr, Context, Expr, FunctionExpr, expressions_to_schema};
+use plan_dsl::{AggExpr, Expr, FunctionExpr};
+use plan_dsl_schema::{Context, expressions_to_schema};
 use plan_samples::schema;
 use std::alloc::{AllocError, Global};
 

@@ -6,7 +6,7 @@ use Rattle.plan_frame.specs.Exprs.{expr_type}
 use Rattle.plan_frame.specs.Grouping.{gathered_expr}
 use Rattle.plan_meaning.specs.Typing.{first_fault}
 use Rattle.plan_schema.proofs.CheckLemmas.{left-next, left-bad, left-end, at-capped}
-use Rattle.plan_check.proofs.MadeLemmas.{stands_here, item_here}
+use Rattle.plan_check_parts.proofs.MadeLemmas.{stands_here, item_here}
 use Rattle.plan_check.proofs.GroupFaults.{gathered-at}
 use Rattle.plan_check.proofs.group_by.check_gathered.Goals as goal
 

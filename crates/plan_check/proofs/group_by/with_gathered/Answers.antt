@@ -7,7 +7,7 @@ use Rattle.plan_expr.specs.Leaves.{Name}
 use Rattle.plan_expr.specs.Naming.{name_of}
 use Rattle.plan_frame.specs.Exprs.{expr_type}
 use Rattle.plan_frame.specs.Grouping.{gathered_expr}
-use Rattle.plan_check.proofs.MadeLemmas.{stands_here, item_here}
+use Rattle.plan_check_parts.proofs.MadeLemmas.{stands_here, item_here}
 use Rattle.plan_check.proofs.GroupFaults.{gathered-next}
 use Rattle.plan_check.proofs.group_by.with_gathered.Goals as goal
 

@@ -4,7 +4,7 @@ use Rattle.plan_core.specs.declared.error.At.{At}
 use Rattle.plan_core.specs.declared.error.PolarsError.TheVariants.{SchemaMismatch}
 use Rattle.plan_meaning.specs.Typing.{first_fault, first_schema}
 use Rattle.plan_schema.proofs.CheckLemmas.{left-next, left-bad, left-end}
-use Rattle.plan_check.proofs.MadeLemmas.{item_here}
+use Rattle.plan_check_parts.proofs.MadeLemmas.{item_here}
 use Rattle.plan_meaning.proofs.UnionLemmas.{checks_are, first_is, not_same, is_the_same}
 use Rattle.plan_check.proofs.union.check_same.Goals as goal
 

@@ -11,7 +11,7 @@ use Rattle.plan_value.specs.Cells.{cell_of, cells_of}
 use Rattle.plan_value.specs.Groups.{AreNumbered}
 use Rattle.plan_value.specs.Shown.{columns_shown, frame_of, schema_of}
 use Rattle.plan_eval.specs.Distinct.{kept}
-use Rattle.plan_eval.specs.Given.{stored_column}
+use Rattle.plan_function_tables.specs.Given.{stored_column}
 use Rattle.plan_eval.specs.Groups.{columns_in, group_column}
 use Rattle.plan_eval.proofs.GroupLemmas.{columns-in, firsts-kept, group-columns, key_column, many-cells}
 use Rattle.plan_eval.proofs.MadeLemmas.{aggs-named, groups-typed, keys-named}

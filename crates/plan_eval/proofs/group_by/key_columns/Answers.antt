@@ -10,7 +10,7 @@ use Rattle.plan_table.specs.Tables.{types_of}
 use Rattle.plan_value.specs.declared.exprs.Values.{Values}
 use Rattle.plan_value.specs.Cells.{cell_of, cells_of}
 use Rattle.plan_value.specs.Shown.{columns_shown}
-use Rattle.plan_eval.specs.Given.{stored_column}
+use Rattle.plan_function_tables.specs.Given.{stored_column}
 use Rattle.plan_eval.specs.Groups.{columns_in}
 use Rattle.plan_eval.proofs.ColumnLemmas.{put-first, put-type}
 use Rattle.plan_eval.proofs.group_by.key_columns.Goals as goal

@@ -6,7 +6,7 @@ use Rattle.plan_frame.specs.Frames.{with_columns}
 use Rattle.plan_table.specs.Tables.{types_of}
 use Rattle.plan_value.specs.Cells.{cells_of}
 use Rattle.plan_value.specs.Shown.{columns_shown}
-use Rattle.plan_eval.specs.Given.{stored_column}
+use Rattle.plan_function_tables.specs.Given.{stored_column}
 use Rattle.plan_eval.specs.Groups.{columns_in}
 use Rattle.plan_eval.proofs.group_by.key_columns.Given as goal
 

@@ -8,7 +8,7 @@ use Rattle.plan_frame.specs.Values.{Value}
 use Rattle.plan_frame.proofs.ScalarExprs.{stands_here}
 use Rattle.plan_table.specs.Tables.{types_of}
 use Rattle.plan_value.specs.Shown.{columns_shown, frame_of}
-use Rattle.plan_eval.specs.Given.{stored_column}
+use Rattle.plan_function_tables.specs.Given.{stored_column}
 use Rattle.plan_eval.specs.Groups.{group_column}
 use Rattle.plan_eval.proofs.ColumnLemmas.{put-first, put-type}
 use Rattle.plan_eval.proofs.group_by.with_aggregates.Goals as goal

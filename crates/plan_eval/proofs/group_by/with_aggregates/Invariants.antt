@@ -4,7 +4,7 @@ use Rattle.plan_expr.specs.Exprs.{all_named_at}
 use Rattle.plan_frame.specs.Frames.{with_columns}
 use Rattle.plan_table.specs.Tables.{types_of}
 use Rattle.plan_value.specs.Shown.{columns_shown, frame_of}
-use Rattle.plan_eval.specs.Given.{stored_column}
+use Rattle.plan_function_tables.specs.Given.{stored_column}
 use Rattle.plan_eval.specs.Groups.{group_column}
 use Rattle.plan_eval.proofs.group_by.with_aggregates.Given as goal
 

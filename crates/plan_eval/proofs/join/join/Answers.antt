@@ -6,7 +6,7 @@ use Rattle.plan_join.specs.Told.{told_at}
 use Rattle.plan_meaning.specs.JoinChecks.{join_checks}
 use Rattle.plan_meaning.specs.Typing.{AllHold, checks}
 use Rattle.plan_table.specs.declared.table.Table.{Table}
-use Rattle.plan_eval.specs.Given.{Gives}
+use Rattle.plan_function_tables.specs.Given.{Gives}
 use Rattle.plan_value.specs.Shown.{schema_of}
 use Rattle.plan_eval.proofs.JoinLemmas.{all-distinct, as-many, both-tables, has-condition, join-gives, left-stand, right-stand}
 use Rattle.plan_eval.proofs.join.join.Goals as goal

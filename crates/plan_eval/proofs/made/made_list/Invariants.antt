@@ -2,7 +2,7 @@ use Rattle.std.proofs.Common.{◌≡◌, map, take}
 use Rattle.plan_expr.specs.Exprs.{all_named_at}
 use Rattle.plan_frame.specs.Made.{made_columns}
 use Rattle.plan_table.specs.Tables.{types_of}
-use Rattle.plan_eval.specs.Given.{stored_column}
+use Rattle.plan_function_tables.specs.Given.{stored_column}
 use Rattle.plan_value.specs.Shown.{columns_shown, frame_of}
 use Rattle.plan_eval.proofs.made.made_list.Given as goal
 

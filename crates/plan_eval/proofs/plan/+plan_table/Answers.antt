@@ -8,7 +8,7 @@ use Rattle.plan_ir.proofs.PlanLemmas.{plan_down}
 use Rattle.plan_meaning.specs.Contents.{FitsAll}
 use Rattle.plan_meaning.specs.Typing.{AllHold, AllValid, checks}
 use Rattle.plan_meaning.proofs.NodeExprs.{all_stand}
-use Rattle.plan_eval.specs.Given.{GiveAll}
+use Rattle.plan_function_tables.specs.Given.{GiveAll}
 use Rattle.plan_fit.specs.Sources.{contents_of}
 use Rattle.plan_eval.proofs.PlanLemmas.{given-rows, inputs-frames, plan-gives, node-valid, inputs-valid}
 use Rattle.plan_fit.proofs.SideLemmas.{one-frames}

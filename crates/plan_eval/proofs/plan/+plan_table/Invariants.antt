@@ -2,7 +2,7 @@ use Rattle.std.proofs.Common.{◌≡◌, length, take}
 use Rattle.plan_tree.proofs.TreeLemmas.{height_at}
 use Rattle.plan_ir.specs.Parts.{inputs_of, plan_shape}
 use Rattle.plan_ir.specs.Plans.{plans_at}
-use Rattle.plan_eval.specs.Given.{GiveAll}
+use Rattle.plan_function_tables.specs.Given.{GiveAll}
 use Rattle.plan_eval.proofs.plan.+plan_table.Given as goal
 
 abbrev pub decreases-plan_table : goal.decreases-plan_table

@@ -8,7 +8,7 @@ use Rattle.plan_ir.specs.Parts.{exprs_of}
 use Rattle.plan_ir.specs.Plans.{op_at, slice}
 use Rattle.plan_meaning.specs.Typing.{AllHold, checks}
 use Rattle.plan_value.specs.Shown.{schema_of}
-use Rattle.plan_eval.specs.Given.{Gives}
+use Rattle.plan_function_tables.specs.Given.{Gives}
 use Rattle.plan_eval.proofs.plan.one_input_table.Goals as goal
 
 pub hstack-requires-clause-stand : goal.hstack-requires-clause-stand

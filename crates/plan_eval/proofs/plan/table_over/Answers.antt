@@ -7,7 +7,7 @@ use Rattle.plan_ir.specs.declared.ir.IR.{IR}
 use Rattle.plan_ir.specs.Parts.{exprs_of}
 use Rattle.plan_ir.specs.Plans.{join, op_at}
 use Rattle.plan_join.specs.Told.{told_at}
-use Rattle.plan_eval.specs.Given.{Gives}
+use Rattle.plan_function_tables.specs.Given.{Gives}
 use Rattle.plan_eval.proofs.plan.table_over.Goals as goal
 
 pub join-requires-clause-stand : goal.join-requires-clause-stand

@@ -6,7 +6,7 @@ use Rattle.plan_frame.specs.Made.{made}
 use Rattle.plan_table.specs.declared.column.Column.{Column as Typed}
 use Rattle.plan_table.specs.Tables.{types_of}
 use Rattle.plan_meaning.proofs.CheckParts.{made_good}
-use Rattle.plan_eval.specs.Given.{stored_column}
+use Rattle.plan_function_tables.specs.Given.{stored_column}
 use Rattle.plan_value.specs.Shown.{columns_shown, frame_of, schema_of}
 use Rattle.plan_eval.proofs.MadeLemmas.{stored-named, stored-made}
 use Rattle.plan_eval.proofs.select.select.Goals as goal

@@ -3,7 +3,7 @@ use Rattle.std.specs.List.{AllByRecursion}
 use Rattle.plan_ir.specs.Plans.{union}
 use Rattle.plan_table.specs.declared.table.Table.{Table}
 use Rattle.plan_table.specs.Tables.{HasRows}
-use Rattle.plan_eval.specs.Given.{Gives}
+use Rattle.plan_function_tables.specs.Given.{Gives}
 use Rattle.plan_eval.proofs.TurnLemmas.{alone-gives}
 use Rattle.plan_eval.proofs.union.union.Goals as goal
 

@@ -1,5 +1,0 @@
-use Rattle.plan_check.proofs.EachLemmas.{differ_none}
-use Rattle.plan_check.proofs.columns.columns_differ.Goals as goal
-
-pub returns : goal.returns
-returns c = differ_none c.args.node c.args.columns.now c.len-count.ensures.distinct

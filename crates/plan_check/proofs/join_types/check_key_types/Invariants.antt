@@ -1,9 +1,0 @@
-use Rattle.plan_core.specs.declared.error.PolarsError.TheVariants.{SchemaMismatch}
-use Rattle.plan_expr.specs.Exprs.{expr_at}
-use Rattle.plan_frame.specs.Exprs.{expr_type}
-use Rattle.plan_meaning.specs.JoinChecks.{is_key_type}
-use Rattle.plan_schema.proofs.CheckLemmas.{Left}
-use Rattle.plan_check.proofs.join_types.check_key_types.Given as goal
-
-abbrev pub invariant-loop-i : goal.invariant-loop-i
-invariant-loop-i l = Left l.node SchemaMismatch 1 (λ e. is_key_type l.how (expr_type (expr_at l.ex e.node) l.schema)) l.keys l.i

@@ -1,7 +1,0 @@
-use Rattle.std.proofs.Common.{◌≡◌}
-use Rattle.plan_eval.specs.Explode.{borrowed_columns, longest, rows_by}
-use Rattle.plan_eval.proofs.explode.exploded_rows.Given as goal
-
--- the rows that come of those up to here
-abbrev pub invariant-loop-row : goal.invariant-loop-row
-invariant-loop-row l = l.rows.items ≡ rows_by (longest (borrowed_columns l.lists)) l.row

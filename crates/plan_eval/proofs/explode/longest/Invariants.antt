@@ -1,7 +1,0 @@
-use Rattle.std.proofs.Common.{◌≡◌, take}
-use Rattle.plan_eval.specs.Explode.{borrowed_columns, longest}
-use Rattle.plan_eval.proofs.explode.longest.Given as goal
-
--- the longest list of the columns up to here
-abbrev pub invariant-loop-column : goal.invariant-loop-column
-invariant-loop-column l = l.most ≡ longest (borrowed_columns (take l.column-index l.lists)) l.row

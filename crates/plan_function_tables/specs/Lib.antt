@@ -1,0 +1,4 @@
+-- The definitions that contracts cite.
+pub mod Given
+pub mod Function
+pub mod Explode
