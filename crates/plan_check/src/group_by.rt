@@ -13,7 +13,9 @@ ghost use Rattle.plan_meaning.specs.Typing.{is_built_group, first_fault, Says, I
 ghost use Rattle.plan_frame.specs.Made.{made_schema as schema_made};
 ghost use Rattle.plan_meaning.specs.Typed.{IsNodeTyped};
 
-use plan_check_parts::{check_forms, check_leaves, check_namings, check_outputs, check_stored, check_types, made_schema};
+use plan_check_parts::{
+    check_forms, check_leaves, check_namings, check_outputs, check_stored, check_types, made_schema,
+};
 use plan_core::{
     Arena, DataType, Items, Node, PlSmallStr, PolarsError, PolarsResult, Schema, TryClone,
 };

@@ -8,9 +8,9 @@ ghost use Rattle.plan_dsl.specs.Names.{output_name};
 ghost use Rattle.plan_dsl_schema.specs.Schemas.{column_type as type_of_column, expr_fault, made_columns, schema_fault};
 ghost use Rattle.plan_dsl.specs.Typing.{has_form};
 
-use plan_dsl::Expr;
 use crate::typing::expr_type;
 use plan_core::{DataType, PlSmallStr, PolarsError, PolarsResult, Schema};
+use plan_dsl::Expr;
 use plan_expr::list_of;
 use plan_options::item;
 use std::alloc::{AllocError, Global};

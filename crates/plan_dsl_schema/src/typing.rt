@@ -4,8 +4,8 @@ ghost use Rattle.std.specs.List.{list_all};
 ghost use Rattle.plan_expr.specs.Types.{all_of, function_type as type_of_function};
 ghost use Rattle.plan_dsl.specs.Typing.{expr_type as type_of_expr};
 
-use plan_dsl::Expr;
 use plan_core::{DataType, Schema};
+use plan_dsl::Expr;
 use plan_expr::{
     FunctionExpr, aggregate_type, binary_type, choice_type, literal_type, operator_type, unary_type,
 };

@@ -1,13 +1,13 @@
 //! The columns of a table, in order and by name. Contracts see a list of columns.
 ghost use Rattle.std.specs.Prelude.{◌≡◌, ◌<◌, ◌↔◌, [], length, IsSome, IfOk, OnOk, OnErr, slice_get, option_copied};
-ghost use Rattle.std.specs.Map.Iter.{ShowsInOrder, deref};
+ghost use Rattle.std.specs.Map.Iter.{GivesInOrder, ShowsInOrder, deref};
 ghost use Rattle.plan_core.specs.Columns.{HasDistinctNames};
 ghost use Rattle.plan_table.specs.declared.column.Column.{Column as ColumnType};
 ghost use Rattle.plan_table.specs.Tables.{column_of, types_of, with_column};
 
 use crate::column::Column;
 use indexmap::IndexMap;
-use indexmap::map::Values;
+use indexmap::map::{IntoValues, Values};
 use plan_core::TryClone;
 use std::alloc::{AllocError, Global};
 use std::marker::Model;
@@ -75,6 +75,15 @@ impl Columns {
         ensures distinct { HasDistinctNames (types_of self.now) }
     {
         self.columns.values()
+    }
+
+    /// The columns in order, by value.
+    pub fn into_values(self) -> IntoValues<String, Column>
+        ensures rest { result ≡ self }
+        ensures runs { GivesInOrder ColumnType }
+        ensures distinct { HasDistinctNames (types_of self) }
+    {
+        self.columns.into_values()
     }
 
     /// Puts a column in the place of the one of its name, or last. Refuses for want of memory alone.
