@@ -1,4 +1,4 @@
-//! Laws of frames whose rows stand in another order.
+//! Laws of frames whose rows stand in another order, of nodes that must keep the order of their rows, and of the bare count.
 #![tactic(auto)]
 
 pub mod count_laws;

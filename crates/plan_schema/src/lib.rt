@@ -1,4 +1,5 @@
-//! Functions of whole frames: how they name columns, the columns that they give, and the checks on them.
+//! Functions of whole frames: how they name columns, the columns that they give, and the checks on them; the columns that a plan says it
+//! has.
 #![tactic(auto)]
 
 mod count;
