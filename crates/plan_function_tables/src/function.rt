@@ -102,12 +102,7 @@ fn numbers(
 }
 
 /// The table behind a column of a new name that numbers its rows from a first number on.
-fn numbered(
-    alloc: Global,
-    table: Table,
-    name: &PlSmallStr,
-    first: u32,
-) -> Result<Table, AllocError>
+fn numbered(alloc: Global, table: Table, name: &PlSmallStr, first: u32) -> Result<Table, AllocError>
     requires { has (names_of (schema_of table)) name.now ≡ false }
     ensures frame { IfOk result (λ t. frame_of t ≡ with_numbers name.now first (frame_of table)) }
     ensures types { IfOk result (λ t. schema_of t ≡ (name.now, Int64) ∷ schema_of table) }
