@@ -85,7 +85,7 @@ rows-up at a (suc n) =
     let same : suc a + 1 ≡ suc (a + 1) = omega arith in
     ap (λ (k : ℕ). at (suc a) ∷ map at (range_with_len k n)) same ∙ ap (λ (l : List Value). at (suc a) ∷ l) (rows-up at (a + 1) n)
 
-each-row : (vs : List Value) → map (row vs) (range_with_len 0 (length vs)) ≡ vs
+pub each-row : (vs : List Value) → map (row vs) (range_with_len 0 (length vs)) ≡ vs
 each-row [] = refl
 each-row (v ∷ vs) = ap (λ (l : List Value). v ∷ l) (rows-up (row (v ∷ vs)) 0 (length vs) ∙ each-row vs)
 
@@ -142,8 +142,8 @@ below-gives ts valid options first others t good rows (inl none) frame types =
 below-gives ts valid options first others t good rows (inr d) frame types =
     let names : List Name = names_of (schema_of first) in
     let own : frame_of first ≡ stack names (frame_of first ∷ []) =
-        ap (λ (cs : List Column). record { height = first.height; columns = cs }) (own-columns (frame_of first) (schema_of first) (columns-have first.height first.columns rows.0) d)
-        ∙ sym (stack-one names (frame_of first)) in
+    ap (λ (cs : List Column). record { height = first.height; columns = cs }) (own-columns (frame_of first) (schema_of first) (columns-have first.height first.columns rows.0) d)
+    ∙ sym (stack-one names (frame_of first)) in
     gives ts valid options first others t good rows d
     (frame ∙ ap (λ (f : Frame). fold with_below f (map frame_of others)) own ∙ fold-stacks names (frame_of first ∷ []) (map frame_of others))
     types

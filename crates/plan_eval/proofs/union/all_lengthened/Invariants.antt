@@ -7,5 +7,5 @@ use Rattle.plan_eval.proofs.union.all_lengthened.Given as goal
 -- what is made, and then what is left with its values behind, are all columns so, and so are their types
 abbrev pub invariant-loop-column : goal.invariant-loop-column
 invariant-loop-column l =
-    (columns_shown l.made ++ map (lengthened (frame_of l.table)) (columns_shown l.column-iterator) ≡ map (lengthened (frame_of l.table)) (columns_shown l.columns))
-    × (types_of l.made ++ types_of l.column-iterator ≡ types_of l.columns)
+    (columns_shown l.made ++ map (lengthened (frame_of l.table)) (columns_shown l.column-iterator) ≡ map (lengthened (frame_of l.table)) (columns_shown l.fn.columns))
+    × (types_of l.made ++ types_of l.column-iterator ≡ types_of l.fn.columns)
