@@ -1,5 +1,5 @@
 -- Frames one after another.
-use Rattle.std.proofs.Common.{◌≡◌, ◌++◌, ◌+◌, ◌<◌, length, take, get_or, ℕ, List, [], ◌∷◌, refl, ap, ap₂, sym, ◌∙◌, arith, append_assoc, append-nil}
+use Rattle.std.proofs.Common.{◌≡◌, ◌++◌, ◌+◌, ◌<◌, length, take, get_or, map, fold, ℕ, List, [], ◌∷◌, refl, ap, ap₂, sym, ◌∙◌, arith, append_assoc, append-nil}
 use Rattle.std.specs.Borrow.{Bor}
 use Rattle.std.proofs.lemmas.List.{map-append, take_more}
 use Rattle.plan_table.specs.declared.table.Table.{Table}
@@ -7,7 +7,7 @@ use Rattle.plan_expr.specs.Leaves.{Name}
 use Rattle.plan_frame.specs.Values.{Value}
 use Rattle.plan_frame.specs.Frames.{Frame, Column, column_or, cut, table_columns, stack, stacked, total_height}
 use Rattle.plan_value.specs.Shown.{frame_of}
-use Rattle.plan_eval.specs.Stacks.{shown_tables}
+use Rattle.plan_eval.specs.Stacks.{lengthened, shown_tables, with_below}
 
 pub height-push : (fs : List Frame) (f : Frame) → total_height (fs ++ f ∷ []) ≡ total_height fs + f.height
 height-push [] f = omega arith
@@ -37,3 +37,20 @@ height-next ts i t lt is = ap total_height (tables-next ts i t lt is) ∙ height
 
 pub stacked-next : (ts : List (Bor Table)) (i : ℕ) (t : Bor Table) (a : Name) → i < length ts → t ≡ get_or ts i t → stacked (shown_tables (take (i + 1) ts)) a ≡ stacked (shown_tables (take i ts)) a ++ column_or (frame_of t.now) a
 stacked-next ts i t a lt is = ap (λ (fs : List Frame). stacked fs a) (tables-next ts i t lt is) ∙ stacked-push (shown_tables (take i ts)) (frame_of t.now) a
+
+lengthened-table : (names : List Name) (v : Name → List Value) (g : Frame) → map (lengthened g) (table_columns names v) ≡ table_columns names (λ (a : Name). v a ++ column_or g a)
+lengthened-table [] v g = refl
+lengthened-table (a ∷ names) v g = ap (λ (cs : List Column). record { name = a; values = v a ++ column_or g a } ∷ cs) (lengthened-table names v g)
+
+-- rows below stacked ones are stacked with them
+below-stacked : (names : List Name) (fs : List Frame) (g : Frame) → with_below (stack names fs) g ≡ stack names (fs ++ g ∷ [])
+below-stacked names fs g =
+    ap₂ (λ (n : ℕ) (cs : List Column). record { height = n; columns = cs }) (sym (height-push fs g))
+    (lengthened-table names (stacked fs) g ∙ same-columns names (λ (a : Name). stacked fs a ++ column_or g a) (stacked (fs ++ g ∷ [])) (λ a. sym (stacked-push fs g a)))
+
+pub fold-stacks : (names : List Name) (fs gs : List Frame) → fold with_below (stack names fs) gs ≡ stack names (fs ++ gs)
+fold-stacks names fs [] = ap (stack names) (sym (append-nil fs))
+fold-stacks names fs (g ∷ gs) =
+    ap (λ (f : Frame). fold with_below f gs) (below-stacked names fs g)
+    ∙ fold-stacks names (fs ++ g ∷ []) gs
+    ∙ ap (stack names) (append_assoc fs (g ∷ []) gs)

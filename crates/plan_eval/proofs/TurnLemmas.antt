@@ -1,5 +1,5 @@
 -- The rows of frames in turn: the frames stacked, where all have the same columns.
-use Rattle.std.proofs.Common.{◌≡◌, ◌∙◌, ◌++◌, ◌+◌, ℕ, zero, suc, Bool, false, cond, List, [], ◌∷◌, map, length, get_or, ◌<◌, ◌≤◌, Some, unwrap_or, replicate, refl, sym, ap, ap₂, subst, arith}
+use Rattle.std.proofs.Common.{◌≡◌, ◌∙◌, ◌++◌, ◌+◌, ℕ, zero, suc, Bool, false, cond, List, [], ◌∷◌, map, fold, length, ◌<◌, ◌⊎◌, inl, inr, Some, unwrap_or, replicate, refl, sym, ap, ap₂, subst, arith}
 use Rattle.std.specs.List.{AllByRecursion, IsDistinct, range_with_len}
 use Rattle.std.specs.Str.{bytes_eq}
 use Rattle.std.proofs.lemmas.List.FromFn.{length-range_with_len}
@@ -20,7 +20,8 @@ use Rattle.plan_table.specs.Tables.{HasRows}
 use Rattle.plan_value.specs.Shown.{frame_of, schema_of}
 use Rattle.plan_function_tables.specs.Given.{Gives}
 use Rattle.plan_fit.proofs.FormedLemmas.{columns-have, have-columns}
-use Rattle.plan_eval.proofs.StackLemmas.{stack-one}
+use Rattle.plan_eval.specs.Stacks.{with_below}
+use Rattle.plan_eval.proofs.StackLemmas.{fold-stacks, stack-one}
 
 -- Columns by their names
 
@@ -84,7 +85,7 @@ rows-up at a (suc n) =
     let same : suc a + 1 ≡ suc (a + 1) = omega arith in
     ap (λ (k : ℕ). at (suc a) ∷ map at (range_with_len k n)) same ∙ ap (λ (l : List Value). at (suc a) ∷ l) (rows-up at (a + 1) n)
 
-each-row : (vs : List Value) → map (row vs) (range_with_len 0 (length vs)) ≡ vs
+pub each-row : (vs : List Value) → map (row vs) (range_with_len 0 (length vs)) ≡ vs
 each-row [] = refl
 each-row (v ∷ vs) = ap (λ (l : List Value). v ∷ l) (rows-up (row (v ∷ vs)) 0 (length vs) ∙ each-row vs)
 
@@ -112,9 +113,9 @@ same-schemas s [] a r = tt
 same-schemas s (t ∷ tables) a r = (subst (HasSchema (frame_of t)) a.0 (columns-have t.height t.columns r.0), same-schemas s tables a.1 r.1)
 
 -- a valid union has a table
-pub none-united : (options : UnionOptions) (tables : List Table) → length tables < 1 → AllHold (checks (union options) (map schema_of tables)) → ⊥
-none-united options [] lt good = never_built options [] refl good.0
-none-united options (t ∷ tables) lt good = absurd (omega (arith, lt))
+pub some-united : (options : UnionOptions) (tables : List Table) → AllHold (checks (union options) (map schema_of tables)) → 0 < length tables
+some-united options [] good = absurd (never_built options [] refl good.0)
+some-united options (t ∷ tables) good = omega arith
 
 -- tables with the columns of the first, stacked, are what a union of them gives
 gives : (ts : List (SourceKey × Table)) (valid options : UnionOptions) (first : Table) (tables : List Table) (t : Table)
@@ -129,17 +130,20 @@ gives ts valid options first tables t good rows d frame types =
       types = types;
     }
 
-pub union-gives : (ts : List (SourceKey × Table)) (valid options : UnionOptions) (first : Table) (tables : List Table) (t : Table)
-    → 1 ≤ length tables → first ≡ get_or tables 0 first → AllHold (checks (union valid) (map schema_of tables)) → AllByRecursion HasRows tables → HasDistinctNames (schema_of first)
-    → frame_of t ≡ stack (names_of (schema_of first)) (map frame_of tables) → schema_of t ≡ schema_of first → Gives ts (union options) tables t
-union-gives ts valid options first [] t le is good rows d frame types = absurd (omega (arith, le))
-union-gives ts valid options first (u ∷ tables) t le is good rows d frame types =
-    gives ts valid options u tables t good rows (subst (λ (v : Table). HasDistinctNames (schema_of v)) is d)
-    (frame ∙ ap (λ (v : Table). stack (names_of (schema_of v)) (map frame_of (u ∷ tables))) is) (types ∙ ap schema_of is)
-
--- a table alone is what a union of it gives
-pub alone-gives : (ts : List (SourceKey × Table)) (options : UnionOptions) (t : Table) → HasRows t → Gives ts (union options) (t ∷ []) t
-alone-gives ts options t rows = record {
-  step = sym (all-rows (frame_of t) (schema_of t) (columns-have t.height t.columns rows));
-  types = refl;
-}
+-- tables with the rows of the others below those of the first are what a union of them gives
+pub below-gives : (ts : List (SourceKey × Table)) (valid options : UnionOptions) (first : Table) (others : List Table) (t : Table)
+    → AllHold (checks (union valid) (map schema_of (first ∷ others))) → AllByRecursion HasRows (first ∷ others) → (others ≡ []) ⊎ HasDistinctNames (schema_of first)
+    → frame_of t ≡ fold with_below (frame_of first) (map frame_of others) → schema_of t ≡ schema_of first → Gives ts (union options) (first ∷ others) t
+below-gives ts valid options first others t good rows (inl none) frame types =
+    subst (λ (us : List Table). Gives ts (union options) (first ∷ us) t) (sym none) (record {
+      step = frame ∙ ap (λ (us : List Table). fold with_below (frame_of first) (map frame_of us)) none ∙ sym (all-rows (frame_of first) (schema_of first) (columns-have first.height first.columns rows.0));
+      types = types;
+    })
+below-gives ts valid options first others t good rows (inr d) frame types =
+    let names : List Name = names_of (schema_of first) in
+    let own : frame_of first ≡ stack names (frame_of first ∷ []) =
+    ap (λ (cs : List Column). record { height = first.height; columns = cs }) (own-columns (frame_of first) (schema_of first) (columns-have first.height first.columns rows.0) d)
+    ∙ sym (stack-one names (frame_of first)) in
+    gives ts valid options first others t good rows d
+    (frame ∙ ap (λ (f : Frame). fold with_below f (map frame_of others)) own ∙ fold-stacks names (frame_of first ∷ []) (map frame_of others))
+    types

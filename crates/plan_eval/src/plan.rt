@@ -10,6 +10,8 @@ ghost use Rattle.plan_meaning.specs.Contents.{Fits, FitsAll};
 ghost use Rattle.plan_meaning.specs.PlanAt.{plan_at};
 ghost use Rattle.plan_meaning.specs.Steps.{IsValid, May};
 ghost use Rattle.plan_meaning.specs.Typing.{AllHold, AllValid, checks, schema};
+ghost use Rattle.plan_table.specs.declared.source_key.SourceKey.{SourceKey};
+ghost use Rattle.plan_table.specs.declared.table.Table.{Table as TableType};
 ghost use Rattle.plan_table.specs.Tables.{HasRows};
 ghost use Rattle.plan_choices.specs.Choices.{Chooses};
 ghost use Rattle.plan_function_tables.specs.Given.{GiveAll, Gives, makes_new, names_many, stands_over_sides};
@@ -30,7 +32,7 @@ use crate::slice::slice;
 use crate::sort::sort;
 use crate::unchanged::unchanged;
 use crate::union::union;
-use plan_core::{Arena, Items, Node};
+use plan_core::{Arena, Node};
 use plan_expr::AExpr;
 use plan_fit::inputs::{input_at, input_count};
 use plan_function_tables::{mapped, scan};
@@ -76,13 +78,12 @@ fn new_table(
     node: &IR,
     table: &Table,
     ex: &Arena<AExpr>,
-    tables: &Tables,
 ) -> Result<Table, AllocError>
     requires new { makes_new node.now ≡ true }
     requires stand { All (λ e. IsExpr ex.now e.node) (exprs_of node.now) }
     requires valid { AllHold (checks (op_at ex.now node.now) (schema_of table.now ∷ [])) }
     requires rows { HasRows table.now }
-    ensures { IfOk result (Gives tables.now (op_at ex.now node.now) (table.now ∷ [])) }
+    ensures { (ts : List (SourceKey × TableType)) → IfOk result (Gives ts (op_at ex.now node.now) (table.now ∷ [])) }
 {
     match node {
         IR::SimpleProjection { columns, .. } => projection(alloc, table, columns),
@@ -93,7 +94,6 @@ fn new_table(
             schema,
             ..
         } => group_by(alloc, table, keys.as_slice(), aggs.as_slice(), schema, ex),
-        IR::MapFunction { function, .. } => mapped(alloc, table, function, tables),
         _ => unreachable!(),
     }
 }
@@ -123,12 +123,10 @@ fn one_input_table(
             ..
         } => sort(alloc, table, by_column.as_slice(), sort_options, ex),
         IR::Distinct { options, .. } => distinct(alloc, table, options),
+        IR::MapFunction { function, .. } => mapped(alloc, table, function, tables),
         IR::Sink { .. } | IR::Cache { .. } => unchanged(table),
-        IR::SimpleProjection { .. }
-        | IR::Select { .. }
-        | IR::GroupBy { .. }
-        | IR::MapFunction { .. } => {
-            let made = new_table(alloc, node, &table, ex, tables);
+        IR::SimpleProjection { .. } | IR::Select { .. } | IR::GroupBy { .. } => {
+            let made = new_table(alloc, node, &table, ex);
             drop(table);
             made
         }
@@ -170,7 +168,6 @@ fn table_over(
             options,
             ex,
         ),
-        IR::HConcat { .. } => hconcat(alloc, inputs),
         _ => unreachable!(),
     }
 }
@@ -179,19 +176,20 @@ fn table_over(
 fn node_table(
     alloc: Global,
     node: &IR,
-    inputs: Items<Table>,
+    inputs: Vec<Table>,
     ex: &Arena<AExpr>,
     tables: &Tables,
 ) -> Result<Table, AllocError>
-    requires each { length inputs ≡ length (inputs_of node.now) }
+    requires each { length inputs.items ≡ length (inputs_of node.now) }
     requires stand { All (λ e. IsExpr ex.now e.node) (exprs_of node.now) }
-    requires valid { AllHold (checks (op_at ex.now node.now) (map schema_of inputs)) }
-    requires rows { AllByRecursion HasRows inputs }
-    ensures { IfOk result (Gives tables.now (op_at ex.now node.now) inputs) }
+    requires valid { AllHold (checks (op_at ex.now node.now) (map schema_of inputs.items)) }
+    requires rows { AllByRecursion HasRows inputs.items }
+    ensures { IfOk result (Gives tables.now (op_at ex.now node.now) inputs.items) }
 {
     match node {
         IR::Union { .. } => union(alloc, inputs),
-        IR::Scan { .. } | IR::DataFrameScan { .. } | IR::Join { .. } | IR::HConcat { .. } => {
+        IR::HConcat { .. } => hconcat(alloc, inputs),
+        IR::Scan { .. } | IR::DataFrameScan { .. } | IR::Join { .. } => {
             let made = table_over(alloc, node, inputs.as_slice(), ex, tables);
             drop(inputs);
             made
@@ -225,7 +223,7 @@ fn plan_table(
     ensures { IfOk result (λ table. GiveAll tables.now (plans_at lp.now ex.now (node ∷ [])) (table ∷ [])) }
 {
     let entry = lp.get(node);
-    let mut given = Items::new(alloc);
+    let mut given = Vec::new(alloc);
     for place in 0..input_count(entry) {
         given.push(plan_table(alloc, input_at(entry, place), lp, ex, tables)?)?;
     }

@@ -31,15 +31,13 @@ abbrev pub makes_new : IR → Bool
 makes_new (nodes.SimpleProjection input columns) = true
 makes_new (nodes.Select input expr schema options) = true
 makes_new (nodes.GroupBy input keys aggs schema maintain_order options) = true
-makes_new (nodes.MapFunction input function) = true
 makes_new other = false
 
--- a source, a join or a concatenation
+-- a source or a join
 abbrev pub stands_over_sides : IR → Bool
 stands_over_sides (nodes.Scan sources file_info hive_parts predicate output_schema scan_type file_options) = true
 stands_over_sides (nodes.DataFrameScan df schema output_schema) = true
 stands_over_sides (nodes.Join input_left input_right schema left_on right_on options) = true
-stands_over_sides (nodes.HConcat inputs schema options) = true
 stands_over_sides other = false
 
 -- a node gives this table over tables of its inputs, and its columns have the node's types

@@ -9,7 +9,7 @@ ghost use Rattle.plan_file_tables.specs.Parts.{frames_found};
 ghost use Rattle.plan_fit.specs.Sources.{contents_of};
 ghost use Rattle.plan_value.specs.Shown.{frame_of, schema_of};
 
-use crate::scan::own_tables;
+use crate::file_scan::own_tables;
 use plan_core::{DataType, Items, PlSmallStr};
 use plan_scan::ScanSources;
 use plan_schema::count_name;

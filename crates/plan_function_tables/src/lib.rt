@@ -3,9 +3,9 @@
 
 mod count;
 mod explode;
+mod file_scan;
 mod function;
-mod scan;
 mod unpivot;
 
+pub use file_scan::scan;
 pub use function::mapped;
-pub use scan::scan;

@@ -15,6 +15,7 @@ use Rattle.plan_core.specs.declared.flags.OptFlags.{OptFlags}
 use Rattle.plan_core.specs.Flags.{bits_of, has_bits}
 use Rattle.plan_ir.specs.Plans.{Plan}
 use Rattle.plan_meaning.specs.Asked.{sites_of}
+use Rattle.plan_meaning.specs.Caches.{AreShared}
 use Rattle.plan_meaning.specs.Relating.{all, Refines}
 use Rattle.plan_meaning.specs.Steps.{IsValid}
 use Rattle.plan_meaning.proofs.Refining.{refines_refl}
@@ -75,6 +76,7 @@ answered_bytes limit command c bytes text result end whole small answers (inr b)
 pub given_answer : (flags : OptFlags) (p : Plan) → IsValid p → has_bits (bits_of flags) pushdown_bit ≡ false → IsAnswer flags p p
 given_answer flags p v off = record {
   refines = refines_refl p v;
+  shared = λ alike. alike;
   reads = λ on. let u : true ≡ false = sym on ∙ off in cc;
   work = λ on. let u : true ≡ false = sym on ∙ off in cc;
   nodes = λ on. let u : true ≡ false = sym on ∙ off in cc;
@@ -82,9 +84,10 @@ given_answer flags p v off = record {
 }
 
 -- what pushdown leaves is an answer where it is asked
-pub pruned_answer : (flags : OptFlags) (q p : Plan) → Refines q p → ReadWithin (scans q) (sites_of p) → made q ≤ kept p → nodes q ≤ nodes p + tops p all → has_bits (bits_of flags) pushdown_bit ≡ true → IsAnswer flags q p
-pruned_answer flags q p r reads work few on = record {
+pub pruned_answer : (flags : OptFlags) (q p : Plan) → Refines q p → (AreShared p → AreShared q) → ReadWithin (scans q) (sites_of p) → made q ≤ kept p → nodes q ≤ nodes p + tops p all → has_bits (bits_of flags) pushdown_bit ≡ true → IsAnswer flags q p
+pruned_answer flags q p r shared reads work few on = record {
   refines = r;
+  shared = shared;
   reads = λ _. reads;
   work = λ _. work;
   nodes = λ _. few;

@@ -12,6 +12,7 @@ use Rattle.plan_ir.specs.Copies.{IsRenumbered}
 use Rattle.plan_ir.specs.Plans.{Op, Plan, bare, plans_at}
 use Rattle.plan_ir.specs.Reads.{scan_reads_of}
 use Rattle.plan_meaning.specs.Asked.{sites_of}
+use Rattle.plan_meaning.specs.Caches.{AreShared}
 use Rattle.plan_meaning.specs.PlanAt.{plan_at}
 use Rattle.plan_meaning.specs.Relating.{all, Refines}
 use Rattle.plan_pruned.specs.Pruned.{pruned_all}
@@ -30,9 +31,10 @@ pushdown_bit = 1
 abbrev pub answered : OptFlags → Roses (Unit {0}) Op → Roses (Unit {0}) Op
 answered flags plan = if has_bits (bits_of flags) pushdown_bit then pruned_all true [] plan else plan
 
--- what is promised of the plan that is answered for a plan: it can give a frame over all contents that fit, and gives only frames that the given plan may give; where pushdown is asked, its scans are the given ones, one for one, each reading only what it may for what is asked of it, its nodes make at most the columns that are asked of the given ones, and it has few nodes more; else it is the given plan
+-- what is promised of the plan that is answered for a plan: it can give a frame over all contents that fit, and gives only frames that the given plan may give; its caches of one number stand over alike plans where the given ones do; where pushdown is asked, its scans are the given ones, one for one, each reading only what it may for what is asked of it, its nodes make at most the columns that are asked of the given ones, and it has few nodes more; else it is the given plan
 pub record IsAnswer (flags : OptFlags) (answer given : Plan) : Type 0 where
   pub refines : Refines answer given
+  pub shared : AreShared given → AreShared answer
   pub reads : has_bits (bits_of flags) pushdown_bit ≡ true → ReadWithin (scans answer) (sites_of given)
   pub work : has_bits (bits_of flags) pushdown_bit ≡ true → made answer ≤ kept given
   pub nodes : has_bits (bits_of flags) pushdown_bit ≡ true → nodes answer ≤ nodes given + tops given all

@@ -1,6 +1,5 @@
-use Rattle.std.proofs.Common.{◌≡◌, ◌∙◌, ◌+◌, ◌∷◌, ℕ, List, ap, sym, drop, fold, map}
+use Rattle.std.proofs.Common.{◌≡◌, ◌∙◌, ◌∷◌, ℕ, List, ap, sym, fold, map}
 use Rattle.std.specs.List.{range_with_len}
-use Rattle.std.proofs.lemmas.List.{drop_more}
 use Rattle.std.proofs.lemmas.List.Sums.{fold-append}
 use Rattle.plan_core.specs.Columns.{Columns}
 use Rattle.plan_frame.specs.Frames.{Column, levelled, picked_columns, with_new_column}
@@ -12,24 +11,22 @@ use Rattle.plan_eval.proofs.hconcat.hconcat.Goals as goal
 
 pub loop-table-preserved : goal.loop-table-preserved
 loop-table-preserved c =
-    let tables = c.args.tables.now in
-    let i = c.loop-table.table-index in
-    let t = c.table-item.result in
+    let t = c.in-Some.table in
     let inv = c.loop-table.invariant in
     let done = c.loop-table.columns in
-    let rest = drop (i + 1) tables in
+    let rest = c.next.new.self.rest.items in
     let h = c.highest-height.result in
-    let steps : drop i tables ≡ t ∷ rest = drop_more tables i t c.loop-table-test.true ∙ ap (λ (u : Table). u ∷ rest) (sym c.table-item.is) in
+    let steps = c.in-Some.ensures.steps.0 in
     let own : List ℕ → List Column = λ (ns : List ℕ). picked_columns ns (columns_shown t.columns) in
     record {
       shown =
           ap (λ (cs : List Column). fold with_new_column cs (levelled h (map frame_of rest))) c.in_ok-append_rows.ensures.shown
           ∙ sym (fold-append with_new_column (columns_shown done) (own (range_with_len 0 h)) (levelled h (map frame_of rest)))
-          ∙ ap (λ (ts : List Table). fold with_new_column (columns_shown done) (levelled h (map frame_of ts))) (sym steps)
+          ∙ sym (ap (λ (ts : List Table). fold with_new_column (columns_shown done) (levelled h (map frame_of ts))) steps)
           ∙ inv.shown;
       types =
           ap (λ (cs : Columns). fold with_new cs (in_a_row (map schema_of rest))) c.in_ok-append_rows.ensures.types
           ∙ sym (fold-append with_new (types_of done) (schema_of t) (in_a_row (map schema_of rest)))
-          ∙ ap (λ (ts : List Table). fold with_new (types_of done) (in_a_row (map schema_of ts))) (sym steps)
+          ∙ sym (ap (λ (ts : List Table). fold with_new (types_of done) (in_a_row (map schema_of ts))) steps)
           ∙ inv.types;
     }

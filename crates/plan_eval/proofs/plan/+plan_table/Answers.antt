@@ -52,11 +52,11 @@ loop-place-preserved t c =
     let ns : List Node = inputs_of c.get-entry.result.now in
     let lt : i < length ns = omega arith in
     let here : d ≡ get_or ns i d = option_same (sym c.input_at.ensures ∙ slice_get-get_or ns i d lt) in
-    let given = c.loop-place.given in
+    let given = c.loop-place.given.items in
     let table = c.in_ok-plan_table.field-0 in
     let longer = length-append given (table ∷ []) in
     let this = subst (λ (n : Node). GiveAll ts (plans_at lp ex (n ∷ [])) (table ∷ [])) here c.in_ok-plan_table.ensures in
-    rw c.in_ok-push.ensures.pushed (
+    rw c.in_ok-push.ensures.items (
       give-next lp ex ns i d lt ts given table c.loop-place.invariant.0 this,
       omega (arith, longer, c.loop-place.invariant.1),
     )
@@ -72,7 +72,7 @@ node_table-requires-clause-valid t c =
     let lp = c.args.lp.now in
     let ex = c.args.ex.now in
     let p = c.get-entry.result.now in
-    let below = give-end lp ex c.args.tables.now (inputs_of p) c.loop-place.place c.loop-place.given c.loop-place.invariant.0 (omega arith) in
+    let below = give-end lp ex c.args.tables.now (inputs_of p) c.loop-place.place c.loop-place.given.items c.loop-place.invariant.0 (omega arith) in
     subst (λ (ss : List Columns). AllHold (checks (op_at ex p) ss)) (sym below.types) (node-valid lp ex c.args.node p c.requires.stands c.get-entry.ensures.entry c.requires.valid)
 
 pub node_table-requires-clause-rows : goal.node_table-requires-clause-rows
@@ -81,13 +81,13 @@ node_table-requires-clause-rows t c =
     let ex = c.args.ex.now in
     let p = c.get-entry.result.now in
     let entry = c.get-entry.ensures.entry in
-    let below = give-end lp ex c.args.tables.now (inputs_of p) c.loop-place.place c.loop-place.given c.loop-place.invariant.0 (omega arith) in
-    given-rows c.args.tables.now (plans_at lp ex (inputs_of p)) c.loop-place.given (inputs-valid lp ex c.args.node p c.requires.stands entry c.requires.valid) (inputs-frames lp ex c.args.node p c.requires.stands entry (contents_of c.args.tables.now) c.requires.fits) below
+    let below = give-end lp ex c.args.tables.now (inputs_of p) c.loop-place.place c.loop-place.given.items c.loop-place.invariant.0 (omega arith) in
+    given-rows c.args.tables.now (plans_at lp ex (inputs_of p)) c.loop-place.given.items (inputs-valid lp ex c.args.node p c.requires.stands entry c.requires.valid) (inputs-frames lp ex c.args.node p c.requires.stands entry (contents_of c.args.tables.now) c.requires.fits) below
 
 pub returns : goal.returns
 returns t c =
     let lp = c.args.lp.now in
     let ex = c.args.ex.now in
     let p = c.get-entry.result.now in
-    let below = give-end lp ex c.args.tables.now (inputs_of p) c.loop-place.place c.loop-place.given c.loop-place.invariant.0 (omega arith) in
-    plan-gives lp ex c.args.node p c.requires.stands c.get-entry.ensures.entry c.args.tables.now c.loop-place.given c.in_ok-node_table.field-0 below c.in_ok-node_table.ensures
+    let below = give-end lp ex c.args.tables.now (inputs_of p) c.loop-place.place c.loop-place.given.items c.loop-place.invariant.0 (omega arith) in
+    plan-gives lp ex c.args.node p c.requires.stands c.get-entry.ensures.entry c.args.tables.now c.loop-place.given.items c.in_ok-node_table.field-0 below c.in_ok-node_table.ensures

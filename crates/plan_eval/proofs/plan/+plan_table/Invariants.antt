@@ -10,4 +10,4 @@ decreases-plan_table l = height_at plan_shape l.lp.now l.node
 
 -- the tables of the inputs up to here, one for each
 abbrev pub invariant-loop-place : goal.invariant-loop-place
-invariant-loop-place l = GiveAll l.tables (plans_at l.lp l.ex (take l.place (inputs_of l.entry))) l.given × (length l.given ≡ l.place)
+invariant-loop-place l = GiveAll l.tables (plans_at l.lp l.ex (take l.place (inputs_of l.entry))) l.given.items × (length l.given.items ≡ l.place)

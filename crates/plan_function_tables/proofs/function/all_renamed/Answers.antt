@@ -13,8 +13,8 @@ loop-column-preserved c =
     let now : Name → Name = names_now c.args.names.now in
     let renamed : List Column → List Column = map (under now) in
     rw (c.in_ok-with_column.ensures.after, c.in_ok-column_renamed.ensures)
-    (put-copied c.loop-column.made (under now c.in-Some.column.now) (renamed c.next.new.self) (renamed c.loop-column.column-iterator) (renamed c.args.columns.now)
-    (under-apart now c.args.columns.now c.iter-column-items.ensures.distinct c.requires) c.loop-column.invariant (ap renamed c.in-Some.ensures.steps))
+    (put-copied c.loop-column.made (under now c.in-Some.column) (renamed c.next.new.self) (renamed c.loop-column.column-iterator) (renamed c.args.columns)
+    (under-apart now c.args.columns c.into_values-column-items.ensures.distinct c.requires) c.loop-column.invariant (ap renamed c.in-Some.ensures.steps))
 
 pub returns : goal.returns
 returns c =

@@ -12,18 +12,18 @@ use Rattle.plan_function_tables.proofs.function.renamed.Goals as goal
 pub all_renamed-requires : goal.all_renamed-requires
 all_renamed-requires c =
     let now = pairs-rename c.in_ok-names.names c.args.existing.now c.args.new.now c.in_ok-names.ensures in
-    subst (λ (by : Name → Name). stay_apart by (names_of (schema_of c.args.table.now)) ≡ true) (sym now) c.requires
+    subst (λ (by : Name → Name). stay_apart by (names_of (schema_of c.args.table)) ≡ true) (sym now) c.requires
 
 pub returns-clause-frame : goal.returns-clause-frame
 returns-clause-frame c =
-    let t = c.args.table.now in
+    let t = c.args.table in
     let now = pairs-rename c.in_ok-names.names c.args.existing.now c.args.new.now c.in_ok-names.ensures in
     ap (λ (cs : List Column). record { height = t.height; columns = cs }) (ap columns_shown c.in_ok-all_renamed.ensures ∙ shown-under (names_now c.in_ok-names.names) t.columns)
     ∙ ap (λ (by : Name → Name). with_renamed by (frame_of t)) now
 
 pub returns-clause-types : goal.returns-clause-types
 returns-clause-types c =
-    let t = c.args.table.now in
+    let t = c.args.table in
     let now = pairs-rename c.in_ok-names.names c.args.existing.now c.args.new.now c.in_ok-names.ensures in
     ap types_of c.in_ok-all_renamed.ensures
     ∙ types-under (names_now c.in_ok-names.names) t.columns

@@ -3,7 +3,7 @@ use Rattle.plan_file_tables.specs.Parts.{frames_found}
 use Rattle.plan_scan.specs.Source.{Source}
 use Rattle.plan_scan.specs.Sources.{source_of}
 use Rattle.plan_function_tables.proofs.ScanLemmas.{found-next, own_frames}
-use Rattle.plan_function_tables.proofs.scan.own_tables.Goals as goal
+use Rattle.plan_function_tables.proofs.file_scan.own_tables.Goals as goal
 
 pub loop-source-preserved : goal.loop-source-preserved
 loop-source-preserved c =

@@ -4,7 +4,7 @@ use Rattle.plan_files.specs.FileColumns.{file_columns, hive_columns}
 use Rattle.plan_frame.specs.Beside.{side_by_side}
 use Rattle.plan_meaning.specs.Typing.{columns_or, scan_columns}
 use Rattle.plan_function_tables.proofs.ScanLemmas.{all-kept}
-use Rattle.plan_function_tables.proofs.scan.all_columns.Goals as goal
+use Rattle.plan_function_tables.proofs.file_scan.all_columns.Goals as goal
 
 pub returns-in_ok-file_columns-in-Some : goal.returns-in_ok-file_columns-in-Some
 returns-in_ok-file_columns-in-Some c =
