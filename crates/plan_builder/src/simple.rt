@@ -1,5 +1,5 @@
 //! Projections to columns by their names.
-ghost use Rattle.std.specs.Prelude.{◌≡◌, [], ◌∷◌, All, IfOk, IsOk, map, min, None, OnErr, OnOk, Some};
+ghost use Rattle.std.specs.Prelude.{◌≡◌, [], ◌∷◌, All, IfOk, IsOk, List, map, min, None, OnErr, OnOk, Some};
 ghost use Rattle.plan_core.specs.declared.error.PolarsError.TheVariants.{SchemaFieldNotFound};
 ghost use Rattle.plan_core.specs.Columns.{Columns};
 ghost use Rattle.plan_core.specs.Errors.{item_at};

@@ -13,7 +13,7 @@ use Rattle.plan_scan.specs.Source.{Source, file, buffer}
 use Rattle.plan_scan.specs.Sources.{sources_of}
 use Rattle.plan_ir.specs.Plans.{Op, slice, filter, scan, frame_scan, simple_projection, select, hstack, sort, group_by, join, distinct, map_function, sink, union, hconcat, cache, invalid}
 use Rattle.plan_meaning.specs.Typing.{reader_columns}
-use Rattle.plan_frame.specs.Values.{AllOf}
+use Rattle.plan_frame.specs.Values.{Value, AllOf}
 use Rattle.plan_frame.specs.Values as spec
 use Rattle.plan_frame.specs.Frames.{HaveTypes, HoldsAll, IsFrame}
 use Rattle.plan_meaning.specs.Contents.{FitsAt, FunctionFits, HasFrame, place_of}

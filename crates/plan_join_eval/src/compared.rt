@@ -14,7 +14,7 @@ ghost use Rattle.plan_join.specs.Matching.{keys_meet as keys_are_met, operator_o
 ghost use Rattle.plan_join.specs.Pairs.{both, passing};
 ghost use Rattle.plan_join.specs.Rows.{AreJoined};
 ghost use Rattle.plan_value.specs.Cells.{cell_of, cells_of};
-ghost use Rattle.plan_value.specs.Shown.{frame_of, schema_of};
+ghost use Rattle.plan_value.specs.Shown.{frame_of, schema_of, value_of};
 
 use crate::joined::joined_table;
 use crate::runs::{is_true, operator_of, value_of_key};

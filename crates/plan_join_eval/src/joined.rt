@@ -3,6 +3,7 @@ ghost use Rattle.std.specs.Prelude.{◌≡◌, ◌++◌, ◌∷◌, [], ℕ, fal
 ghost use Rattle.plan_core.specs.Columns.{HasDistinctNames, names_of};
 ghost use Rattle.plan_core.specs.Names.{has};
 ghost use Rattle.plan_frame.specs.Frames.{column_or, row};
+ghost use Rattle.plan_frame.specs.Values.{null};
 ghost use Rattle.plan_join.specs.Naming.{join_columns, key_columns, left_rest as rest_of_left, right_name as named_right, right_rest as rest_of_right, with_right, LieIn};
 ghost use Rattle.plan_join_eval.specs.Along.{filled_column, filling, left_column, place_in, right_column, slot, value_along};
 ghost use Rattle.plan_join_eval.specs.Fills.{ArePartners};

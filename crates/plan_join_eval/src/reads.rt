@@ -2,7 +2,7 @@
 ghost use Rattle.std.specs.Prelude.{◌≡◌, ◌++◌, [], List, map, IfOk, OnOk};
 ghost use Rattle.std.specs.List.{filter as only_where};
 ghost use Rattle.plan_core.specs.Columns.{HasDistinctNames, names_of};
-ghost use Rattle.plan_core.specs.Names.{with_names};
+ghost use Rattle.plan_core.specs.Names.{has, with_names};
 ghost use Rattle.plan_expr.specs.Exprs.{expr_at};
 ghost use Rattle.plan_expr.specs.Leaves.{leaves};
 ghost use Rattle.plan_expr.specs.Operands.{IsExpr};

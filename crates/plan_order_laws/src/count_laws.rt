@@ -1,9 +1,10 @@
 //! Laws of counts of the rows of files, as the contracts of functions that do nothing.
-ghost use Rattle.std.specs.Prelude.{◌≡◌, false, [], ◌∷◌, map, Some, None, codes};
+ghost use Rattle.std.specs.Prelude.{◌≡◌, true, false, List, [], ◌∷◌, map, Some, None, codes};
 ghost use Rattle.plan_core.specs.Columns.{Columns};
 ghost use Rattle.plan_core.specs.declared.options.FileScanOptions.{FileScanOptions};
 ghost use Rattle.plan_core.specs.declared.options.ProjectionOptions.{ProjectionOptions};
 ghost use Rattle.plan_options.specs.declared.union.UnionOptions.{UnionOptions};
+ghost use Rattle.plan_expr.specs.Leaves.{Name};
 ghost use Rattle.plan_expr.specs.declared.expr_ir.OutputName.TheVariants.{Alias, LiteralLhs};
 ghost use Rattle.plan_frame.specs.Frames.{Frame};
 ghost use Rattle.plan_scan.specs.declared.file_scan.FileScan.{FileScan};

@@ -3,6 +3,7 @@
 //! sides had before. Asked nothing it stays as it is over the pruned sides: a side that it puts out is asked nothing, and another what
 //! the keys read.
 ghost use Rattle.std.specs.Prelude.{◌≡◌, ◌<◌, ◌≤◌, ◌∷◌, [], All, List, IfOk, IsTrue, None, OnOk, Some, length};
+ghost use Rattle.plan_core.specs.declared.arena.Node.{Node as NodeType};
 ghost use Rattle.plan_tree.specs.Stands.{Trees, StandsOnce};
 ghost use Rattle.plan_expr.specs.Exprs.{all_named_at};
 ghost use Rattle.plan_expr.specs.Operands.{IsExpr};

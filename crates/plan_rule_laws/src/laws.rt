@@ -1,5 +1,5 @@
 //! Laws of what rules answer, as the contracts of functions that do nothing.
-ghost use Rattle.std.specs.Prelude.{◌≡◌, ◌<◌, ℕ, Bool, true, false, List, [], ◌∷◌, Some, is_some, option_map, ◌++◌, ◌+◌};
+ghost use Rattle.std.specs.Prelude.{◌≡◌, ◌<◌, ℕ, Bool, true, false, List, [], ◌∷◌, Option, Some, is_some, option_map, ◌++◌, ◌+◌};
 ghost use Rattle.std.specs.List.{AllByRecursion};
 ghost use Rattle.plan_core.specs.declared.data_type.DataType.{DataType};
 ghost use Rattle.plan_core.specs.Columns.{Columns, names_of};

@@ -3,7 +3,7 @@
 ghost use Rattle.std.specs.Prelude.{◌≡◌, Bool, Option, ℕ, [], ◌∷◌};
 ghost use Rattle.plan_ir.specs.declared.functions.FunctionIR.TheVariants.{Rename, RowIndex};
 ghost use Rattle.plan_ir.specs.Plans.{map_function};
-ghost use Rattle.plan_meaning.specs.Typing.{rename_checks, row_index_checks};
+ghost use Rattle.plan_meaning.specs.Typing.{rename_checks, row_index_checks, first_fault, Says};
 ghost use Rattle.plan_meaning.specs.Typed.{IsNodeTyped};
 
 use crate::count::count_schema;

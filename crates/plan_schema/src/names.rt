@@ -1,5 +1,5 @@
 //! Checks that go over names in order.
-ghost use Rattle.std.specs.Prelude.{◌≡◌, ◌+◌, ◌<◌, ◌^◌, [], IfOk};
+ghost use Rattle.std.specs.Prelude.{◌≡◌, ◌+◌, ◌<◌, ◌^◌, length, [], IfOk};
 ghost use Rattle.plan_core.specs.declared.error.PolarsError.TheVariants.{SchemaFieldNotFound, SchemaMismatch};
 ghost use Rattle.plan_core.specs.Names.{with_names};
 ghost use Rattle.plan_meaning.specs.Checks.{each, each_new, is_column as is_one, is_known};

@@ -1,5 +1,5 @@
 //! The words of a call, and a source and a sink that fail, for the tests.
-ghost use Rattle.std.specs.Prelude.{◌≡◌, map, string_bytes, IfOk, Some};
+ghost use Rattle.std.specs.Prelude.{◌≡◌, map, string_bytes, IfOk, None, Some};
 
 use plan_stream::{Failed, Sink, Source};
 use std::alloc::{AllocError, Global};
