@@ -1,4 +1,5 @@
-//! The schema of a plan, or its first fault: of its numbers, and then of its nodes, kind by kind.
+//! The checks on the columns and on the expressions of a node, each over all of them in order, and the columns that expressions
+//! make.
 #![tactic(auto)]
 
 mod distinct;

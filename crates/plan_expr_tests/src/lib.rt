@@ -1,5 +1,4 @@
-//! The tests of plan_expr, plan_join, plan_dsl and plan_dsl_schema. They stand apart from these, so that each is proved once, and not with
-//! its tests again.
+//! The tests of plan_expr, plan_join and plan_dsl. They stand apart from these, so that each is proved once, and not with its tests again.
 #![tactic(auto)]
 
 #[cfg(test)]

@@ -1,4 +1,4 @@
-//! The frames of scans of files, and what is left of a scan that is asked some names: the definitions, and their laws.
+//! The frames of scans of files: the definitions, and their laws.
 #![tactic(auto)]
 
 pub mod laws;

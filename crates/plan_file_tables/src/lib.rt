@@ -1,4 +1,4 @@
-//! The table of a scan of files, made from the tables of its sources; and what is left of a scan that is asked some names.
+//! The table of a scan of files, made from the tables of its sources.
 #![tactic(auto)]
 
 mod appended;

@@ -166,8 +166,9 @@ fn are_met(node: Node, lp: &Arena<IR>, tables: &Tables) -> bool
 }
 
 /// Whether tables fit the plan at `root`: each source of a scan has a table with the columns that its reader finds,
-/// each frame that is handed in by number one with the columns of its scan, of their types, and each source whose rows are
-/// counted a table. Further columns and tables may be there. It takes no memory.
+/// each frame that is handed in by number one with the columns of its scan, of their types, and each source whose rows are counted a
+/// table. Further columns and tables may
+/// be there. It takes no memory.
 pub fn fits(root: Node, lp: &Arena<IR>, tables: &Tables) -> bool
     requires { (ex : List AExpr) × IsPlan lp.now ex root }
     ensures fits { (ex : List AExpr) → IsPlan lp.now ex root → IsTrue result ↔ TablesFit tables.now (plans_at lp.now ex (root ∷ [])) }

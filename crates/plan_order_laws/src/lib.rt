@@ -1,4 +1,4 @@
-//! Laws of frames whose rows stand in another order, of nodes that must keep the order of their rows, and of the bare count.
+//! Laws of frames whose rows stand in another order.
 #![tactic(auto)]
 
 pub mod count_laws;

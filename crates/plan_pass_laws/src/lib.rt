@@ -1,5 +1,4 @@
-//! Plans over two arenas of which nodes and expressions become others, and what holds of caches, scans and frames whichever pass makes one
-//! plan of another: the laws.
+//! Plans over two arenas of which nodes and expressions become others: the laws.
 #![tactic(auto)]
 
 pub mod laws;

@@ -1,5 +1,4 @@
-//! What the rules of pruning share: the step at a node, expressions that are asked, what stands in for rows, and projections on top; what
-//! a join asks of its sides, and the join over the pruned sides.
+//! What pruning asks of the sides of a join, and the join over the pruned sides.
 #![tactic(auto)]
 
 mod arguments;

@@ -1,4 +1,4 @@
-//! What a pruned plan is, and its laws; the names and columns that are asked; copies of expressions under other names.
+//! Copies of expressions under other names.
 #![tactic(auto)]
 
 mod columns;

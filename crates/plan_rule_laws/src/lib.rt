@@ -1,4 +1,4 @@
-//! What the rules of plans answer, and what walks of rules and their loop make of a plan: the laws.
+//! What the rules of plans answer, and the laws of these answers.
 #![tactic(auto)]
 
 mod kind;

@@ -1,5 +1,4 @@
-//! Functions of whole frames: how they name columns, the columns that they give, and the checks on them; the columns that a plan says it
-//! has.
+//! Functions of whole frames: how they name columns, the columns that they give, and the checks on them.
 #![tactic(auto)]
 
 mod count;
