@@ -1,4 +1,4 @@
-use Rattle.std.proofs.Common.{◌∷◌, [], ◌∙◌, sym, subst}
+use Rattle.std.proofs.Common.{◌∷◌, [], sym, subst}
 use Rattle.plan_core.specs.Columns.{Columns}
 use Rattle.plan_ir.specs.Plans.{map_function}
 use Rattle.plan_meaning.specs.Typed.{IsNodeTyped}
