@@ -7,3 +7,4 @@ pub mod TreeFaultLemmas
 mod TypedLemmas
 mod InputLemmas
 mod UnionFaults
+mod InPlaceLemmas

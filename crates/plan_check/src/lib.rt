@@ -8,6 +8,7 @@ mod frame_scan;
 mod group_by;
 mod hconcat;
 mod made;
+mod mapped;
 mod plan;
 mod projection;
 mod scan;

@@ -15,6 +15,7 @@ use crate::frame_scan::frame_scan_schema;
 use crate::group_by::group_by_schema;
 use crate::hconcat::hconcat_schema;
 use crate::made::{hstack_schema, select_schema};
+use crate::mapped::mapped_schema;
 use crate::projection::projection_schema;
 use crate::scan::scan_schema;
 use crate::sort::sort_schema;
@@ -24,7 +25,7 @@ use plan_check_parts::joined_schema;
 use plan_core::{Arena, Items, Node, PolarsError, PolarsResult, Schema};
 use plan_expr::AExpr;
 use plan_ir::IR;
-use plan_schema::{at, function_schema};
+use plan_schema::at;
 use plan_tree::Entry;
 use std::alloc::Global;
 
@@ -178,9 +179,7 @@ fn node_schema(
         IR::Sort { .. } | IR::GroupBy { .. } => keyed_schema(alloc, node, entry, ex, only(schemas)),
         IR::Join { .. } => paired_schema(alloc, node, entry, ex, schemas.as_slice()),
         IR::Distinct { options, .. } => distinct_schema(node, options, only(schemas)),
-        IR::MapFunction { function, .. } => {
-            function_schema(alloc, node, function, &only(schemas))
-        }
+        IR::MapFunction { function, .. } => mapped_schema(alloc, node, function, only(schemas)),
         IR::Union { options, .. } => union_schema(node, options, schemas),
         IR::HConcat { schema, .. } => hconcat_schema(alloc, node, schema, schemas.as_slice()),
         IR::Invalid => Err(PolarsError::ComputeError(at(node, 0))),
