@@ -1,5 +1,5 @@
 -- Columns by name, over what a node stores.
-use Rattle.std.specs.Prelude.{◌≡◌, List, [], ◌∷◌, ◌++◌, map, Option, None, Some, option_map, unwrap_or, if◌then◌else◌, slice_get}
+use Rattle.std.specs.Prelude.{◌≡◌, Bool, true, false, List, [], ◌∷◌, ◌++◌, map, Option, None, Some, option_map, unwrap_or, if◌then◌else◌, slice_get}
 use Rattle.std.specs.Str.{bytes_eq}
 use Rattle.plan_core.specs.declared.data_type.DataType.{DataType}
 use Rattle.plan_core.specs.declared.arena.Node.{Node}
@@ -7,6 +7,8 @@ use Rattle.plan_core.specs.Columns.{Columns, names_of, type_of}
 use Rattle.plan_core.specs.Names.{has}
 use Rattle.plan_expr.specs.Leaves.{Name}
 use Rattle.plan_frame.specs.Reshaped.{item_type}
+use Rattle.plan_ir.specs.declared.functions.FunctionIR.{FunctionIR}
+use Rattle.plan_ir.specs.declared.functions.FunctionIR.TheVariants.{Rename, RowIndex, Unpivot, Explode, FastCount}
 use Rattle.plan_ir.specs.declared.ir.IR.{IR}
 use Rattle.plan_ir.specs.declared.ir.IR.TheVariants.{Slice, Filter, Sort, Distinct, Sink, Union, Cache}
 use Rattle.plan_schema.specs.Stored.{columns_told}
@@ -36,6 +38,14 @@ Shows o s = (a : Name) → type_in o a ≡ type_of s a
 -- the type of the values in a column's lists, the column's own where it has no lists; none where it isn't there
 abbrev pub item_in : Option DataType → Option DataType
 item_in d = option_map item_type d
+
+-- whether what a function changes can be put over columns by name
+abbrev pub is_by_name : FunctionIR → Bool
+is_by_name (Rename existing new swapping) = true
+is_by_name (RowIndex name offset) = true
+is_by_name (Unpivot args) = false
+is_by_name (Explode columns) = true
+is_by_name (FastCount sources scan_type alias) = false
 
 -- the types of columns, those of some names with the types of the values in their lists
 abbrev pub with_items : List Name → (Name → Option DataType) → Name → Option DataType

@@ -6,7 +6,7 @@ ghost use Rattle.plan_ir.specs.declared.functions.FunctionIR.TheVariants.{Explod
 ghost use Rattle.plan_expr.specs.Leaves.{Name};
 ghost use Rattle.plan_meaning.specs.Typing.{is_list_type};
 ghost use Rattle.plan_schema.specs.Stored.{given_by};
-ghost use Rattle.plan_overlay.specs.Overlays.{Shows, item_in, type_in, with_items};
+ghost use Rattle.plan_overlay.specs.Overlays.{Shows, is_by_name, item_in, type_in, with_items};
 
 use crate::overlay::Overlay;
 use plan_core::{DataType, PlSmallStr};
@@ -127,7 +127,9 @@ fn rename(
 }
 
 /// Whether what a function changes can be put over columns by name.
-pub fn changes_names(function: &FunctionIR) -> bool {
+pub fn changes_names(function: &FunctionIR) -> bool
+    ensures { result ≡ is_by_name function.now }
+{
     matches!(
         function,
         FunctionIR::RowIndex { .. } | FunctionIR::Explode { .. } | FunctionIR::Rename { .. }
