@@ -25,7 +25,7 @@ use Rattle.plan_rule.specs.Joined.{as_projection_node, caches_joined, projected_
 use Rattle.plan_rule.proofs.InputUp.{input_up}
 use Rattle.plan_rule.proofs.Placed.{Last, last_exprs, over_one, plan_at-of, put_at, same_numbers, stays}
 
--- none_here answer: the plan stays, and shows none_here pattern
+-- no answer: the plan stays, and shows no pattern
 pub collapse_stays : (eager : Bool) (lp : List IR) (ex : List AExpr) (n : Node) (t : Trees IR) (e : Trees AExpr) → StandsPlan lp ex n t e → answer_of (kinds.Collapse eager) (plan_of ex t) ≡ None → Leaves (kinds.Collapse eager) true lp lp ex ex n t e
 collapse_stays eager lp ex n t e h none = stays (kinds.Collapse eager) true lp ex n t e h (sym (collapse_shows eager (plan_of ex t)) ∙ ap is_some none) none refl
 
@@ -57,7 +57,7 @@ selection_goes eager lp ex n p d t e h v entry s =
 pub unselected_eager : (op : Op) (ts : Roses (Unit {0}) Op) → selects_columns op ≡ false → answer_of (kinds.Collapse true) (rose tt op ts) ≡ None
 unselected_eager op ts s = ap (λ (b : Bool). cond b (Some (rose tt (as_projection op) ts)) None) s
 
--- where there is none_here selection, the node that is joined with its input is the answer
+-- where there is no selection, the node that is joined with its input is the answer
 unselected : (op : Op) (ts : Roses (Unit {0}) Op) → selects_columns op ≡ false → answer_of (kinds.Collapse false) (rose tt op ts) ≡ joined_node op ts
 unselected op ts s = ap (λ (b : Bool). cond b (Some (rose tt (as_projection op) ts)) (joined_node op ts)) s
 
@@ -199,3 +199,13 @@ told_onto lp ex n i j cs p (SimpleProjection k ds) d t e h v entry again lower s
     subst (λ (o : IR). Replaces (kinds.Collapse false) true lp (slice_set (slice_set lp n.0 d) n.0 o) ex ex n t e) (sym is)
     (onto_lower lp ex n i e j cs ds d t h v entry (subst (λ (m : Node). slice_get lp i.0 ≡ Some (SimpleProjection m ds)) kj lower))
 told_onto lp ex n i j cs p q d t e h v entry again lower some = cc
+
+-- the selection that is taken
+pub selection_taken : (eager : Bool) (lp : List IR) (ex : List AExpr) (n : Node) (p q d : IR) (t : Trees IR) (e : Trees AExpr) → StandsPlan lp ex n t e → IsValid (plan_at lp ex n) → slice_get lp n.0 ≡ Some p → slice_get lp n.0 ≡ Some q → selects_columns (op_at ex p) ≡ true → Replaces (kinds.Collapse eager) true lp (slice_set (slice_set lp n.0 d) n.0 (as_projection_node q)) ex ex n t e
+selection_taken eager lp ex n p q d t e h v entry taken s =
+    let same : p ≡ q = cc in
+    selection_goes eager lp ex n q d t e h v taken (subst (λ (o : IR). selects_columns (op_at ex o) ≡ true) same s)
+
+-- where there is no selection, collapse shows none
+pub shows_none : (lp : List IR) (ex : List AExpr) (n : Node) (p : IR) (t : Trees IR) (e : Trees AExpr) → StandsPlan lp ex n t e → slice_get lp n.0 ≡ Some p → selects_columns (op_at ex p) ≡ false → shows (kinds.Collapse true) (plan_of ex t) ≡ false
+shows_none lp ex n p t e h entry s = ap (shows (kinds.Collapse true)) (tree_plan lp ex n p t h.nodes entry).1 ∙ ap (λ (b : Bool). b || false) s

@@ -26,7 +26,7 @@ use Rattle.plan_rule.specs.Calls.{Leaves, plan_of}
 use Rattle.plan_rule.specs.Sought.{Delays}
 use Rattle.plan_rule.proofs.Placed.{stays}
 
--- none_here input is told: the node is none_here grouping by one key
+-- no input is told: the node is no grouping by one key
 ungrouped : (ex : List AExpr) (p : IR) → None ≡ cond (groups_by_one (op_at ex p)) (first_input p) None → groups_by_one (op_at ex p) ≡ false
 ungrouped ex (GroupBy input keys aggs schema maintain_order options) e = at (groups_by_one (op_at ex (GroupBy input keys aggs schema maintain_order options))) e
   where

@@ -20,7 +20,7 @@ use Rattle.plan_rule.specs.Calls.{Leaves, Replaces, plan_of}
 use Rattle.plan_rule.proofs.InputUp.{input_up}
 use Rattle.plan_rule.proofs.Placed.{over_one, stays}
 
--- none_here input is told: the filter is none_here such
+-- no input is told: the filter is no such
 untold : (ex : List AExpr) (p : IR) → None ≡ cond (keeps_all (op_at ex p)) (first_input p) None → keeps_all (op_at ex p) ≡ false
 untold ex (Filter input predicate) e = at (keeps_all (op_at ex (Filter input predicate))) e
   where
