@@ -209,3 +209,9 @@ selection_taken eager lp ex n p q d t e h v entry taken s =
 -- where there is no selection, collapse shows none
 pub shows_none : (lp : List IR) (ex : List AExpr) (n : Node) (p : IR) (t : Trees IR) (e : Trees AExpr) → StandsPlan lp ex n t e → slice_get lp n.0 ≡ Some p → selects_columns (op_at ex p) ≡ false → shows (kinds.Collapse true) (plan_of ex t) ≡ false
 shows_none lp ex n p t e h entry s = ap (shows (kinds.Collapse true)) (tree_plan lp ex n p t h.nodes entry).1 ∙ ap (λ (b : Bool). b || false) s
+
+-- the input that is taken comes in the place of a projection to its columns
+pub projection_taken : (lp : List IR) (ex : List AExpr) (n i : Node) (cs : Columns) (g q d : IR) (t : Trees IR) (e : Trees AExpr) → StandsPlan lp ex n t e → IsValid (plan_at lp ex n) → slice_get lp n.0 ≡ Some (SimpleProjection i cs) → slice_get lp i.0 ≡ Some g → slice_get lp i.0 ≡ Some q → projected_input g ≡ None → same_columns cs (schema (plan_at lp ex i)) ≡ true → Replaces (kinds.Collapse false) true lp (slice_set (slice_set lp i.0 d) n.0 q) ex ex n t e
+projection_taken lp ex n i cs g q d t e h v entry lower taken none same =
+    let is : g ≡ q = cc in
+    projection_goes lp ex n i cs q t e h v entry taken (subst (λ (o : IR). projected_input o ≡ None) is none) d same

@@ -15,7 +15,7 @@ use Rattle.plan_expr.specs.Exprs.{Named, named_at}
 use Rattle.plan_expr.specs.Operands.{expr_shape}
 use Rattle.plan_ir.specs.declared.ir.IR.{IR}
 use Rattle.plan_ir.specs.declared.ir.IR.TheVariants.{GroupBy}
-use Rattle.plan_ir.specs.Parts.{StandsPlan, first_input, inputs_of, plan_shape, roots_in, roots_of}
+use Rattle.plan_ir.specs.Parts.{IsPlan, StandsPlan, first_input, inputs_of, plan_shape, roots_in, roots_of}
 use Rattle.plan_ir.specs.Plans.{Op, Plan, bare, group_by, op_at, plans_of}
 use Rattle.plan_rule_laws.specs.declared.kind.RuleKind.TheVariants as kinds
 use Rattle.plan_rule_laws.specs.Answers.{delayed, delayed_in, first_met, groups_by_one}
@@ -93,3 +93,9 @@ delays_below lp new ex n i p t e h entry some by =
           told = λ own. refl;
           left = λ own. after;
         }
+
+-- a tree stands at the input that is told
+pub input_stands : (lp : List IR) (ex : List AExpr) (n i : Node) (p : IR) → IsPlan lp ex n → slice_get lp n.0 ≡ Some p → Some i ≡ cond (groups_by_one (op_at ex p)) (first_input p) None → (t : Trees IR) × StandsOnce plan_shape lp (i ∷ []) t
+input_stands lp ex n i p h entry some =
+    let o = opened plan_shape lp n p h.nodes h.stands.nodes entry in
+    (o.kids, subst (λ (ns : List Node). StandsOnce plan_shape lp ns o.kids) (grouped ex p i some).1 o.inputs)

@@ -185,7 +185,9 @@ fn joined(alloc: Global, node: Node, lp: &mut Arena<IR>) -> Result<Option<IR>, A
             }
         }
         IR::Cache {
-            input, cache_hits, ..
+            input,
+            cache_hits,
+            ..
         } => Ok(joined_cache(*cache_hits, lp.get(*input))),
         _ => Ok(None),
     }

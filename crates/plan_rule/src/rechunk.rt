@@ -95,13 +95,7 @@ fn grouped_input(entry: &IR) -> Option<Node>
     ensures { (ex : List AExprType) → result ≡ (if groups_by_one (op_at ex entry.now) then first_input entry.now else None) }
 {
     match entry {
-        IR::GroupBy { input, keys, .. } => {
-            if keys.len() == 1 {
-                Some(*input)
-            } else {
-                None
-            }
-        }
+        IR::GroupBy { input, keys, .. } => { if keys.len() == 1 { Some(*input) } else { None } }
         _ => None,
     }
 }
