@@ -1,5 +1,5 @@
 -- The rule that collapses, over what stands at its number.
-use Rattle.std.proofs.Common.{◌≡◌, ℕ, ◌||◌, Bool, true, false, cond, List, [], ◌∷◌, ◌++◌, append-nil, map, Option, Some, None, is_some, refl, sym, ap, ◌∙◌, subst, inl, inr}
+use Rattle.std.proofs.Common.{◌≡◌, ℕ, ◌||◌, Bool, true, false, cond, List, [], ◌∷◌, ◌++◌, append-nil, Option, Some, None, is_some, refl, sym, ap, ◌∙◌, subst, inl, inr}
 use Rattle.std.specs.List.{slice_get, slice_set}
 use Rattle.plan_core.specs.declared.arena.Node.{Node}
 use Rattle.plan_core.specs.Columns.{Columns, same_columns}
@@ -17,7 +17,7 @@ use Rattle.plan_meaning.specs.PlanAt.{plan_at}
 use Rattle.plan_meaning.specs.Steps.{IsValid}
 use Rattle.plan_meaning.specs.Typing.{schema, schema_by, schemas}
 use Rattle.plan_rule_laws.specs.declared.kind.RuleKind.TheVariants as kinds
-use Rattle.plan_rule_laws.specs.Answers.{answer_of, as_projection, collapse_answer, hits_of, joined_cache, joined_node, joined_projection, or_answer, selects_columns}
+use Rattle.plan_rule_laws.specs.Answers.{answer_of, as_projection, hits_of, joined_node, or_answer, selects_columns}
 use Rattle.plan_rule_laws.specs.Patterns.{shows}
 use Rattle.plan_rule_laws.proofs.AnswerLaws.{collapse_shows}
 use Rattle.plan_rule.specs.Calls.{Answers, Leaves, Replaces, plan_of}

@@ -1,11 +1,11 @@
 -- The rule that delays, over what stands at its number.
-use Rattle.std.proofs.Common.{◌≡◌, ◌<◌, ℕ, ◌&&◌, Bool, true, false, cond, List, [], ◌∷◌, ◌++◌, length, map, Option, Some, None, refl, sym, ap, ap₂, ◌∙◌, subst, arith, inl, inr}
-use Rattle.std.specs.List.{slice_get, slice_set}
+use Rattle.std.proofs.Common.{◌≡◌, ◌&&◌, Bool, true, false, cond, List, [], ◌∷◌, ◌++◌, length, map, Some, None, refl, sym, ap, ◌∙◌, subst, arith}
+use Rattle.std.specs.List.{slice_get}
 use Rattle.plan_core.specs.declared.arena.Node.{Node}
 use Rattle.plan_core.specs.Columns.{Columns}
 use Rattle.plan_options.specs.declared.group.GroupbyOptions.{GroupbyOptions}
-use Rattle.plan_tree.specs.Rose.{Rose, Roses, rose, no_roses, more}
-use Rattle.plan_tree.specs.Stands.{Reaches, Rewrites, StandsOnce, Trees}
+use Rattle.plan_tree.specs.Rose.{Roses, rose, no_roses, more}
+use Rattle.plan_tree.specs.Stands.{Rewrites, StandsOnce, Trees}
 use Rattle.plan_tree.proofs.Frames.{Rewrites-refl}
 use Rattle.plan_tree.proofs.Replaced.{below}
 use Rattle.plan_tree.proofs.TreeLemmas.{opened}

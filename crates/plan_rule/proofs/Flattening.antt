@@ -1,5 +1,5 @@
 -- The rule that makes one union of unions, over what stands at its number.
-use Rattle.std.proofs.Common.{◌≡◌, ℕ, ◌||◌, ◌<◌, Bool, true, false, cond, List, [], ◌∷◌, ◌++◌, append_assoc, All, length, map, Option, Some, None, is_some, refl, sym, ap, ap₂, ◌∙◌, subst, ◌⊎◌, inl, inr}
+use Rattle.std.proofs.Common.{◌≡◌, ℕ, ◌||◌, ◌<◌, Bool, true, false, cond, List, [], ◌∷◌, ◌++◌, append_assoc, All, length, Option, Some, None, is_some, refl, sym, ap, ap₂, ◌∙◌, subst, ◌⊎◌, inl, inr}
 use Rattle.std.specs.List.{slice_get, slice_set}
 use Rattle.std.specs.Option.{option_map_or}
 use Rattle.std.proofs.lemmas.Option.{slice_get_within}
@@ -15,7 +15,7 @@ use Rattle.plan_expr.specs.Operands.{expr_shape}
 use Rattle.plan_ir.specs.declared.ir.IR.{IR}
 use Rattle.plan_ir.specs.declared.ir.IR.TheVariants.{Union}
 use Rattle.plan_ir.specs.Parts.{IsPlan, StandsPlan, inputs_of, is_invalid, plan_shape, roots_in, roots_of}
-use Rattle.plan_ir.specs.Plans.{Op, Plan, bare, op_at, plans_of, union}
+use Rattle.plan_ir.specs.Plans.{Op, bare, op_at, plans_of, union}
 use Rattle.plan_meaning.specs.PlanAt.{plan_at}
 use Rattle.plan_meaning.specs.Steps.{IsValid}
 use Rattle.plan_rule_laws.specs.declared.kind.RuleKind.TheVariants as kinds

@@ -1,5 +1,5 @@
 -- The loop that seeks the first scan, union or join at pending numbers and below.
-use Rattle.std.proofs.Common.{◌≡◌, ℕ, ◌+◌, ◌<◌, Bool, true, false, cond, List, [], ◌∷◌, ◌++◌, length, Option, Some, None, refl, sym, ap, ◌∙◌, subst, arith, inl, inr}
+use Rattle.std.proofs.Common.{◌≡◌, ℕ, ◌<◌, Bool, true, false, cond, List, [], ◌∷◌, ◌++◌, length, Option, Some, None, refl, sym, ap, ◌∙◌, subst, arith, inl, inr}
 use Rattle.std.specs.List.{slice_get}
 use Rattle.plan_core.specs.declared.arena.Node.{Node}
 use Rattle.plan_tree.specs.Read.{trees_at}
@@ -13,7 +13,7 @@ use Rattle.plan_tree.proofs.TreeLemmas.{Stands-unique, opened}
 use Rattle.plan_ir.specs.declared.ir.IR.{IR}
 use Rattle.plan_ir.specs.Parts.{inputs_of, plan_shape}
 use Rattle.plan_rule.specs.Sought.{first_sought, is_sought, or_number}
-use Rattle.plan_rule.proofs.Sought.{or_none, sought_join}
+use Rattle.plan_rule.proofs.Sought.{sought_join}
 
 -- trees stand at the first numbers and at those that are left, and the first that is sought is the same
 pub record Seeking (lp : List IR) (first left : List Node) : Type 0 where

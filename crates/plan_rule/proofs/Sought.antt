@@ -1,5 +1,5 @@
 -- The first scan, union or join of trees, and the trees with its mark cleared.
-use Rattle.std.proofs.Common.{◌≡◌, ℕ, ◌<◌, ◌≤◌, ◌||◌, Bool, true, false, cond, List, [], ◌∷◌, ◌++◌, length, Option, Some, None, is_some, refl, sym, ap, ap₂, ◌∙◌, subst, ◌⊎◌, zero, suc, inl, inr}
+use Rattle.std.proofs.Common.{◌≡◌, ℕ, ◌<◌, ◌||◌, Bool, true, false, cond, List, [], ◌∷◌, ◌++◌, length, Option, Some, None, is_some, refl, sym, ap, ap₂, ◌∙◌, subst, ◌⊎◌, zero, suc, inl, inr}
 use Rattle.std.specs.List.{slice_get, slice_set}
 use Rattle.plan_core.specs.declared.arena.Node.{Node}
 use Rattle.plan_tree.specs.Rose.{Roses, rose, no_roses, more, join}
@@ -10,9 +10,9 @@ use Rattle.plan_tree.proofs.Pairs.{rewrites_pair}
 use Rattle.plan_tree.proofs.Replaced.{after, below}
 use Rattle.plan_expr.specs.declared.aexpr.AExpr.{AExpr}
 use Rattle.plan_ir.specs.declared.ir.IR.{IR}
-use Rattle.plan_ir.specs.declared.ir.IR.TheVariants.{Scan, Join, Union, Invalid}
+use Rattle.plan_ir.specs.declared.ir.IR.TheVariants.{Scan, Join, Union}
 use Rattle.plan_ir.specs.Parts.{inputs_of, is_invalid, plan_shape, roots_in, roots_of}
-use Rattle.plan_ir.specs.Plans.{Op, Plan, bare, op_at, plans_of}
+use Rattle.plan_ir.specs.Plans.{Op, bare, op_at, plans_of}
 use Rattle.plan_meaning.specs.Marks.{unmarked_op}
 use Rattle.plan_rule_laws.specs.Answers.{delayed_in, is_met, meets}
 use Rattle.plan_rule.specs.Sought.{Delays, first_sought, is_sought, or_number, unmarked_entry}

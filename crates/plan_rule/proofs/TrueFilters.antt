@@ -1,18 +1,17 @@
 -- Filters by the literal true, as a node tells them.
-use Rattle.std.proofs.Common.{◌≡◌, Bool, true, false, cond, List, [], ◌∷◌, Option, Some, None, refl, sym, ap, ◌∙◌, subst}
+use Rattle.std.proofs.Common.{◌≡◌, Bool, true, false, cond, List, [], ◌∷◌, Some, None, refl, ap, ◌∙◌}
 use Rattle.std.specs.List.{slice_get, slice_set}
 use Rattle.plan_core.specs.declared.arena.Node.{Node}
-use Rattle.plan_tree.specs.Rose.{Roses, rose, no_roses, more}
+use Rattle.plan_tree.specs.Rose.{Roses, rose}
 use Rattle.plan_tree.specs.Stands.{Trees}
 use Rattle.plan_expr.specs.declared.aexpr.AExpr.{AExpr}
 use Rattle.plan_ir.specs.declared.ir.IR.{IR}
 use Rattle.plan_ir.specs.declared.ir.IR.TheVariants.{Filter}
 use Rattle.plan_ir.specs.Parts.{StandsPlan, first_input, inputs_of, plan_shape}
-use Rattle.plan_ir.specs.Plans.{Op, op_at, plans_of, plans_at, bare}
+use Rattle.plan_ir.specs.Plans.{Op, op_at, plans_of, bare}
 use Rattle.plan_tree.proofs.TreeLemmas.{opened}
-use Rattle.plan_meaning.specs.PlanAt.{one_plan, plan_at}
+use Rattle.plan_meaning.specs.PlanAt.{plan_at}
 use Rattle.plan_meaning.specs.Steps.{IsValid}
-use Rattle.plan_rule_laws.specs.declared.kind.RuleKind.{RuleKind}
 use Rattle.plan_rule_laws.specs.declared.kind.RuleKind.TheVariants as kinds
 use Rattle.plan_rule_laws.specs.Answers.{answer_of, keeps_all, only_input, true_filter_answer}
 use Rattle.plan_rule_laws.specs.Patterns.{shows}

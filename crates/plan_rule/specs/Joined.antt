@@ -1,5 +1,5 @@
 -- The nodes that collapse makes of others.
-use Rattle.std.specs.Prelude.{ℕ, List, Option, Some, None}
+use Rattle.std.specs.Prelude.{ℕ, Option, Some, None}
 use Rattle.plan_core.specs.declared.arena.Node.{Node}
 use Rattle.plan_ir.specs.declared.ir.IR.{IR}
 use Rattle.plan_ir.specs.declared.ir.IR.TheVariants.{SimpleProjection, Select, Cache}
