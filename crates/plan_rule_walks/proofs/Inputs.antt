@@ -333,3 +333,6 @@ end_fits ks ls own a b c x y z n p left t e v w u l =
 
 pub no_inputs : {ks : List RuleKind} {own : Bool} {b c : List IR} {y z : List AExpr} {ns : List Node} {w : Done} (left : List Node) → left ≡ [] → Left ks own b c y z ns left w → Left ks own b c y z ns [] w
 no_inputs {ks} {own} {b} {c} {y} {z} {ns} {w} left e l = subst (λ (o : List Node). Left ks own b c y z ns o w) e l
+
+pub below_top : (w most v top : ℕ) → w ≤ most → v + most < top → w < top
+below_top w most v top a b = omega (arith, a, b)

@@ -1,5 +1,5 @@
 -- What rules that are their kinds' own leave of a plan without marks.
-use Rattle.std.proofs.Common.{◌≡◌, ℕ, zero, suc, ◌<◌, ◌&&◌, Bool, true, false, List, [], ◌∷◌, ◌++◌, length, map, take, get_or, Option, Some, None, option_map, refl, sym, ap, ◌∙◌, subst, arith}
+use Rattle.std.proofs.Common.{◌≡◌, ℕ, zero, suc, ◌+◌, ◌<◌, ◌&&◌, Bool, true, false, List, [], ◌∷◌, ◌++◌, length, map, take, get_or, Option, Some, None, option_map, refl, sym, ap, ◌∙◌, subst, arith}
 use Rattle.std.specs.List.{slice_set}
 use Rattle.std.proofs.lemmas.Bool.{and_from, and_parts}
 use Rattle.plan_core.specs.declared.arena.Node.{Node}
@@ -75,7 +75,7 @@ until_then [] ls p q r u w = subst (λ (s : Plan). UntilAll ls s r) (sym u) w
 until_then (k ∷ ks) ls p q r u w = (u.0, u.1, until_then ks ls u.0 q r u.2 w)
 
 pub until_next : (ks : List RuleKind) (i : ℕ) (k : RuleKind) (p q r : Plan) → take (i + 1) ks ≡ take i ks ++ k ∷ [] → UntilAll (take i ks) p q → Until k q r → UntilAll (take (i + 1) ks) p r
-until_next ks i k p q r next u w = rw next (until_then (take i ks) (k ∷ []) p q r u (r, w, refl))
+until_next ks i k p q r next u w = subst (λ (l : List RuleKind). UntilAll l p r) (sym next) (until_then (take i ks) (k ∷ []) p q r u (r, w, refl))
 
 -- One rule at an expression
 

@@ -144,9 +144,10 @@ fn walk_expr<R: OptimizationRule, Q: OptimizationRule>(
 {
     let above = visit_both_expr(rules, extra, alloc, ex, expr_node, lp, lp_node)?;
     let operands = operands_at(alloc, ex, expr_node)?;
+    let listed = operands.as_slice();
     let mut work = Work::none();
     let mut place: usize = 0;
-    while let Some(operand) = node_at(operands.as_slice(), place) {
+    while let Some(operand) = node_at(listed, place) {
         let done = walk_expr(rules, extra, alloc, ex, operand, lp, lp_node)?;
         work = work.and(done);
         place += 1;
@@ -176,9 +177,10 @@ pub(crate) fn walk_exprs<R: OptimizationRule, Q: OptimizationRule>(
     ensures told { OnOk result (all_own (map R.is_own rules.old ++ map Q.is_own extra.old) ≡ true → plan_at lp.now ex.new lp_node ≡ plan_at lp.now ex.old lp_node) }
 {
     let exprs = exprs_at(alloc, lp, lp_node)?;
+    let listed = exprs.as_slice();
     let mut work = Work::none();
     let mut place: usize = 0;
-    while let Some(root) = root_at(exprs.as_slice(), place) {
+    while let Some(root) = root_at(listed, place) {
         let done = walk_expr(rules, extra, alloc, ex, root, lp, lp_node)?;
         work = work.and(done);
         place += 1;

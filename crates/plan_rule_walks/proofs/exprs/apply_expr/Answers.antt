@@ -52,4 +52,4 @@ pub returns-clause-tended : goal.returns-clause-tended
 returns-clause-tended g c = (expr_end (g.R.OptimizationRule.kind_of c.args.rule.now) (g.R.OptimizationRule.is_own c.loop-entry.rule) c.args.lp.now c.args.ex.now c.loop-entry.ex c.optimize_expr.new.ex c.args.lp_node c.args.expr_node (record { changed = c.loop-entry.changed; replaced = c.loop-entry.replaced }) c.requires.plan c.requires.listed c.loop-entry.invariant.tried (rw c.in_default.is at c.in_ok-entry.ensures.answers)).done
 
 pub returns-clause-told : goal.returns-clause-told
-returns-clause-told g c = λ o. left_plan (g.R.OptimizationRule.kind_of c.args.rule.now) (g.R.OptimizationRule.is_own c.loop-entry.rule) c.args.lp.now c.loop-entry.ex c.optimize_expr.new.ex c.args.lp_node c.args.expr_node ((expr_stays ((g.R.OptimizationRule.kind_of c.args.rule.now) ∷ []) c.args.lp.now c.args.ex.now c.loop-entry.ex c.args.lp_node c.args.expr_node (record { changed = c.loop-entry.changed; replaced = c.loop-entry.replaced }) c.requires.plan c.requires.listed c.loop-entry.invariant.tried).listed) (rw (c.in_default.is, c.loop-entry.invariant.kind) at c.in_ok-entry.ensures.answers) ∙ c.loop-entry.invariant.told o
+returns-clause-told g c = λ o. left_plan (g.R.OptimizationRule.kind_of c.args.rule.now) (g.R.OptimizationRule.is_own c.loop-entry.rule) c.args.lp.now c.loop-entry.ex c.optimize_expr.new.ex c.args.lp_node c.args.expr_node ((expr_stays ((g.R.OptimizationRule.kind_of c.args.rule.now) ∷ []) c.args.lp.now c.args.ex.now c.loop-entry.ex c.args.lp_node c.args.expr_node (record { changed = c.loop-entry.changed; replaced = c.loop-entry.replaced }) c.requires.plan c.requires.listed c.loop-entry.invariant.tried).listed) (rw c.in_default.is at c.in_ok-entry.ensures.answers) ∙ c.loop-entry.invariant.told o

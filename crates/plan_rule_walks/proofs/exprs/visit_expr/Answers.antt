@@ -10,7 +10,7 @@ use Rattle.plan_rule_walks.proofs.Told.{own_at}
 use Rattle.plan_rule_walks.proofs.exprs.visit_expr.Goals as goal
 
 pub loop-i-init : goal.loop-i-init
-loop-i-init g c = record { kinds = refl; owns = refl; longer = omega arith; tried = expr_first (take 0 (map g.R.OptimizationRule.kind_of c.args.rules.now)) c.args.lp.now c.args.ex.now c.args.lp_node c.args.expr_node c.requires.valid; told = λ o. refl }
+loop-i-init g c = record { kinds = refl; owns = refl; longer = omega arith; tried = rw c.none-work.ensures (expr_first (take 0 (map g.R.OptimizationRule.kind_of c.args.rules.now)) c.args.lp.now c.args.ex.now c.args.lp_node c.args.expr_node c.requires.valid); told = λ o. refl }
 
 pub apply_expr-requires-clause-plan : goal.apply_expr-requires-clause-plan
 apply_expr-requires-clause-plan g c = (expr_stays (take c.loop-i.i (map g.R.OptimizationRule.kind_of c.args.rules.now)) c.args.lp.now c.args.ex.now c.loop-i.ex c.args.lp_node c.args.expr_node (done_of c.loop-i.work) c.requires.plan c.requires.listed c.loop-i.invariant.tried).stays.plan

@@ -16,7 +16,7 @@ pub exprs_at-requires : goal.exprs_at-requires
 exprs_at-requires g c = plan_inside c.args.lp.now c.args.ex.now c.args.lp_node c.requires.plan
 
 pub loop-root-init : goal.loop-root-init
-loop-root-init g c = record { kinds = refl; owns = refl; extra_kinds = refl; extra_owns = refl; longer = omega arith; since = since_first (map g.R.OptimizationRule.kind_of c.args.rules.now ++ map g.Q.OptimizationRule.kind_of c.args.extra.now) c.args.lp.now c.args.ex.now c.args.lp_node c.requires.valid; left = (c.in_ok-exprs.ensures.exprs.0, c.in_ok-exprs.ensures.exprs.1, c.in_ok-exprs.ensures.exprs.2, roots_none c.in_ok-exprs.ensures.exprs.0); told = λ o. refl }
+loop-root-init g c = record { kinds = refl; owns = refl; extra_kinds = refl; extra_owns = refl; longer = omega arith; since = rw c.none-work.ensures (since_first (map g.R.OptimizationRule.kind_of c.args.rules.now ++ map g.Q.OptimizationRule.kind_of c.args.extra.now) c.args.lp.now c.args.ex.now c.args.lp_node c.requires.valid); left = (c.in_ok-exprs.ensures.exprs.0, c.in_ok-exprs.ensures.exprs.1, c.as_slice-listed.ensures ∙ c.in_ok-exprs.ensures.exprs.2, roots_none c.in_ok-exprs.ensures.exprs.0); told = λ o. refl }
 
 pub walk_expr-requires-clause-plan : goal.walk_expr-requires-clause-plan
 walk_expr-requires-clause-plan g c = (since_stays (map g.R.OptimizationRule.kind_of c.args.rules.now ++ map g.Q.OptimizationRule.kind_of c.args.extra.now) c.args.lp.now c.args.lp.now c.args.ex.now c.loop-root.ex c.args.lp_node (done_of c.loop-root.work) c.requires.plan c.loop-root.invariant.since).plan
@@ -35,8 +35,8 @@ and-work-requires g c = let s = (since_stays (map g.R.OptimizationRule.kind_of c
 
 pub loop-root-smaller : goal.loop-root-smaller
 loop-root-smaller g c =
-    let within = slice_get_within (map (λ (e : ExprIR). e.node) c.in_ok-exprs.exprs) c.loop-root.place c.in-Some.root (sym c.root_at.ensures.there ∙ c.in-Some.is) in
-    omega (arith, within, length-map (λ (e : ExprIR). e.node) c.in_ok-exprs.exprs)
+    let within = slice_get_within (map (λ (e : ExprIR). e.node) c.as_slice-listed.result.now) c.loop-root.place c.in-Some.root (sym c.root_at.ensures.there ∙ c.in-Some.is) in
+    omega (arith, within, length-map (λ (e : ExprIR). e.node) c.as_slice-listed.result.now)
 
 pub loop-root-preserved : goal.loop-root-preserved
 loop-root-preserved g c = record {

@@ -11,7 +11,7 @@ use Rattle.plan_rule_walks.proofs.Told.{own_at, until_next}
 use Rattle.plan_rule_walks.proofs.nodes.visit.Goals as goal
 
 pub loop-i-init : goal.loop-i-init
-loop-i-init g c = record { kinds = refl; owns = refl; grows = omega arith; longer = omega arith; visited = visited_first (map g.R.OptimizationRule.kind_of c.args.rules.now) c.args.lp.now c.args.ex.now c.args.node c.requires.valid; told = λ o. refl }
+loop-i-init g c = record { kinds = refl; owns = refl; grows = omega arith; longer = omega arith; visited = rw c.none-work.ensures (visited_first (map g.R.OptimizationRule.kind_of c.args.rules.now) c.args.lp.now c.args.ex.now c.args.node c.requires.valid); told = λ o. refl }
 
 pub apply-requires-clause-plan : goal.apply-requires-clause-plan
 apply-requires-clause-plan g c = (visited_stays (take c.loop-i.i (map g.R.OptimizationRule.kind_of c.args.rules.now)) c.args.lp.now c.loop-i.lp c.args.ex.now c.loop-i.ex c.args.node (done_of c.loop-i.work) c.requires.plan c.loop-i.invariant.visited).plan

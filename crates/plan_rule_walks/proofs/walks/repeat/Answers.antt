@@ -18,12 +18,12 @@ pub walk-requires-clause-valid : goal.walk-requires-clause-valid
 walk-requires-clause-valid g c = (since_stays (map g.R.OptimizationRule.kind_of c.args.rules.now ++ map g.Q.OptimizationRule.kind_of c.args.extra.now) c.args.lp.now c.loop-work.lp c.args.ex.now c.loop-work.ex c.args.lp_top (record { changed = c.loop-work.invariant.since.0; replaced = c.loop-work.replaced }) c.requires.plan c.loop-work.invariant.since.1).valid
 
 pub walk-requires-clause-fits : goal.walk-requires-clause-fits
-walk-requires-clause-fits g c = let s = (since_stays (map g.R.OptimizationRule.kind_of c.args.rules.now ++ map g.Q.OptimizationRule.kind_of c.args.extra.now) c.args.lp.now c.loop-work.lp c.args.ex.now c.loop-work.ex c.args.lp_top (record { changed = c.loop-work.invariant.since.0; replaced = c.loop-work.replaced }) c.requires.plan c.loop-work.invariant.since.1).weighs in let f = (weight_fits c.args.lp.now c.args.ex.now c.args.lp_top c.requires.plan (omega (arith, c.len-lp.ensures.value, c.len-lp.ensures.small)) (omega (arith, c.len-ex.ensures.value, c.len-ex.ensures.small))) in omega (arith, s, f)
+walk-requires-clause-fits g c = let s = (since_stays (map g.R.OptimizationRule.kind_of c.args.rules.now ++ map g.Q.OptimizationRule.kind_of c.args.extra.now) c.args.lp.now c.loop-work.lp c.args.ex.now c.loop-work.ex c.args.lp_top (record { changed = c.loop-work.invariant.since.0; replaced = c.loop-work.replaced }) c.requires.plan c.loop-work.invariant.since.1).weighs in let f = (weight_fits c.args.lp.now c.args.ex.now c.args.lp_top c.requires.plan (omega (arith, c.len.ensures.value, c.len.ensures.small)) (omega (arith, c.len-2.ensures.value, c.len-2.ensures.small))) in omega (arith, s, f)
 
 pub overflow_add-replaced : goal.overflow_add-replaced
 overflow_add-replaced g c =
     let s = since_room (map g.R.OptimizationRule.kind_of c.args.rules.now ++ map g.Q.OptimizationRule.kind_of c.args.extra.now) c.args.lp.now c.loop-work.lp c.walk.new.lp c.args.ex.now c.loop-work.ex c.walk.new.ex c.args.lp_top (record { changed = c.loop-work.invariant.since.0; replaced = c.loop-work.replaced }) (done_of c.in_ok-work.work) c.requires.plan c.loop-work.invariant.since.1 (rw (c.loop-work.invariant.kinds, c.loop-work.invariant.extra_kinds) at c.in_ok-work.ensures.walked) in
-    let f = (weight_fits c.args.lp.now c.args.ex.now c.args.lp_top c.requires.plan (omega (arith, c.len-lp.ensures.value, c.len-lp.ensures.small)) (omega (arith, c.len-ex.ensures.value, c.len-ex.ensures.small))) in
+    let f = (weight_fits c.args.lp.now c.args.ex.now c.args.lp_top c.requires.plan (omega (arith, c.len.ensures.value, c.len.ensures.small)) (omega (arith, c.len-2.ensures.value, c.len-2.ensures.small))) in
     omega (arith, s, f)
 
 pub returns-then-not-work-clause-is_plan : goal.returns-then-not-work-clause-is_plan
