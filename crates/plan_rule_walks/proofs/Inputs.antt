@@ -1,5 +1,5 @@
 -- A node over its inputs, the last of which are walked before the first.
-use Rattle.std.proofs.Common.{◌≡◌, ℕ, ◌+◌, ◌<◌, ◌≤◌, ◌||◌, ◌⊎◌, inl, inr, ⊎_elim, Bool, true, false, List, [], ◌∷◌, ◌++◌, length, append_assoc, append-nil, Some, refl, sym, ap, ap₂, ◌∙◌, subst, arith}
+use Rattle.std.proofs.Common.{◌≡◌, ℕ, ◌+◌, ◌<◌, ◌≤◌, ◌^◌, ◌||◌, ◌⊎◌, inl, inr, ⊎_elim, Bool, true, false, List, [], ◌∷◌, ◌++◌, length, append_assoc, append-nil, Some, refl, sym, ap, ap₂, ◌∙◌, subst, arith}
 use Rattle.std.specs.List.{slice_get}
 use Rattle.plan_core.specs.declared.arena.Node.{Node}
 use Rattle.plan_tree.specs.Rose.{Rose, Roses, rose, no_roses, more, join as beside}
@@ -334,5 +334,23 @@ end_fits ks ls own a b c x y z n p left t e v w u l =
 pub no_inputs : {ks : List RuleKind} {own : Bool} {b c : List IR} {y z : List AExpr} {ns : List Node} {w : Done} (left : List Node) → left ≡ [] → Left ks own b c y z ns left w → Left ks own b c y z ns [] w
 no_inputs {ks} {own} {b} {c} {y} {z} {ns} {w} left e l = subst (λ (o : List Node). Left ks own b c y z ns o w) e l
 
-pub below_top : (w most v top : ℕ) → w ≤ most → v + most < top → w < top
+below_top : (w most v top : ℕ) → w ≤ most → v + most < top → w < top
 below_top w most v top a b = omega (arith, a, b)
+
+-- what the next call asks, whose plan weighs less than the node's did
+pub record AsksBelow (c : List IR) (z : List AExpr) (i : Node) (top : ℕ) : Type 0 where
+  pub plan : IsPlan c z i
+  pub valid : IsValid (plan_at c z i)
+  pub less : weight (plan_at c z i) < top
+
+pub inputs_ask : (ks ls : List RuleKind) (own : Bool) (a b c : List IR) (x y z : List AExpr) (n : Node) (p : IR) (t : Trees IR) (e : Trees AExpr) (v w : Done) (ns old left : List Node) (i : Node) → StandsPlan a x n t e → AtTop ks a b x y n t e v → slice_get b n.0 ≡ Some p → ns ≡ inputs_of p → old ≡ left ++ i ∷ [] → Left ls own b c y z ns old w → AsksBelow c z i (weight (plan_at a x n))
+inputs_ask ks ls own a b c x y z n p t e v w ns old left i h top at are eq l =
+    let u = under_of ks a b x y n p t e v h top at in
+    let k = left_asks ls own b c y z (inputs_of p) old left i w u.kids u.below eq (left_at ls own b c y z ns (inputs_of p) old w are l) u.inputs u.valid in
+    record { plan = k.plan; valid = k.valid; less = below_top (weight (plan_at c z i)) (weight_in (bare (plans_of y u.kids))) v.replaced (weight (plan_at a x n)) k.weighs u.lighter }
+
+pub falls_to : (w top t : ℕ) → w < top → top ≡ t → w < t
+falls_to w top t a b = omega (arith, a, b)
+
+pub fits_below : (w top : ℕ) → w < top → top < 2 ^ 64 → w < 2 ^ 64
+fits_below w top a b = omega (arith, a, b)

@@ -36,7 +36,7 @@ and-work-requires g c = let s = (since_stays (map g.R.OptimizationRule.kind_of c
 pub loop-root-smaller : goal.loop-root-smaller
 loop-root-smaller g c =
     let within = slice_get_within (map (λ (e : ExprIR). e.node) c.as_slice-listed.result.now) c.loop-root.place c.in-Some.root (sym c.root_at.ensures.there ∙ c.in-Some.is) in
-    omega (arith, within, length-map (λ (e : ExprIR). e.node) c.as_slice-listed.result.now)
+    omega (arith, within, length-map c.as_slice-listed.result.now (λ (e : ExprIR). e.node))
 
 pub loop-root-preserved : goal.loop-root-preserved
 loop-root-preserved g c = record {

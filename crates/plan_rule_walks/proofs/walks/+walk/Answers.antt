@@ -8,7 +8,7 @@ use Rattle.plan_rule_laws.specs.Settling.{both}
 use Rattle.plan_rule_laws.specs.Walks.{UntilAll}
 use Rattle.plan_rule_laws.specs.Weights.{weight, weight_in}
 use Rattle.plan_rule_walks.specs.Walking.{all_own, done_of}
-use Rattle.plan_rule_walks.proofs.Inputs.{Left, below_top, end_fits, left_asks, left_at, left_first, left_next, no_inputs, under_of, walked_end, walked_told}
+use Rattle.plan_rule_walks.proofs.Inputs.{Left, end_fits, falls_to, fits_below, inputs_ask, left_at, left_first, left_next, no_inputs, under_of, walked_end, walked_told}
 use Rattle.plan_rule_walks.proofs.Brings.{stays}
 use Rattle.plan_rule_walks.proofs.Listed.{top_exprs}
 use Rattle.plan_rule_walks.proofs.Visits.{visited_stays}
@@ -36,12 +36,8 @@ loop-input-init g t c = record { kinds = refl; owns = refl; extra_kinds = refl; 
 
 pub walk-requires : goal.walk-requires
 walk-requires g t c κs within =
-    let u = (under_of (map g.R.OptimizationRule.kind_of c.args.rules.now ++ map g.Q.OptimizationRule.kind_of c.args.extra.now) c.args.lp.now c.visit_both.new.lp c.args.ex.now c.walk_exprs.new.ex c.args.node c.in_ok-inputs.ensures.inputs.0 c.requires.plan.nodes c.requires.plan.exprs (done_of c.and-above.result) c.requires.plan.stands (rw c.and-above.ensures (top_exprs (map g.R.OptimizationRule.kind_of c.args.rules.now ++ map g.Q.OptimizationRule.kind_of c.args.extra.now) c.args.lp.now c.visit_both.new.lp c.args.ex.now c.visit_both.new.ex c.walk_exprs.new.ex c.args.node c.requires.plan.nodes c.requires.plan.exprs (done_of c.in_ok-top.top) (done_of c.in_ok-exprs.exprs) (c.in_ok-top.ensures.visited c.requires.plan.nodes c.requires.plan.exprs c.requires.plan.stands) (rw (c.in_ok-top.ensures.kinds, c.in_ok-top.ensures.extra_kinds) at c.in_ok-exprs.ensures.brought))) c.in_ok-inputs.ensures.inputs.1) in
-    let k = left_asks (map g.R.OptimizationRule.kind_of c.walk_exprs.new.rules ++ map g.Q.OptimizationRule.kind_of c.walk_exprs.new.extra) (all_own (map g.R.OptimizationRule.is_own c.walk_exprs.new.rules ++ map g.Q.OptimizationRule.is_own c.walk_exprs.new.extra)) c.visit_both.new.lp c.loop-input.lp c.walk_exprs.new.ex c.loop-input.ex (inputs_of c.in_ok-inputs.ensures.inputs.0) c.loop-input.inputs c.pop.new.self c.in-Some.input (done_of c.loop-input.work) u.kids u.below c.in-Some.ensures (left_at (map g.R.OptimizationRule.kind_of c.walk_exprs.new.rules ++ map g.Q.OptimizationRule.kind_of c.walk_exprs.new.extra) (all_own (map g.R.OptimizationRule.is_own c.walk_exprs.new.rules ++ map g.Q.OptimizationRule.is_own c.walk_exprs.new.extra)) c.visit_both.new.lp c.loop-input.lp c.walk_exprs.new.ex c.loop-input.ex c.in_ok-inputs.inputs (inputs_of c.in_ok-inputs.ensures.inputs.0) c.loop-input.inputs (done_of c.loop-input.work) c.in_ok-inputs.ensures.inputs.2 c.loop-input.invariant.left) u.inputs u.valid in
-    let less = u.lighter in
-    let falls = k.weighs in
-    let first = below_top (weight (plan_at c.loop-input.lp c.loop-input.ex c.in-Some.input)) (weight_in (bare (plans_of c.walk_exprs.new.ex u.kids))) c.and-above.result.replaced (weight (plan_at c.args.lp.now c.args.ex.now c.args.node)) falls less in
-    (omega (arith, first, c.decreases), (within.0, (within.1, (k.plan, (k.valid, omega (arith, first, c.requires.fits))))))
+    let k = inputs_ask (map g.R.OptimizationRule.kind_of c.args.rules.now ++ map g.Q.OptimizationRule.kind_of c.args.extra.now) (map g.R.OptimizationRule.kind_of c.walk_exprs.new.rules ++ map g.Q.OptimizationRule.kind_of c.walk_exprs.new.extra) (all_own (map g.R.OptimizationRule.is_own c.walk_exprs.new.rules ++ map g.Q.OptimizationRule.is_own c.walk_exprs.new.extra)) c.args.lp.now c.visit_both.new.lp c.loop-input.lp c.args.ex.now c.walk_exprs.new.ex c.loop-input.ex c.args.node c.in_ok-inputs.ensures.inputs.0 c.requires.plan.nodes c.requires.plan.exprs (both (done_of c.in_ok-top.top) (done_of c.in_ok-exprs.exprs)) (done_of c.loop-input.work) c.in_ok-inputs.inputs c.loop-input.inputs c.pop.new.self c.in-Some.input c.requires.plan.stands (top_exprs (map g.R.OptimizationRule.kind_of c.args.rules.now ++ map g.Q.OptimizationRule.kind_of c.args.extra.now) c.args.lp.now c.visit_both.new.lp c.args.ex.now c.visit_both.new.ex c.walk_exprs.new.ex c.args.node c.requires.plan.nodes c.requires.plan.exprs (done_of c.in_ok-top.top) (done_of c.in_ok-exprs.exprs) (c.in_ok-top.ensures.visited c.requires.plan.nodes c.requires.plan.exprs c.requires.plan.stands) (rw (c.in_ok-top.ensures.kinds, c.in_ok-top.ensures.extra_kinds) at c.in_ok-exprs.ensures.brought)) c.in_ok-inputs.ensures.inputs.1 c.in_ok-inputs.ensures.inputs.2 c.in-Some.ensures c.loop-input.invariant.left in
+    (falls_to (weight (plan_at c.loop-input.lp c.loop-input.ex c.in-Some.input)) (weight (plan_at c.args.lp.now c.args.ex.now c.args.node)) t k.less c.decreases, (within.0, (within.1, (k.plan, (k.valid, fits_below (weight (plan_at c.loop-input.lp c.loop-input.ex c.in-Some.input)) (weight (plan_at c.args.lp.now c.args.ex.now c.args.node)) k.less c.requires.fits)))))
 
 pub and-work-requires : goal.and-work-requires
 and-work-requires g t c =
