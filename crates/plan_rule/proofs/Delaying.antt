@@ -1,22 +1,18 @@
 -- The rule that delays, over what stands at its number.
-use Rattle.std.proofs.Common.{◌≡◌, ◌&&◌, Bool, true, false, cond, List, [], ◌∷◌, ◌++◌, length, map, Some, None, refl, sym, ap, ◌∙◌, subst, arith}
+use Rattle.std.proofs.Common.{◌≡◌, ◌&&◌, Bool, true, false, cond, List, [], ◌∷◌, ◌++◌, Some, None, refl, sym, ap, ◌∙◌, subst}
 use Rattle.std.specs.List.{slice_get}
 use Rattle.plan_core.specs.declared.arena.Node.{Node}
-use Rattle.plan_core.specs.Columns.{Columns}
-use Rattle.plan_options.specs.declared.group.GroupbyOptions.{GroupbyOptions}
 use Rattle.plan_tree.specs.Rose.{Roses, rose, no_roses, more}
 use Rattle.plan_tree.specs.Stands.{Rewrites, StandsOnce, Trees}
 use Rattle.plan_tree.proofs.Frames.{Rewrites-refl}
 use Rattle.plan_tree.proofs.Replaced.{below}
 use Rattle.plan_tree.proofs.TreeLemmas.{opened}
 use Rattle.plan_expr.specs.declared.aexpr.AExpr.{AExpr}
-use Rattle.plan_expr.specs.declared.expr_ir.ExprIR.{ExprIR}
-use Rattle.plan_expr.specs.Exprs.{Named, named_at}
 use Rattle.plan_expr.specs.Operands.{expr_shape}
 use Rattle.plan_ir.specs.declared.ir.IR.{IR}
 use Rattle.plan_ir.specs.declared.ir.IR.TheVariants.{GroupBy}
 use Rattle.plan_ir.specs.Parts.{IsPlan, StandsPlan, first_input, inputs_of, plan_shape, roots_in, roots_of}
-use Rattle.plan_ir.specs.Plans.{Op, Plan, bare, group_by, op_at, plans_of}
+use Rattle.plan_ir.specs.Plans.{Op, Plan, bare, op_at, plans_of}
 use Rattle.plan_rule_laws.specs.declared.kind.RuleKind.TheVariants as kinds
 use Rattle.plan_rule_laws.specs.Answers.{delayed, delayed_in, first_met, groups_by_one}
 use Rattle.plan_rule_laws.specs.Clearing.{Cleared}
@@ -43,17 +39,6 @@ grouped ex (GroupBy input keys aggs schema maintain_order options) i e = at (gro
     at true e = (refl, cc)
     at false e = cc
 grouped ex p i e = cc
-
--- what is told of a grouping by its keys
-pub told_one : (ex : List AExpr) (input : Node) (keys : List ExprIR) (aggs : List Named) (schema : Columns) (ordered : Bool) (options : GroupbyOptions) → length keys ≡ 1 → Some input ≡ cond (groups_by_one (group_by (map (named_at ex) keys) aggs schema ordered options)) (Some input) None
-told_one ex input [] aggs schema ordered options e = cc
-told_one ex input (k ∷ []) aggs schema ordered options e = refl
-told_one ex input (k ∷ (l ∷ ls)) aggs schema ordered options e = absurd (omega (arith, e))
-
-pub told_more : (ex : List AExpr) (input : Node) (keys : List ExprIR) (aggs : List Named) (schema : Columns) (ordered : Bool) (options : GroupbyOptions) → (length keys ≡ 1 → ⊥) → None ≡ cond (groups_by_one (group_by (map (named_at ex) keys) aggs schema ordered options)) (Some input) None
-told_more ex input [] aggs schema ordered options e = refl
-told_more ex input (k ∷ []) aggs schema ordered options e = absurd (e refl)
-told_more ex input (k ∷ (l ∷ ls)) aggs schema ordered options e = refl
 
 pub ungrouped_stays : (lp : List IR) (ex : List AExpr) (n : Node) (p : IR) (t : Trees IR) (e : Trees AExpr) → StandsPlan lp ex n t e → slice_get lp n.0 ≡ Some p → None ≡ cond (groups_by_one (op_at ex p)) (first_input p) None → Leaves kinds.Rechunk true lp lp ex ex n t e
 ungrouped_stays lp ex n p t e h entry none =

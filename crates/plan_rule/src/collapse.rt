@@ -164,7 +164,7 @@ fn joined_cache(hits: u32, entry: &IR) -> Option<IR>
 }
 
 /// What comes in the place of a projection or a cache that its input makes needless; None where it stays, and for every other node.
-/// Refuses for want of memory alone, and then changes nothing.
+/// Refuses for want of memory alone.
 fn joined(alloc: Global, node: Node, lp: &mut Arena<IR>) -> Result<Option<IR>, AllocError>
     requires { (t : Trees IRType) × StandsOnce plan_shape lp.old (node ∷ []) t }
     ensures answers { IfOk result (λ o. (ex : List AExprType) (t : Trees IRType) (e : Trees AExprType) → StandsPlan lp.old ex node t e → IsValid (plan_at lp.old ex node) → shows (kinds.Collapse true) (plan_of ex t) ≡ false → Answers (kinds.Collapse false) true lp.old lp.new ex ex node t e o) }
@@ -210,7 +210,7 @@ impl OptimizationRule for SimpleProjectionAndCollapse {
 
     ghost is_own = { λ _. true };
 
-    /// The projection, the input or the cache that comes in the place of the node. A call that is refused changes nothing.
+    /// The projection, the input or the cache that comes in the place of the node.
     fn optimize_plan(
         &mut self,
         alloc: Global,

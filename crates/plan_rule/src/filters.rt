@@ -18,7 +18,7 @@ use plan_ir::IR;
 use plan_rule_laws::RuleKind;
 use std::alloc::Global;
 
-/// Puts the input of a filter by the literal true in its place. It takes no memory.
+/// Puts the input of a filter by the literal true in its place.
 #[derive(Drop)]
 pub struct DropTrueFilter;
 
@@ -62,7 +62,7 @@ impl OptimizationRule for DropTrueFilter {
 
     ghost is_own = { λ _. true };
 
-    /// The node of the input, where the node is a filter by the literal true. No call is refused.
+    /// The node of the input, where the node is a filter by the literal true.
     fn optimize_plan(
         &mut self,
         alloc: Global,

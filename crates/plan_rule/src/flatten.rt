@@ -91,7 +91,7 @@ impl OptimizationRule for FlattenUnionRule {
 
     ghost is_own = { λ _. true };
 
-    /// The union over the inputs that are taken up. A call changes nothing.
+    /// The union over the inputs that are taken up.
     fn optimize_plan(
         &mut self,
         alloc: Global,

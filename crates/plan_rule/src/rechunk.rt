@@ -72,8 +72,7 @@ fn unmark(entry: &mut IR)
     }
 }
 
-/// Clears the mark of the first scan of files, union or join of the plan at a number. Refuses for want of memory alone, and then
-/// changes nothing.
+/// Clears the mark of the first scan of files, union or join of the plan at a number. Refuses for want of memory alone.
 fn delay(alloc: Global, node: Node, lp: &mut Arena<IR>) -> Result<(), AllocError>
     requires { (t : Trees IRType) × StandsOnce plan_shape lp.old (node ∷ []) t }
     ensures delays { OnOk result ((t : Trees IRType) → StandsOnce plan_shape lp.old (node ∷ []) t → Delays lp.old lp.new (node ∷ []) t) }
@@ -115,7 +114,7 @@ impl OptimizationRule for DelayRechunk {
 
     ghost is_own = { λ _. true };
 
-    /// None; the mark below a grouping by one key is cleared. A call that is refused changes nothing.
+    /// None; the mark below a grouping by one key is cleared.
     fn optimize_plan(
         &mut self,
         alloc: Global,
