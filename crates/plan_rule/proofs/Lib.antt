@@ -1,2 +1,12 @@
 -- The lemmas.
 pub mod Listed
+pub mod Placed
+pub mod InputUp
+pub mod TrueFilters
+pub mod Sought
+pub mod Seeking
+pub mod Delaying
+pub mod OwnColumns
+pub mod Collapsing
+pub mod Flattening
+pub mod UnionLoops
