@@ -1,4 +1,6 @@
 //! The rules in one type.
+ghost use Rattle.std.specs.Prelude.{◌≡◌, true, false};
+
 use crate::boxed::BoxedRule;
 use plan_core::{Arena, Node, PolarsResult};
 use plan_expr::AExpr;
@@ -19,6 +21,18 @@ pub enum Rule {
     Rechunk(DelayRechunk),
     /// A rule of any type.
     Boxed(BoxedRule),
+}
+
+impl Rule {
+    /// Whether the rule is in a box. One that isn't is its kind's own.
+    pub fn is_boxed(&self) -> bool
+        ensures { result ≡ false → ⟦<Rule as OptimizationRule>⟧.is_own self.now ≡ true }
+    {
+        match self {
+            Rule::Collapse(_) | Rule::Flatten(_) | Rule::Rechunk(_) => false,
+            Rule::Boxed(_) => true,
+        }
+    }
 }
 
 impl OptimizationRule for Rule {
