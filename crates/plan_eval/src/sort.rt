@@ -60,8 +60,8 @@ fn sorted_rows(
     Ok(rows)
 }
 
-/// The table of the sort: its input where that is in order.
-pub fn sort(
+/// The rows of a table in the order of keys.
+fn in_order(
     alloc: Global,
     table: Table,
     keys: &[ExprIR],
@@ -77,4 +77,23 @@ pub fn sort(
     let rows = sorted_rows(alloc, keys.as_slice(), options, table.height)?;
     drop(keys);
     Ok(picked(alloc, table, rows.as_slice())?)
+}
+
+/// The table of the sort: its input where that is in order. A table without columns is in each order.
+pub fn sort(
+    alloc: Global,
+    table: Table,
+    keys: &[ExprIR],
+    options: &SortMultipleOptions,
+    ex: &Arena<AExpr>,
+) -> Result<Table, AllocError>
+    requires stand { All (λ e. IsExpr ex.now e.node) keys.now }
+    requires valid { AllHold (key_checks (all_named_at ex.now keys.now) (schema_of table)) }
+    requires rows { HasRows table }
+    ensures { (ts : List (SourceKey × TableType)) (part : OptionType (ℤ × ℕ)) → IfOk result (Gives ts (sort_op (all_named_at ex.now keys.now) part options.now) (table ∷ [])) }
+{
+    if table.columns.len() == 0 {
+        return Ok(table);
+    }
+    in_order(alloc, table, keys, options, ex)
 }

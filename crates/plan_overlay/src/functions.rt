@@ -1,5 +1,5 @@
 //! What functions change of the columns below them.
-ghost use Rattle.std.specs.Prelude.{◌≡◌, Bool, Option, ℕ, IfOk, IfSome, IsTrue, [], ◌∷◌};
+ghost use Rattle.std.specs.Prelude.{◌≡◌, Bool, Option, ℕ, IfOk, IfSome, IsTrue, MatchOption, [], ◌∷◌, length};
 ghost use Rattle.std.specs.List.{list_all};
 ghost use Rattle.plan_core.specs.Columns.{Columns};
 ghost use Rattle.plan_ir.specs.declared.functions.FunctionIR.TheVariants.{Explode, Rename, RowIndex};
@@ -84,7 +84,7 @@ fn explode(
 
 /// The only name of a list, if it has one name.
 pub fn only_name(names: &[PlSmallStr]) -> Option<&str>
-    ensures { IfSome result (λ a. names.now ≡ a.now ∷ []) }
+    ensures { MatchOption result (length names.now ≡ 1 → ⊥) (λ a. names.now ≡ a.now ∷ []) }
 {
     if names.len() == 1 {
         return Some(names[0].as_str());

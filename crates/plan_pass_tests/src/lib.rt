@@ -2,6 +2,7 @@
 //! command calls the loop over rules yet; here are plans of documents with what it makes of them, and rules of types that no crate has.
 #![tactic(auto)]
 
+mod heard;
 #[cfg(test)]
 mod loops;
 mod once;

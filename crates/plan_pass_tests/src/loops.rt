@@ -1,5 +1,6 @@
 //! What the loop over rules makes of plans.
 
+use crate::heard::Heard;
 use crate::once::Once;
 use plan_check::{check_plan, check_tree};
 use plan_copy::renumbered;
@@ -26,6 +27,10 @@ const FILTERS: &str =
 /// One filter by true on the scan.
 const FILTER: &str =
     r#"{"exprs":[{"op":"Literal","type":"Boolean","value":true}],"nodes":[{"input":1,"op":"Filter","predicate":[0,"lit","literal"]},{"columns":null,"hive":null,"kind":"Parquet","op":"Scan","output":null,"path_column":null,"predicate":null,"reader":[["b","Boolean"]],"rechunk":false,"row_index":null,"schema":[["b","Boolean"]],"slice":null,"sources":{"paths":["x"]}}],"root":0}"#;
+
+/// A filter by `a + 1 > 2` on a scan of a.
+const SUM_FILTER: &str =
+    r#"{"root":0,"nodes":[{"op":"Filter","input":1,"predicate":[0,"col","a"]},{"op":"Scan","kind":"Parquet","sources":{"paths":["x"]},"schema":[["a","Int64"]],"reader":[["a","Int64"]],"hive":null,"output":null,"columns":null,"row_index":null,"path_column":null,"rechunk":false,"slice":null,"predicate":null}],"exprs":[{"op":"BinaryExpr","left":1,"operator":"Gt","right":4},{"op":"BinaryExpr","left":2,"operator":"Plus","right":3},{"op":"Column","name":"a"},{"op":"Literal","type":"Int64","value":1},{"op":"Literal","type":"Int64","value":2}],"flags":0,"shared":false,"tables":null}"#;
 
 /// The plan of a document.
 fn read(alloc: Global, text: &str) -> Result<PlanCopy, Fail> {
@@ -86,6 +91,15 @@ fn call_boxes(alloc: Global, plan: &mut PlanCopy) -> Result<u64, Fail> {
     Ok(replaced)
 }
 
+/// How often a rule that answers nothing is called at the nodes and at the expressions of a plan.
+fn heard(alloc: Global, plan: &mut PlanCopy) -> Result<(u32, u32), Fail> {
+    let _ = check_plan(alloc, plan.root, &plan.lp, &plan.ex)?;
+    let rules: &mut [Heard] = &mut [Heard { nodes: 0, exprs: 0 }];
+    let root = plan.root;
+    plan.root = StackOptimizer.optimize_loop(alloc, rules, &mut plan.ex, &mut plan.lp, root)?;
+    Ok((rules[0].nodes, rules[0].exprs))
+}
+
 #[test]
 fn unions_become_one(rt: HostRuntime) -> Result<(), Fail> {
     let alloc = rt.alloc();
@@ -112,5 +126,14 @@ fn boxes_are_called_with_what_they_keep(rt: HostRuntime) -> Result<(), Fail> {
     let replaced = call_boxes(alloc, &mut plan)?;
     let text = written(alloc, &plan)?;
     assert!(rt; replaced == 0 && text.as_str() == FILTER);
+    Ok(())
+}
+
+#[test]
+fn columns_and_literals_are_not_asked(rt: HostRuntime) -> Result<(), Fail> {
+    let alloc = rt.alloc();
+    let mut plan = read(alloc, SUM_FILTER)?;
+    let calls = heard(alloc, &mut plan)?;
+    assert!(rt; calls == (2, 2));
     Ok(())
 }

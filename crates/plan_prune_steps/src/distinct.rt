@@ -14,6 +14,7 @@ ghost use Rattle.plan_pruned.specs.Pruned.{asked_with};
 ghost use Rattle.plan_prune_parts.specs.declared.step.Step.TheVariants.{Over};
 ghost use Rattle.plan_prune_parts.specs.Said.{columns_at};
 
+use crate::among::are_among;
 use plan_core::{Arena, Items, Names, Node, PlSmallStr};
 use plan_ir::IR;
 use plan_options::DistinctOptionsIR;
@@ -33,6 +34,9 @@ fn add_columns_at(
     requires { (t : Trees IR) × StandsOnce plan_shape lp.now (input ∷ []) t }
     ensures { OnOk result ((ex : List AExpr) → names.new ≡ with_names names.old (names_of (columns_at lp.now ex input))) }
 {
+    if are_among(alloc, names, input, lp)? {
+        return Ok(());
+    }
     let stored = stored_schema(alloc, input, lp)?;
     add_columns(names, stored.columns())?;
     Ok(())

@@ -1,6 +1,7 @@
 //! What pruning does at a node of each kind: before its inputs are pruned, and after.
 #![tactic(auto)]
 
+mod among;
 mod cache;
 mod distinct;
 mod filter;

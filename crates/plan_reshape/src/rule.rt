@@ -24,9 +24,12 @@ pub enum Rule {
 }
 
 impl Rule {
+    ghost use Rattle.plan_reshape.specs.declared.rule.Rule.TheVariants.{Collapse as collapses, Flatten as flattens, Rechunk as delays, Boxed as boxed};
+
     /// Whether the rule is in a box. One that isn't is its kind's own.
     pub fn is_boxed(&self) -> bool
-        ensures { result ≡ false → ⟦<Rule as OptimizationRule>⟧.is_own self.now ≡ true }
+        ensures boxed { result ≡ elim self.now [ collapses c ↦ false | flattens f ↦ false | delays d ↦ false | boxed b ↦ true ] }
+        ensures own { result ≡ false → ⟦<Rule as OptimizationRule>⟧.is_own self.now ≡ true }
     {
         match self {
             Rule::Collapse(_) | Rule::Flatten(_) | Rule::Rechunk(_) => false,

@@ -3,6 +3,7 @@ use Rattle.std.specs.Prelude.{◌≡◌, ◌&&◌, Bool, true, false, List, [], 
 use Rattle.plan_core.specs.declared.arena.Node.{Node}
 use Rattle.plan_tree.specs.Stands.{Trees, Rewrites}
 use Rattle.plan_expr.specs.declared.aexpr.AExpr.{AExpr}
+use Rattle.plan_expr.specs.declared.aexpr.AExpr.TheVariants.{Column, Len, Literal}
 use Rattle.plan_expr.specs.Operands.{expr_shape}
 use Rattle.plan_ir.specs.declared.ir.IR.{IR}
 use Rattle.plan_ir.specs.Plans.{bare, plans_of}
@@ -16,6 +17,13 @@ use Rattle.plan_rule_walks.specs.declared.work.Work.{Work}
 -- what was done
 abbrev pub done_of : Work → Done
 done_of w = record { changed = w.changed; replaced = w.replaced }
+
+-- whether rules are called at an expression
+abbrev pub asks_rules : AExpr → Bool
+asks_rules (Column name) = false
+asks_rules (Literal value) = false
+asks_rules Len = false
+asks_rules other = true
 
 -- whether each rule is its kind's own
 abbrev pub all_own : List Bool → Bool

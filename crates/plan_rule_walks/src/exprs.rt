@@ -10,7 +10,7 @@ ghost use Rattle.plan_meaning.specs.PlanAt.{plan_at};
 ghost use Rattle.plan_meaning.specs.Steps.{IsValid};
 ghost use Rattle.plan_rule.specs.Calls.{ListsExpr};
 ghost use Rattle.plan_rule_laws.specs.Weights.{weight};
-ghost use Rattle.plan_rule_walks.specs.Walking.{Brought, Tended, all_own, done_of};
+ghost use Rattle.plan_rule_walks.specs.Walking.{Brought, Tended, all_own, asks_rules, done_of};
 
 use crate::items::{exprs_at, node_at, operands_at, root_at};
 use crate::work::{Work, counts};
@@ -82,7 +82,9 @@ fn visit_expr<R: OptimizationRule>(
 }
 
 /// Whether rules are called at an expression: it is no column, literal or count of rows.
-fn is_asked(expr: &AExpr) -> bool {
+fn is_asked(expr: &AExpr) -> bool
+    ensures { result ≡ asks_rules expr.now }
+{
     !matches!(expr, AExpr::Column(_) | AExpr::Literal(_) | AExpr::Len)
 }
 

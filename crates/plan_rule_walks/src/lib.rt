@@ -8,4 +8,3 @@ mod walks;
 mod work;
 
 pub use walks::repeat;
-pub use work::Work;
