@@ -1,4 +1,4 @@
 //! Two additions of columns, one directly on the other: which expressions stay, and what the two become. The definitions, and their laws.
 #![tactic(auto)]
 
-pub mod laws;
+pub mod addition_laws;

@@ -1,5 +1,0 @@
-use Rattle.plan_collapse_laws.proofs.CollapsedSites.{collapsed_is}
-use Rattle.plan_collapse_laws.proofs.laws.join_collapse_makes_collapsed_plans.Goals as goal
-
-pub returns : goal.returns
-returns c = λ p v. collapsed_is p v

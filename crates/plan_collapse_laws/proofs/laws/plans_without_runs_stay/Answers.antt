@@ -1,5 +1,0 @@
-use Rattle.plan_collapse_laws.proofs.CollapsedIdle.{collapsed_idle}
-use Rattle.plan_collapse_laws.proofs.laws.plans_without_runs_stay.Goals as goal
-
-pub returns : goal.returns
-returns c = λ p v h. collapsed_idle p v h
