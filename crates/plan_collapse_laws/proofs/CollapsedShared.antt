@@ -13,8 +13,8 @@ use Rattle.plan_schema.specs.Stored.{stored_all, stored_by}
 use Rattle.plan_collapse_laws.specs.TakenKeys.{and_all, self_named, told_now, left_keys, right_keys}
 use Rattle.plan_collapse_laws.specs.Collapsed.{at_filter, at_join, collapsed, collapsed_all, collapsed_at, collapsed_cross, collapsed_under, filtered_by, first_under, keeping, under}
 use Rattle.plan_collapse_laws.specs.Sites.{is_cross}
-use Rattle.plan_cluster_laws.specs.Cached.{Became}
-use Rattle.plan_cluster_laws.proofs.CacheLists.{became_left, became_right, either_cache, last_cache}
+use Rattle.plan_collapse_laws.specs.Cached.{Became}
+use Rattle.plan_collapse_laws.proofs.CacheLists.{became_left, became_right, either_cache, last_cache}
 use Rattle.plan_collapse_laws.proofs.Filters.{one}
 use Rattle.plan_collapse_laws.proofs.NodeKinds.{Kind, a_filter, a_join, another, cross_cases, kind_of}
 

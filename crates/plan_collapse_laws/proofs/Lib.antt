@@ -21,3 +21,15 @@ pub mod CollapsedIdle
 pub mod CollapsedShared
 pub mod CollapsedNodes
 pub mod CollapsedSites
+pub mod NamedExprs
+pub mod Staying
+pub mod Ordered
+pub mod PairColumns
+pub mod PairFrames
+pub mod PairRefines
+pub mod CacheLists
+pub mod Counted
+pub mod Links
+pub mod Refining
+pub mod Shapes
+pub mod Kept

@@ -32,7 +32,7 @@ ghost use Rattle.plan_meaning.specs.Marks.{unmarked};
 ghost use Rattle.plan_meaning.specs.Relating.{Refines};
 ghost use Rattle.plan_meaning.specs.Scans.{Keeps, nodes, scans};
 ghost use Rattle.plan_meaning.specs.Steps.{IsValid};
-ghost use Rattle.plan_cluster_laws.specs.Cached.{Became};
+ghost use Rattle.plan_collapse_laws.specs.Cached.{Became};
 ghost use Rattle.plan_collapse_laws.specs.Collapsed.{collapsed};
 ghost use Rattle.plan_collapse_laws.specs.Sites.{AreIdle, IsCollapsed, join_sites};
 ghost use Rattle.plan_collapse_laws.specs.WorkedJoins.{BecomesCondition, BecomesEquality, BecomesInequality, BeginsAgain, LeavesRest, StaysInOrder, StaysUnderSum, TakesTwo};

@@ -9,3 +9,8 @@ pub mod Reorders
 pub mod WorkedDemands
 pub mod Counted
 pub mod WorkedCounts
+pub mod CacheSites
+pub mod Handled
+pub mod SideBySide
+pub mod CacheStates
+pub mod WorkedCaches

@@ -1,5 +1,0 @@
-use Rattle.plan_cache_laws.proofs.HandledRefines.{handled_refines}
-use Rattle.plan_cache_laws.proofs.cache_laws.handled_caches_refine.Goals as goal
-
-pub returns : goal.returns
-returns c = λ differ id p v. handled_refines differ id p v

@@ -1,5 +1,0 @@
-use Rattle.plan_cluster_laws.proofs.Shapes.{clustered_is}
-use Rattle.plan_cluster_laws.proofs.addition_laws.clustering_makes_clustered_plans.Goals as goal
-
-pub returns : goal.returns
-returns c = λ p v. clustered_is p v
