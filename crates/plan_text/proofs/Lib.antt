@@ -2,3 +2,5 @@
 pub mod FloatLemmas
 pub mod DepthLemmas
 pub mod TextLemmas
+pub mod ListLemmas
+mod ObjectLemmas

@@ -11,7 +11,8 @@ use crate::nodes::node_entries;
 use plan_core::Arena;
 use plan_expr::AExpr;
 use plan_ir::{IR, PlanCopy};
-use plan_text_values::{each_entry, object};
+use crate::lists::each_entry;
+use crate::values::object;
 use serde_json::{Value, json};
 use std::alloc::{AllocError, Global};
 
