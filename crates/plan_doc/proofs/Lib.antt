@@ -2,3 +2,4 @@
 pub mod ReadingLemmas
 pub mod TableLemmas
 pub mod FormedLemmas
+

@@ -17,7 +17,7 @@ use Rattle.plan_doc.specs.declared.document.ReadError.TheVariants as errors
 use Rattle.plan_doc_parts.specs.Parts.{◌>>=◌, entries_of, each, nullable, number_of, link_of}
 use Rattle.plan_doc_parts.specs.Members.{object_of, at}
 use Rattle.plan_doc.specs.Built.{built_flags, unshared_of}
-use Rattle.plan_doc_exprs.specs.Exprs.{expr_of}
+use Rattle.plan_doc.specs.Exprs.{expr_of}
 use Rattle.plan_doc_nodes.specs.Nodes.{node_of}
 use Rattle.plan_doc.specs.Tables.{tables_of}
 

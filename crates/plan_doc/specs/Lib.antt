@@ -2,3 +2,4 @@
 pub mod Built
 pub mod Tables
 pub mod Document
+pub mod Exprs

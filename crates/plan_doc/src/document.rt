@@ -7,7 +7,7 @@ ghost use Rattle.plan_doc.specs.Document.{flags_of, named_flags as named_flags_o
 use crate::built::{built_flags, unshared};
 use crate::tables::optional_tables_at;
 use plan_core::{Arena, Node, OptFlags};
-use plan_doc_exprs::expr;
+use crate::exprs::expr;
 use plan_doc_nodes::node;
 use plan_doc_parts::{Fault, arena_of_each, entries, field, link_at, number, object};
 use plan_expr::AExpr;

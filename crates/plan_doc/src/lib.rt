@@ -3,6 +3,8 @@
 
 mod built;
 mod document;
+mod exprs;
 mod tables;
 
 pub use document::{Document, ReadError, read_document};
+pub use exprs::expr;

@@ -18,7 +18,7 @@ use Rattle.plan_expr.specs.declared.operator.Operator.{Operator}
 use Rattle.plan_doc_parts.specs.Parts.{◌>>=◌, name_of, link_of, links_of, plain_of}
 use Rattle.plan_doc_parts.specs.Members.{object_of, at}
 use Rattle.plan_doc_parts.proofs.EntryLemmas.{bind_some, some_is}
-use Rattle.plan_doc_exprs.specs.Exprs.{operator_of, column_expr_of, value_or_null, literal_of, alias_of, binary_of, ternary_keys, ternary_of, agg_named, agg_kind_of, agg_of, function_name_of, function_of, window_of, len_of, expr_of}
+use Rattle.plan_doc.specs.Exprs.{operator_of, column_expr_of, value_or_null, literal_of, alias_of, binary_of, ternary_keys, ternary_of, agg_named, agg_kind_of, agg_of, function_name_of, function_of, window_of, len_of, expr_of}
 use Rattle.plan_text.specs.Exprs.{expr_data}
 use Rattle.plan_round_trip.proofs.Gives.{gives1, gives2, gives3, gives4, gives5}
 use Rattle.plan_round_trip.proofs.Steps.{Again, first_holds, first_of, object_canonical, under, under_canonical}

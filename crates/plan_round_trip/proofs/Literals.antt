@@ -9,7 +9,7 @@ use Rattle.plan_expr.specs.declared.literal.LiteralValue.{LiteralValue}
 use Rattle.plan_expr.specs.declared.literal.LiteralValue.TheVariants as literals
 use Rattle.plan_doc_parts.specs.Parts.{name_of, integer_of, truth_of, plain_of}
 use Rattle.plan_doc_parts.proofs.EntryLemmas.{some_is}
-use Rattle.plan_doc_exprs.specs.Exprs.{value_of, value_or_null}
+use Rattle.plan_doc.specs.Exprs.{value_of, value_or_null}
 use Rattle.plan_text_pieces.specs.Kinds.{literal_text}
 use Rattle.plan_text_pieces.specs.Values.{integer_data}
 use Rattle.plan_text.specs.Exprs.{literal_data}

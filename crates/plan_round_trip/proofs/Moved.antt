@@ -15,7 +15,7 @@ use Rattle.plan_ir.specs.Parts.{condition_in, list_of, told_over}
 use Rattle.plan_join.specs.declared.options.JoinTypeOptionsIR.{JoinTypeOptionsIR}
 use Rattle.plan_join.specs.declared.options.JoinTypeOptionsIR.TheVariants as told
 use Rattle.plan_doc_parts.specs.Parts.{nullable, number_of, link_of, links_of, name_of, three_of, output_name_of, output_of, outputs_of}
-use Rattle.plan_doc_exprs.specs.Exprs.{expr_of}
+use Rattle.plan_doc.specs.Exprs.{expr_of}
 use Rattle.plan_doc_nodes.specs.Joins.{kind_options_of}
 use Rattle.plan_doc_nodes.specs.Nodes.{node_of}
 use Rattle.plan_text_pieces.specs.JoinOptions.{kind_options_data}

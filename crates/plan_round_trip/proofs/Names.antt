@@ -26,7 +26,7 @@ use Rattle.plan_scan.specs.declared.file_scan.FileScan.{FileScan}
 use Rattle.plan_scan.specs.declared.file_scan.FileScan.TheVariants as kinds
 use Rattle.plan_scan.specs.Sources.{kind_name}
 use Rattle.plan_doc_parts.specs.Parts.{name_of, type_of, type_named, plain_of, plain_named}
-use Rattle.plan_doc_exprs.specs.Exprs.{operator_of, operator_named, agg_kind_of, agg_named, function_name_of, function_named}
+use Rattle.plan_doc.specs.Exprs.{operator_of, operator_named, agg_kind_of, agg_named, function_name_of, function_named}
 use Rattle.plan_doc_nodes.specs.Joins.{how_of, how_named, coalesce_of, coalesce_named, order_of, order_named, inequality_of, inequality_named}
 use Rattle.plan_doc_nodes.specs.Rows.{keep_of, keep_named}
 use Rattle.plan_doc_scans.specs.Scans.{kind_of}

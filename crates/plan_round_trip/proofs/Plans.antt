@@ -10,7 +10,7 @@ use Rattle.plan_ir.specs.declared.ir.IR.{IR}
 use Rattle.plan_doc_parts.specs.Parts.{◌>>=◌, each, entries_of, link_of}
 use Rattle.plan_doc_parts.specs.Members.{object_of, at}
 use Rattle.plan_doc_parts.proofs.EntryLemmas.{bind_some, some_is}
-use Rattle.plan_doc_exprs.specs.Exprs.{expr_of}
+use Rattle.plan_doc.specs.Exprs.{expr_of}
 use Rattle.plan_doc_nodes.specs.Nodes.{node_of}
 use Rattle.plan_doc.specs.Document.{nodes_of, exprs_of}
 use Rattle.plan_text_pieces.specs.Values.{list_data}

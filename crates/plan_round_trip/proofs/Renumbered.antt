@@ -25,7 +25,7 @@ use Rattle.plan_ir.specs.declared.ir.IR.TheVariants as nodes
 use Rattle.plan_ir.proofs.PlanLemmas.{roots-items}
 use Rattle.plan_ir.proofs.RenumberedLemmas.{renumbered-exprs, renumbered-nodes}
 use Rattle.plan_doc_parts.specs.Parts.{nullable, number_of, integer_of, link_of, links_of, output_of, output_name_of}
-use Rattle.plan_doc_exprs.specs.Exprs.{expr_of, value_or_null}
+use Rattle.plan_doc.specs.Exprs.{expr_of, value_or_null}
 use Rattle.plan_doc_scans.specs.Functions.{frame_function_of}
 use Rattle.plan_doc_nodes.specs.Joins.{kind_options_of}
 use Rattle.plan_doc_nodes.specs.Nodes.{node_of}

@@ -19,7 +19,7 @@ use Rattle.plan_options.specs.declared.union.UnionOptions.{UnionOptions}
 use Rattle.plan_scan.specs.Stats.{Stats}
 use Rattle.plan_scan.specs.declared.sources.ScanSources.{ScanSources}
 use Rattle.plan_doc_parts.specs.Parts.{nullable, number_of, link_of, links_of, integer_of, columns_of, output_of, outputs_of, slice_of}
-use Rattle.plan_doc_exprs.specs.Exprs.{value_or_null}
+use Rattle.plan_doc.specs.Exprs.{value_or_null}
 use Rattle.plan_doc_scans.specs.Functions.{frame_function_of}
 use Rattle.plan_doc_scans.specs.Hive.{hive_parts_of}
 use Rattle.plan_doc_nodes.specs.Joins.{kind_options_of}

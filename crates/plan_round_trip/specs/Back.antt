@@ -8,7 +8,7 @@ use Rattle.plan_expr.specs.declared.aexpr.AExpr.{AExpr}
 use Rattle.plan_ir.specs.declared.ir.IR.{IR}
 use Rattle.plan_doc_parts.specs.Parts.{◌>>=◌, link_of}
 use Rattle.plan_doc_parts.specs.Members.{object_of, at}
-use Rattle.plan_doc_exprs.specs.Exprs.{expr_of}
+use Rattle.plan_doc.specs.Exprs.{expr_of}
 use Rattle.plan_doc_nodes.specs.Nodes.{node_of}
 use Rattle.plan_doc.specs.Document.{nodes_of, exprs_of}
 use Rattle.plan_round_trip.specs.Canonical.{is_canonical}

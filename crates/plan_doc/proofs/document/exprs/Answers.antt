@@ -1,6 +1,6 @@
 use Rattle.std.proofs.Common.{rules}
 use Rattle.plan_doc.specs.Document.{exprs_of}
-use Rattle.plan_doc_exprs.specs.Exprs.{expr_of}
+use Rattle.plan_doc.specs.Exprs.{expr_of}
 use Rattle.plan_doc_parts.proofs.PairLemmas.{each_is_read}
 use Rattle.plan_doc.proofs.document.exprs.Goals as goal
 

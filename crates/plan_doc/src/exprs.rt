@@ -2,7 +2,7 @@
 ghost use Rattle.serde_json.specs.View.{view};
 ghost use Rattle.plan_doc_parts.specs.Gives.{Gives, Shows};
 ghost use Rattle.plan_doc_parts.specs.Members.{object_of};
-ghost use Rattle.plan_doc_exprs.specs.Exprs.{operator_of, column_expr_of, value_of, value_or_null, literal_of, alias_of, binary_of, ternary_keys, ternary_of, agg_kind_of, agg_of, function_name_of, function_of, window_of, len_of, expr_of};
+ghost use Rattle.plan_doc.specs.Exprs.{operator_of, column_expr_of, value_of, value_or_null, literal_of, alias_of, binary_of, ternary_keys, ternary_of, agg_kind_of, agg_of, function_name_of, function_of, window_of, len_of, expr_of};
 
 use plan_core::{Node, PlainType};
 use plan_doc_parts::{
