@@ -2,4 +2,3 @@
 pub mod ReadingLemmas
 pub mod TableLemmas
 pub mod FormedLemmas
-

@@ -5,9 +5,9 @@ ghost use Rattle.plan_doc_parts.specs.Members.{object_of};
 ghost use Rattle.plan_doc.specs.Document.{flags_of, named_flags as named_flags_of, nodes_of, exprs_of, document_keys, document_of as document_at, json_of, doc_of, IsJson, IsReading};
 
 use crate::built::{built_flags, unshared};
+use crate::exprs::expr;
 use crate::tables::optional_tables_at;
 use plan_core::{Arena, Node, OptFlags};
-use crate::exprs::expr;
 use plan_doc_nodes::node;
 use plan_doc_parts::{Fault, arena_of_each, entries, field, link_at, number, object};
 use plan_expr::AExpr;

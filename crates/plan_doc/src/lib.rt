@@ -7,4 +7,3 @@ mod exprs;
 mod tables;
 
 pub use document::{Document, ReadError, read_document};
-pub use exprs::expr;

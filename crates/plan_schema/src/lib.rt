@@ -1,11 +1,11 @@
 //! Functions of whole frames: how they name columns, the columns that they give, and the checks on them.
 #![tactic(auto)]
 
+mod by_name;
 mod changes;
 mod count;
 mod explode;
 mod function;
-mod functions;
 mod names;
 mod overlay;
 mod place;
@@ -15,9 +15,9 @@ mod unpivot;
 mod unpivot_names;
 mod walk;
 
+pub use by_name::only_name;
 pub use count::count_name;
 pub use function::function_schema;
-pub use functions::only_name;
 pub use names::{check_names_known, check_names_new, is_column, set_of};
 pub use overlay::Overlay;
 pub use place::at;

@@ -7,8 +7,8 @@ ghost use Rattle.plan_schema.specs.Stored.{columns_told};
 ghost use Rattle.plan_schema.specs.Overlays.{names_in, type_in};
 
 use crate::changes::Changes;
+use crate::stored::StoredSchema;
 use plan_core::{DataType, Schema};
-use crate::StoredSchema;
 use std::alloc::{AllocError, Global};
 
 /// The types of columns by name: what functions change of them, over what a node stores.

@@ -10,11 +10,11 @@ ghost use Rattle.plan_meaning.specs.Typing.{first_schema};
 ghost use Rattle.plan_schema.specs.Stored.{given_by, stored_all};
 ghost use Rattle.plan_schema.specs.Overlays.{Shows, input_shown as shown_by};
 
-use crate::functions::{change, changes_names};
+use crate::by_name::{change, changes_names};
 use crate::overlay::Overlay;
+use crate::stored::stored_schema;
 use plan_core::{Arena, Node};
 use plan_ir::{FunctionIR, IR};
-use crate::stored_schema;
 use std::alloc::{AllocError, Global};
 
 /// The input whose columns a node has, if it has those of one.

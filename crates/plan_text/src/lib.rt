@@ -17,6 +17,4 @@ mod scan_sources;
 mod texts;
 mod values;
 
-pub use lists::each_entry;
 pub use texts::{write_fault, write_listing, write_plan, write_schema};
-pub use values::object;

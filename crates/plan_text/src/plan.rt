@@ -7,12 +7,12 @@ ghost use Rattle.plan_text.specs.Nodes.{node_data};
 ghost use Rattle.plan_text.specs.Written.{plan_data};
 
 use crate::exprs::expr_entries;
+use crate::lists::each_entry;
 use crate::nodes::node_entries;
+use crate::values::object;
 use plan_core::Arena;
 use plan_expr::AExpr;
 use plan_ir::{IR, PlanCopy};
-use crate::lists::each_entry;
-use crate::values::object;
 use serde_json::{Value, json};
 use std::alloc::{AllocError, Global};
 

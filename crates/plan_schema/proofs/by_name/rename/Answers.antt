@@ -5,7 +5,7 @@ use Rattle.plan_ir.specs.declared.functions.FunctionIR.{FunctionIR}
 use Rattle.plan_ir.specs.declared.functions.FunctionIR.TheVariants.{Rename}
 use Rattle.plan_schema.specs.Stored.{given_by}
 use Rattle.plan_schema.specs.Overlays.{Shows}
-use Rattle.plan_schema.proofs.functions.rename.Goals as goal
+use Rattle.plan_schema.proofs.by_name.rename.Goals as goal
 
 pub returns-in-Some-Some : goal.returns-in-Some-Some
 returns-in-Some-Some c = IfOk-weaker c.rename_one.result _ _ (λ fits is. λ yes s swapping shows.

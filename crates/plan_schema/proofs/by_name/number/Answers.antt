@@ -4,7 +4,7 @@ use Rattle.plan_core.specs.declared.data_type.DataType.TheVariants.{Int64}
 use Rattle.plan_expr.specs.Leaves.{Name}
 use Rattle.plan_schema.specs.Overlays.{type_in}
 use Rattle.plan_schema.proofs.FunctionLemmas.{none_there, number-shows}
-use Rattle.plan_schema.proofs.functions.number.Goals as goal
+use Rattle.plan_schema.proofs.by_name.number.Goals as goal
 
 pub returns : goal.returns
 returns c = λ yes s offset shows.

@@ -3,7 +3,7 @@ use Rattle.std.specs.Str.{bytes_eq}
 use Rattle.plan_core.specs.declared.data_type.DataType.{DataType}
 use Rattle.plan_schema.specs.Overlays.{type_in}
 use Rattle.plan_schema.proofs.FunctionLemmas.{none_there, rename-shows}
-use Rattle.plan_schema.proofs.functions.rename_one.Goals as goal
+use Rattle.plan_schema.proofs.by_name.rename_one.Goals as goal
 
 pub returns : goal.returns
 returns c = λ yes s swapping shows.

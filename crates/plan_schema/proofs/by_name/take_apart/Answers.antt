@@ -6,7 +6,7 @@ use Rattle.plan_expr.specs.Leaves.{Name}
 use Rattle.plan_frame.proofs.ScalarExprs.{item_here}
 use Rattle.plan_schema.specs.Overlays.{item_in, type_in}
 use Rattle.plan_schema.proofs.FunctionLemmas.{items-next}
-use Rattle.plan_schema.proofs.functions.take_apart.Goals as goal
+use Rattle.plan_schema.proofs.by_name.take_apart.Goals as goal
 
 pub loop-name-preserved : goal.loop-name-preserved
 loop-name-preserved c =

@@ -5,7 +5,7 @@ use Rattle.plan_ir.specs.declared.functions.FunctionIR.{FunctionIR}
 use Rattle.plan_ir.specs.declared.functions.FunctionIR.TheVariants.{Rename}
 use Rattle.plan_schema.specs.Stored.{given_by}
 use Rattle.plan_schema.specs.Overlays.{Shows}
-use Rattle.plan_schema.proofs.functions.change.Goals as goal
+use Rattle.plan_schema.proofs.by_name.change.Goals as goal
 
 pub returns-in-RowIndex : goal.returns-in-RowIndex
 returns-in-RowIndex c = IfOk-weaker c.number.result _ _ (λ fits is. λ yes s shows.
