@@ -8,6 +8,7 @@ ghost use Rattle.plan_meaning.specs.Typing.{is_list_type};
 ghost use Rattle.plan_schema.specs.Stored.{given_by};
 ghost use Rattle.plan_schema.specs.Overlays.{Shows, is_by_name, item_in, type_in, with_items};
 
+use crate::explode::item_type;
 use crate::overlay::Overlay;
 use plan_core::{DataType, PlSmallStr};
 use plan_ir::FunctionIR;
@@ -43,12 +44,12 @@ fn all_have_lists(names: &[PlSmallStr], overlay: &Overlay<'_>) -> bool
 }
 
 /// The type of the values in a column's lists, the column's own where it has no lists; none where it isn't there.
-fn item_type(dtype: Option<DataType>) -> Option<DataType>
+fn type_of_items(dtype: Option<DataType>) -> Option<DataType>
     ensures { result ≡ item_in dtype }
 {
     match dtype {
-        Some(DataType::List(plain)) => Some(DataType::from(plain)),
-        other => other,
+        Some(dtype) => Some(item_type(dtype)),
+        None => None,
     }
 }
 
@@ -61,7 +62,7 @@ fn take_apart(
     ensures { IfOk result (λ _. (a : Name) → type_in overlay.new a ≡ with_items names.now (type_in overlay.old) a) }
 {
     for name in names {
-        let dtype = item_type(overlay.get(name.as_str()));
+        let dtype = type_of_items(overlay.get(name.as_str()));
         overlay.set(alloc, name.as_str(), dtype)?;
     }
     Ok(())

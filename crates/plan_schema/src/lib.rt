@@ -1,4 +1,5 @@
-//! Functions of whole frames: how they name columns, the columns that they give, and the checks on them.
+//! Functions of whole frames: how they name columns, the columns that they give, and the checks on them; the columns that a plan says it
+//! has, by what its nodes store and by name.
 #![tactic(auto)]
 
 mod by_name;
@@ -17,6 +18,7 @@ mod walk;
 
 pub use by_name::only_name;
 pub use count::count_name;
+pub use explode::{has_lists, item_type};
 pub use function::function_schema;
 pub use names::{check_names_known, check_names_new, is_column, set_of};
 pub use overlay::Overlay;
