@@ -1,1 +1,13 @@
 -- The lemmas.
+pub mod Beside
+pub mod Brings
+pub mod InTurn
+pub mod Inputs
+pub mod Listed
+pub mod Operands
+pub mod Repeats
+pub mod Sizes
+pub mod Tends
+pub mod Told
+pub mod Visits
+pub mod Within

@@ -2,8 +2,13 @@
 #![tactic(auto)]
 
 mod boxed;
+mod exprs;
+mod items;
+mod nodes;
 mod rule;
 mod stack;
+mod walks;
+mod work;
 
 pub use boxed::BoxedRule;
 pub use plan_rule::{OptimizationRule, RuleKind};

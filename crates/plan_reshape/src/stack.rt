@@ -11,15 +11,15 @@ ghost use Rattle.plan_meaning.specs.Steps.{IsValid};
 ghost use Rattle.plan_pass_laws.specs.Becoming.{Becomes};
 ghost use Rattle.plan_rule_laws.specs.Clearing.{Cleared};
 ghost use Rattle.plan_rule_laws.specs.Settling.{Settles};
-ghost use Rattle.plan_rule_walks.specs.Walking.{all_own};
+ghost use Rattle.plan_reshape.specs.Walking.{all_own};
 
 use crate::boxed::BoxedRule;
 use crate::rule::Rule;
+use crate::walks::repeat;
 use plan_core::{Arena, Node, PolarsResult};
 use plan_expr::AExpr;
 use plan_ir::IR;
 use plan_rule::OptimizationRule;
-use plan_rule_walks::repeat;
 use std::alloc::Global;
 
 /// Calls rules over a plan until none of them finds its pattern.

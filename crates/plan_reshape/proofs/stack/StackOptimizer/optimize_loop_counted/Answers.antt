@@ -1,7 +1,7 @@
 use Rattle.std.proofs.Common.{arith, ◌≡◌, ◌+◌, ◌≤◌, ◌∙◌, ap, append-nil, map}
 use Rattle.plan_meaning.specs.PlanAt.{plan_at}
 use Rattle.plan_rule_laws.proofs.ClearedPlans.{cleared_weight}
-use Rattle.plan_rule_walks.specs.Walking.{all_own}
+use Rattle.plan_reshape.specs.Walking.{all_own}
 use Rattle.plan_reshape.proofs.stack.StackOptimizer.optimize_loop_counted.Goals as goal
 
 pub returns-clause-settles : goal.returns-clause-settles
