@@ -5,7 +5,7 @@ ghost use Rattle.std.specs.List.{list_all};
 ghost use Rattle.plan_core.specs.Columns.{StandsAt, type_of};
 ghost use Rattle.plan_ir.specs.declared.functions.FunctionIR.TheVariants.{Explode, Rename, RowIndex};
 ghost use Rattle.plan_ir.specs.Plans.{map_function};
-ghost use Rattle.plan_frame.specs.Reshaped.{exploded_columns, renamed_columns};
+ghost use Rattle.plan_frame.specs.Reshaped.{exploded_columns, item_type as type_of_items, renamed_columns};
 ghost use Rattle.plan_meaning.specs.Functions.{renamed};
 ghost use Rattle.plan_meaning.specs.Typing.{is_list_type};
 ghost use Rattle.plan_meaning.specs.Typed.{IsNodeTyped};
@@ -13,7 +13,7 @@ ghost use Rattle.plan_check.specs.InPlace.{IsChanged};
 
 use plan_core::{DataType, Node, PlSmallStr, PolarsResult, Schema, TryClone};
 use plan_ir::FunctionIR;
-use plan_schema::{function_schema, has_lists, item_type};
+use plan_schema::function_schema;
 use std::alloc::{AllocError, Global};
 
 /// Puts the number of the rows before the columns. Says whether that can be; if not, the columns stay. Refuses for want of memory
@@ -89,11 +89,31 @@ fn rename(
     }
 }
 
+/// Whether a column is there, and has lists.
+fn has_lists(name: &str, columns: &Schema) -> bool
+    ensures { result ≡ is_list_type (type_of columns.now name.now) }
+{
+    match columns.get(name) {
+        None => false,
+        Some(dtype) => dtype.plain_type().is_none(),
+    }
+}
+
 /// Whether all these columns are there, and have lists.
 fn all_have_lists(names: &[PlSmallStr], columns: &Schema) -> bool
     ensures { result ≡ list_all (λ a. is_list_type (type_of columns.now a)) names.now }
 {
-    names.iter().all(|name| has_lists(columns, name.as_str()))
+    names.iter().all(|name| has_lists(name.as_str(), columns))
+}
+
+/// The type of the values in a column's lists, the column's own where it has no lists.
+fn item_type(dtype: DataType) -> DataType
+    ensures { result ≡ type_of_items dtype }
+{
+    match dtype {
+        DataType::Int64 | DataType::String | DataType::Boolean => dtype,
+        DataType::List(plain) => DataType::from(plain),
+    }
 }
 
 /// Takes the lists of these columns apart. Refuses for want of memory alone, and then nothing is known of the columns.

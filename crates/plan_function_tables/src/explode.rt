@@ -3,18 +3,28 @@
 ghost use Rattle.std.specs.Prelude.{◌≡◌, ◌++◌, [], map, IfOk, OnOk, false, true, if◌then◌else◌};
 ghost use Rattle.std.specs.List.{filter as only_where};
 ghost use Rattle.plan_core.specs.Columns.{HasDistinctNames};
-ghost use Rattle.plan_core.specs.Names.{has};
+ghost use Rattle.plan_core.specs.Names.{has, with_names};
 ghost use Rattle.plan_frame.specs.Frames.{row as row_of};
 ghost use Rattle.plan_frame.specs.Reshaped.{exploded_columns as exploded_types, item_type as type_of_items, alone as stands_alone, exploded as exploded_of, exploded_values, items};
 ghost use Rattle.plan_table.specs.Tables.{types_of};
 ghost use Rattle.plan_value.specs.Shown.{columns_shown, frame_of, schema_of, single_of, value_of, values_of};
 ghost use Rattle.plan_function_tables.specs.Explode.{borrowed_columns, columns_over, longest as longest_of, row_places, rows_by};
 
-use plan_core::{Items, Names, PlSmallStr, TryClone};
-use plan_schema::{item_type, set_of};
+use plan_core::{DataType, Items, Names, PlSmallStr, TryClone};
 use plan_table::{AnyValue, Column, Columns, PlainValue, Table};
 use plan_value::value_in;
 use std::alloc::{AllocError, Global};
+
+/// The names of a list, each once.
+fn set_of(alloc: Global, names: &[PlSmallStr]) -> Result<Names, AllocError>
+    ensures { IfOk result (λ set. set ≡ with_names [] names.now) }
+{
+    let mut set = Names::new(alloc);
+    for name in names {
+        let _ = set.add(name.as_str())?;
+    }
+    Ok(set)
+}
 
 /// The columns of these names, in the order of the table.
 fn columns_apart<'a>(
@@ -145,6 +155,16 @@ fn repeated(
         made.push(value_in(alloc, values, *row)?)?;
     }
     Ok(made)
+}
+
+/// The type of the values in a column's lists, the column's own where it has no lists.
+fn item_type(dtype: DataType) -> DataType
+    ensures { result ≡ type_of_items dtype }
+{
+    match dtype {
+        DataType::Int64 | DataType::String | DataType::Boolean => dtype,
+        DataType::List(plain) => DataType::from(plain),
+    }
 }
 
 /// The column over these rows, taken apart where it is among these names.

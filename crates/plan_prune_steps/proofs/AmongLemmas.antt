@@ -9,9 +9,9 @@ use Rattle.plan_expr.specs.Leaves.{Name}
 use Rattle.plan_frame.proofs.NameSets.{has_back, has_either, has_first, has_front, has_later, only, same_named, some-type_of}
 use Rattle.plan_pruned.proofs.ListSteps.{take-next}
 use Rattle.plan_schema.specs.Stored.{columns_told}
-use Rattle.plan_schema.specs.declared.overlay.Overlay.{Overlay}
-use Rattle.plan_schema.specs.Overlays.{Shows, names_in, names_told, type_in}
-use Rattle.plan_schema.proofs.NameLemmas.{told-if-there}
+use Rattle.plan_overlay.specs.declared.overlay.Overlay.{Overlay}
+use Rattle.plan_overlay.specs.Overlays.{Shows, names_in, names_told, type_in}
+use Rattle.plan_overlay.proofs.NameLemmas.{told-if-there}
 use Rattle.plan_prune_steps.specs.Among.{AreAmong}
 
 -- one name more

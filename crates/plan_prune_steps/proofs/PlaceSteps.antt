@@ -16,9 +16,9 @@ use Rattle.plan_frame.proofs.NameSets.{adds_name, has_cons, same_named}
 use Rattle.plan_pruned.proofs.ListSteps.{Differs, before_differ, take-next}
 use Rattle.plan_pruned.proofs.NameSteps.{where-next, where-skip}
 use Rattle.plan_schema.specs.Stored.{columns_told}
-use Rattle.plan_schema.specs.declared.overlay.Overlay.{Overlay}
-use Rattle.plan_schema.specs.Overlays.{names_in, names_told, type_in}
-use Rattle.plan_schema.proofs.NameLemmas.{told-if-there}
+use Rattle.plan_overlay.specs.declared.overlay.Overlay.{Overlay}
+use Rattle.plan_overlay.specs.Overlays.{names_in, names_told, type_in}
+use Rattle.plan_overlay.proofs.NameLemmas.{told-if-there}
 use Rattle.plan_prune_steps.specs.Places.{places_in}
 
 -- what a set with text keys says of places

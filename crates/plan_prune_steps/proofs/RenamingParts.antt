@@ -6,8 +6,8 @@ use Rattle.plan_core.specs.Columns.{Columns, names_of, type_of}
 use Rattle.plan_expr.specs.Leaves.{Name}
 use Rattle.plan_frame.proofs.NameSets.{named, same_named}
 use Rattle.plan_meaning.specs.Functions.{former, renamed}
-use Rattle.plan_schema.specs.declared.overlay.Overlay.{Overlay}
-use Rattle.plan_schema.specs.Overlays.{Shows, type_in}
+use Rattle.plan_overlay.specs.declared.overlay.Overlay.{Overlay}
+use Rattle.plan_overlay.specs.Overlays.{Shows, type_in}
 use Rattle.plan_prune_steps.specs.Renaming.{old_in, own_in}
 
 former_types : (old new : Name) (s : Columns) (a : Name) → type_of s new ≡ None → former (renamed (old ∷ []) (new ∷ [])) (names_of s) a ≡ old_in (type_of s) old new a

@@ -5,13 +5,13 @@ ghost use Rattle.plan_core.specs.Names.{with_names};
 ghost use Rattle.plan_tree.specs.Stands.{Trees, StandsOnce};
 ghost use Rattle.plan_expr.specs.declared.aexpr.AExpr.{AExpr};
 ghost use Rattle.plan_ir.specs.Parts.{plan_shape};
-ghost use Rattle.plan_schema.specs.Overlays.{names_in, names_told};
+ghost use Rattle.plan_overlay.specs.Overlays.{names_in, names_told};
 ghost use Rattle.plan_prune_parts.specs.Said.{columns_at};
 ghost use Rattle.plan_prune_steps.specs.Among.{AreAmong};
 
 use plan_core::{Arena, Names, Node, Schema};
 use plan_ir::IR;
-use plan_schema::{Overlay, overlay_at};
+use plan_overlay::{Overlay, overlay_at};
 use std::alloc::{AllocError, Global};
 
 /// Whether all columns are among names.

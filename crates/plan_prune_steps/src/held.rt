@@ -9,7 +9,7 @@ ghost use Rattle.plan_expr.specs.declared.aexpr.AExpr.{AExpr};
 ghost use Rattle.plan_expr.specs.Leaves.{Name};
 ghost use Rattle.plan_ir.specs.Parts.{plan_shape};
 ghost use Rattle.plan_pruned.specs.Pruned.{held_names};
-ghost use Rattle.plan_schema.specs.Overlays.{names_in, names_told, type_in};
+ghost use Rattle.plan_overlay.specs.Overlays.{names_in, names_told, type_in};
 ghost use Rattle.plan_prune_parts.specs.Said.{columns_at};
 ghost use Rattle.plan_prune_steps.specs.Places.{places_in};
 
@@ -17,7 +17,7 @@ use crate::known::known;
 use crate::places::Places;
 use plan_core::{Arena, Names, Node, Schema};
 use plan_ir::IR;
-use plan_schema::{Overlay, overlay_at};
+use plan_overlay::{Overlay, overlay_at};
 use std::alloc::{AllocError, Global};
 
 /// Adds the place of a name, if it has one. Refuses for want of memory alone.

@@ -4,12 +4,12 @@ ghost use Rattle.plan_tree.specs.Stands.{Trees, StandsOnce};
 ghost use Rattle.plan_expr.specs.declared.aexpr.AExpr.{AExpr};
 ghost use Rattle.plan_ir.specs.Parts.{plan_shape};
 ghost use Rattle.plan_pruned.specs.Pruned.{held_names};
-ghost use Rattle.plan_schema.specs.Overlays.{type_in};
+ghost use Rattle.plan_overlay.specs.Overlays.{type_in};
 ghost use Rattle.plan_prune_parts.specs.Said.{columns_at};
 
 use plan_core::{Arena, Names, Node};
 use plan_ir::IR;
-use plan_schema::{Overlay, overlay_at};
+use plan_overlay::{Overlay, overlay_at};
 use std::alloc::{AllocError, Global};
 
 /// The names that are columns, in their order. Refuses for want of memory alone.

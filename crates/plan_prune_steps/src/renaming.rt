@@ -6,13 +6,13 @@ ghost use Rattle.plan_tree.specs.Stands.{Trees, StandsOnce};
 ghost use Rattle.plan_expr.specs.declared.aexpr.AExpr.{AExpr};
 ghost use Rattle.plan_ir.specs.Parts.{plan_shape};
 ghost use Rattle.plan_meaning.specs.Functions.{former, renamed};
-ghost use Rattle.plan_schema.specs.Overlays.{Shows, type_in};
+ghost use Rattle.plan_overlay.specs.Overlays.{Shows, type_in};
 ghost use Rattle.plan_prune_parts.specs.Said.{columns_at};
 ghost use Rattle.plan_prune_steps.specs.Renaming.{old_in};
 
 use plan_core::{Arena, Names, Node, PlSmallStr};
 use plan_ir::IR;
-use plan_schema::{Overlay, only_name, overlay_at};
+use plan_overlay::{Overlay, only_name, overlay_at};
 use std::alloc::{AllocError, Global};
 
 /// The name, if a column has it.

@@ -4,7 +4,3 @@ pub mod RenameLemmas
 pub mod UnpivotColumns
 pub mod StoredLemmas
 pub mod StoredNodes
-pub mod ChangeLemmas
-pub mod FunctionLemmas
-mod WalkLemmas
-pub mod NameLemmas

@@ -1,3 +1,2 @@
 -- The definitions that contracts cite.
 pub mod Stored
-pub mod Overlays

@@ -16,7 +16,7 @@ use plan_core::{DataType, Names, Node, PlSmallStr, PolarsError, PolarsResult, Sc
 use std::alloc::{AllocError, Global};
 
 /// Whether the schema has the column, with a type of lists.
-pub fn has_lists(schema: &Schema, name: &str) -> bool
+fn has_lists(schema: &Schema, name: &str) -> bool
     ensures { result ≡ is_list_type (type_of schema.now name.now) }
 {
     match schema.get(name) {
@@ -26,7 +26,7 @@ pub fn has_lists(schema: &Schema, name: &str) -> bool
 }
 
 /// The type of the values in a column's lists, the column's own where it has no lists.
-pub fn item_type(dtype: DataType) -> DataType
+fn item_type(dtype: DataType) -> DataType
     ensures { result ≡ type_of_items dtype }
 {
     match dtype {

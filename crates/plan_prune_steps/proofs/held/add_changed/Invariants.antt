@@ -1,5 +1,5 @@
 use Rattle.std.proofs.Common.{◌≡◌, ◌++◌, take}
-use Rattle.plan_schema.specs.Overlays.{names_in}
+use Rattle.plan_overlay.specs.Overlays.{names_in}
 use Rattle.plan_prune_steps.specs.Places.{places_in}
 use Rattle.plan_prune_steps.proofs.held.add_changed.Given as goal
 

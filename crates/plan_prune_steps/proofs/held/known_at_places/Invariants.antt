@@ -1,6 +1,6 @@
 use Rattle.std.proofs.Common.{is_some}
 use Rattle.plan_expr.specs.Leaves.{Name}
-use Rattle.plan_schema.specs.Overlays.{type_in}
+use Rattle.plan_overlay.specs.Overlays.{type_in}
 use Rattle.plan_prune_steps.proofs.PlaceSteps.{UpTo}
 use Rattle.plan_prune_steps.proofs.held.known_at_places.Given as goal
 

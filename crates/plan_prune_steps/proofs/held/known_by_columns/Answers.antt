@@ -1,7 +1,7 @@
 use Rattle.std.proofs.Common.{subst, sym, ℕ, List}
 use Rattle.std.specs.List.Sorted.{IsPermutation}
 use Rattle.plan_expr.specs.Leaves.{Name}
-use Rattle.plan_schema.specs.Overlays.{names_told}
+use Rattle.plan_overlay.specs.Overlays.{names_told}
 use Rattle.plan_prune_steps.specs.Places.{places_in}
 use Rattle.plan_prune_steps.proofs.PlaceSteps.{all-found}
 use Rattle.plan_prune_steps.proofs.held.known_by_columns.Goals as goal

@@ -1,7 +1,7 @@
 use Rattle.std.proofs.Common.{◌∙◌, ◌++◌, ap, subst, ℕ, List}
 use Rattle.std.specs.List.Sorted.{IsPermutation}
 use Rattle.plan_core.specs.Columns.{Columns, names_of}
-use Rattle.plan_schema.specs.Overlays.{names_in}
+use Rattle.plan_overlay.specs.Overlays.{names_in}
 use Rattle.plan_prune_steps.specs.Places.{places_in}
 use Rattle.plan_prune_steps.proofs.PlaceSteps.{places-both}
 use Rattle.plan_prune_steps.proofs.held.places_told.Goals as goal

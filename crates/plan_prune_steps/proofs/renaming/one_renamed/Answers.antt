@@ -1,5 +1,5 @@
 use Rattle.std.proofs.Common.{◌∙◌, sym}
-use Rattle.plan_schema.proofs.FunctionLemmas.{none_there}
+use Rattle.plan_overlay.proofs.FunctionLemmas.{none_there}
 use Rattle.plan_prune_parts.specs.Said.{columns_at}
 use Rattle.plan_prune_steps.proofs.renaming.one_renamed.Goals as goal
 

@@ -1,0 +1,155 @@
+//! What functions change of the columns below them.
+ghost use Rattle.std.specs.Prelude.{◌≡◌, Bool, Option, ℕ, IfOk, IfSome, IsTrue, MatchOption, [], ◌∷◌, length};
+ghost use Rattle.std.specs.List.{list_all};
+ghost use Rattle.plan_core.specs.Columns.{Columns};
+ghost use Rattle.plan_ir.specs.declared.functions.FunctionIR.TheVariants.{Explode, Rename, RowIndex};
+ghost use Rattle.plan_expr.specs.Leaves.{Name};
+ghost use Rattle.plan_meaning.specs.Typing.{is_list_type};
+ghost use Rattle.plan_schema.specs.Stored.{given_by};
+ghost use Rattle.plan_overlay.specs.Overlays.{Shows, is_by_name, item_in, type_in, with_items};
+
+use crate::overlay::Overlay;
+use plan_core::{DataType, PlSmallStr};
+use plan_ir::FunctionIR;
+use std::alloc::{AllocError, Global};
+
+/// Puts the number of the rows before the columns. Says whether that can be; if not, the overlay stays. Refuses for want of memory
+/// alone.
+fn number(alloc: Global, name: &PlSmallStr, overlay: &mut Overlay<'_>) -> Result<bool, AllocError>
+    ensures { IfOk result (λ fits. IsTrue fits → (s : Columns) (offset : Option ℕ) → Shows overlay.old s → Shows overlay.new (given_by (RowIndex name.now offset) s)) }
+{
+    if overlay.get(name.as_str()).is_some() {
+        return Ok(false);
+    }
+    overlay.set(alloc, name.as_str(), Some(DataType::Int64))?;
+    Ok(true)
+}
+
+/// Whether a column is there, and has lists.
+fn has_lists(name: &str, overlay: &Overlay<'_>) -> bool
+    ensures { result ≡ is_list_type (type_in overlay.now name.now) }
+{
+    match overlay.get(name) {
+        None => false,
+        Some(dtype) => dtype.plain_type().is_none(),
+    }
+}
+
+/// Whether all these columns are there, and have lists.
+fn all_have_lists(names: &[PlSmallStr], overlay: &Overlay<'_>) -> bool
+    ensures { result ≡ list_all (λ a. is_list_type (type_in overlay.now a)) names.now }
+{
+    names.iter().all(|name| has_lists(name.as_str(), overlay))
+}
+
+/// The type of the values in a column's lists, the column's own where it has no lists; none where it isn't there.
+fn item_type(dtype: Option<DataType>) -> Option<DataType>
+    ensures { result ≡ item_in dtype }
+{
+    match dtype {
+        Some(DataType::List(plain)) => Some(DataType::from(plain)),
+        other => other,
+    }
+}
+
+/// Takes lists apart. Refuses for want of memory alone.
+fn take_apart(
+    alloc: Global,
+    names: &[PlSmallStr],
+    overlay: &mut Overlay<'_>,
+) -> Result<(), AllocError>
+    ensures { IfOk result (λ _. (a : Name) → type_in overlay.new a ≡ with_items names.now (type_in overlay.old) a) }
+{
+    for name in names {
+        let dtype = item_type(overlay.get(name.as_str()));
+        overlay.set(alloc, name.as_str(), dtype)?;
+    }
+    Ok(())
+}
+
+/// Takes the lists of these columns apart. Says whether that can be; if not, the overlay stays. Refuses for want of memory alone.
+fn explode(
+    alloc: Global,
+    names: &[PlSmallStr],
+    overlay: &mut Overlay<'_>,
+) -> Result<bool, AllocError>
+    ensures { IfOk result (λ fits. IsTrue fits → (s : Columns) → Shows overlay.old s → Shows overlay.new (given_by (Explode names.now) s)) }
+{
+    if !all_have_lists(names, overlay) {
+        return Ok(false);
+    }
+    take_apart(alloc, names, overlay)?;
+    Ok(true)
+}
+
+/// The only name of a list, if it has one name.
+pub fn only_name(names: &[PlSmallStr]) -> Option<&str>
+    ensures { MatchOption result (length names.now ≡ 1 → ⊥) (λ a. names.now ≡ a.now ∷ []) }
+{
+    if names.len() == 1 {
+        return Some(names[0].as_str());
+    }
+    None
+}
+
+/// Gives a column another name, which none has. Refuses for want of memory alone.
+fn rename_one(
+    alloc: Global,
+    old: &str,
+    new: &str,
+    overlay: &mut Overlay<'_>,
+) -> Result<bool, AllocError>
+    ensures { IfOk result (λ fits. IsTrue fits → (s : Columns) (swapping : Bool) → Shows overlay.old s → Shows overlay.new (given_by (Rename (old.now ∷ []) (new.now ∷ []) swapping) s)) }
+{
+    if overlay.get(new).is_some() {
+        return Ok(false);
+    }
+    let dtype = overlay.get(old);
+    overlay.set(alloc, old, None)?;
+    overlay.set(alloc, new, dtype)?;
+    Ok(true)
+}
+
+/// Gives a column another name. Says whether it does: where one column gets a name that none has. If not, the overlay stays. Refuses
+/// for want of memory alone.
+fn rename(
+    alloc: Global,
+    existing: &[PlSmallStr],
+    new: &[PlSmallStr],
+    overlay: &mut Overlay<'_>,
+) -> Result<bool, AllocError>
+    ensures { IfOk result (λ fits. IsTrue fits → (s : Columns) (swapping : Bool) → Shows overlay.old s → Shows overlay.new (given_by (Rename existing.now new.now swapping) s)) }
+{
+    match (only_name(existing), only_name(new)) {
+        (Some(old), Some(new)) => rename_one(alloc, old, new, overlay),
+        _ => Ok(false),
+    }
+}
+
+/// Whether what a function changes can be put over columns by name.
+pub fn changes_names(function: &FunctionIR) -> bool
+    ensures { result ≡ is_by_name function.now }
+{
+    matches!(
+        function,
+        FunctionIR::RowIndex { .. } | FunctionIR::Explode { .. } | FunctionIR::Rename { .. }
+    )
+}
+
+/// Changes the columns as a function does. Says whether it does. Refuses for want of memory alone.
+pub fn change(
+    alloc: Global,
+    function: &FunctionIR,
+    overlay: &mut Overlay<'_>,
+) -> Result<bool, AllocError>
+    ensures { IfOk result (λ fits. IsTrue fits → (s : Columns) → Shows overlay.old s → Shows overlay.new (given_by function.now s)) }
+{
+    match function {
+        FunctionIR::RowIndex { name, .. } => number(alloc, name, overlay),
+        FunctionIR::Explode { columns } => explode(alloc, columns.as_slice(), overlay),
+        FunctionIR::Rename { existing, new, .. } => {
+            rename(alloc, existing.as_slice(), new.as_slice(), overlay)
+        }
+        _ => Ok(false),
+    }
+}
