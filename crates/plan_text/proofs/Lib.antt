@@ -2,5 +2,3 @@
 pub mod FloatLemmas
 pub mod DepthLemmas
 pub mod TextLemmas
-pub mod ListLemmas
-mod ObjectLemmas

@@ -3,4 +3,3 @@ pub mod Exprs
 pub mod Nodes
 pub mod Rows
 pub mod Written
-pub mod Lists

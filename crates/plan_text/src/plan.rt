@@ -7,12 +7,11 @@ ghost use Rattle.plan_text.specs.Nodes.{node_data};
 ghost use Rattle.plan_text.specs.Written.{plan_data};
 
 use crate::exprs::expr_entries;
-use crate::lists::each_entry;
 use crate::nodes::node_entries;
-use crate::values::object;
 use plan_core::Arena;
 use plan_expr::AExpr;
 use plan_ir::{IR, PlanCopy};
+use plan_text_values::{each_entry, object};
 use serde_json::{Value, json};
 use std::alloc::{AllocError, Global};
 
