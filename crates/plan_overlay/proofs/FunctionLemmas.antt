@@ -259,6 +259,11 @@ pub none_there : (d : Option DataType) → is_some d ≡ false → d ≡ None
 none_there None e = refl
 none_there (Some t) e = cc
 
+-- a column that isn't there once another one is gone was not there before
+pub none_before : (t : Bool) (d e : Option DataType) → t ≡ false → d ≡ cond t None e → is_some d ≡ false → e ≡ None
+none_before true d e f g h = cc
+none_before false d e f g h = sym g ∙ none_there d h
+
 -- the names before the next place, with the name at this one
 has-next : (names : List Name) (i : ℕ) (n a : Name) → slice_get names i ≡ Some n → has (take (i + 1) names) a ≡ (has (take i names) a || bytes_eq a n)
 has-next names i n a e = rw (add-one i) (go names i e)
