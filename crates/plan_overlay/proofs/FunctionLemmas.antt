@@ -1,11 +1,10 @@
 -- What functions make of columns, name by name.
-use Rattle.std.proofs.Common.{◌≡◌, Bool, true, false, not, cond, ◌&&◌, ◌||◌, ℕ, zero, suc, ◌+◌, List, [], ◌∷◌, ◌++◌, Option, Some, None, is_some, unwrap_or, take, map, refl, sym, ap, ap₂, ◌∙◌, add-one}
+use Rattle.std.proofs.Common.{◌≡◌, Bool, true, false, not, cond, ◌&&◌, ◌||◌, ℕ, zero, suc, ◌+◌, List, [], ◌∷◌, ◌++◌, Option, Some, None, is_some, unwrap_or, take, refl, sym, ap, ap₂, ◌∙◌, add-one}
 use Rattle.std.specs.List.{AllByRecursion, list_all, list_any, slice_get}
 use Rattle.std.specs.Str.{bytes_eq}
 use Rattle.std.proofs.lemmas.Bool.{and_parts}
 use Rattle.plan_core.specs.declared.data_type.DataType.{DataType}
 use Rattle.plan_core.specs.declared.data_type.DataType.TheVariants.{Int64, String, Boolean, List as ListOf}
-use Rattle.plan_core.specs.declared.data_type.PlainType.{PlainType}
 use Rattle.plan_core.specs.declared.data_type.PlainType.TheVariants as plains
 use Rattle.plan_core.specs.declared.error.PolarsError.TheVariants.{SchemaFieldNotFound, SchemaMismatch}
 use Rattle.plan_core.specs.Columns.{Columns, names_of, type_of}
@@ -13,7 +12,7 @@ use Rattle.plan_core.specs.Names.{has}
 use Rattle.plan_expr.specs.Leaves.{Name}
 use Rattle.plan_ir.specs.declared.functions.FunctionIR.TheVariants.{Explode, Rename, RowIndex}
 use Rattle.plan_frame.specs.Reshaped.{exploded_columns, item_type, renamed_columns}
-use Rattle.plan_frame.proofs.NameSets.{named, same_named, has_cons, has_first, has_later, some-type_of}
+use Rattle.plan_frame.proofs.NameSets.{named, same_named, has_first, has_later, some-type_of}
 use Rattle.plan_meaning.specs.Checks.{Check, each, is_known}
 use Rattle.plan_meaning.specs.Functions.{become_one, renamed, stay_apart}
 use Rattle.plan_meaning.specs.Typing.{AllHold, explode_checks, is_list_type, rename_checks, row_index_checks}

@@ -1,5 +1,5 @@
 -- Each column is one of the names of which something is known.
-use Rattle.std.proofs.Common.{◌≡◌, Bool, true, false, cond, Bor, ◌||◌, ℕ, List, [], ◌∷◌, ◌++◌, map, Option, Some, None, is_some, unwrap_or, refl, sym, ap, ◌∙◌}
+use Rattle.std.proofs.Common.{◌≡◌, Bool, true, false, cond, Bor, ◌||◌, ℕ, List, [], ◌∷◌, Option, Some, None, is_some, unwrap_or, refl, sym, ap, ◌∙◌}
 use Rattle.std.specs.List.{slice_get}
 use Rattle.std.specs.Str.{bytes_eq}
 use Rattle.std.specs.Prelude.{option_map}

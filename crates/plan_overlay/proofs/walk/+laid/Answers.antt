@@ -41,4 +41,4 @@ returns-then-changes_names t c =
     ∙ ap (λ (s : Columns). type_of s a) (stored_open c.args.lp.now ex c.args.node p c.requires e)) c.change.ensures
 
 pub returns : goal.returns
-returns t c = λ yes ex a. c.in_ok-with_capacity.ensures a ∙ ap (λ (s : Columns). type_of s a) (c.in_ok-stored.ensures.stored ex)
+returns t c = λ yes ex a. c.in_ok-overlay.ensures a ∙ ap (λ (s : Columns). type_of s a) (c.in_ok-stored.ensures.stored ex)
