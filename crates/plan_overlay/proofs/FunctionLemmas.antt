@@ -1,11 +1,10 @@
 -- What functions make of columns, name by name.
-use Rattle.std.proofs.Common.{◌≡◌, Bool, true, false, not, cond, ◌&&◌, ◌||◌, ℕ, zero, suc, ◌+◌, List, [], ◌∷◌, ◌++◌, Option, Some, None, is_some, unwrap_or, take, map, refl, sym, ap, ap₂, ◌∙◌, add-one}
+use Rattle.std.proofs.Common.{◌≡◌, Bool, true, false, not, cond, ◌&&◌, ◌||◌, ℕ, zero, suc, ◌+◌, List, [], ◌∷◌, ◌++◌, Option, Some, None, is_some, unwrap_or, take, refl, sym, ap, ap₂, ◌∙◌, add-one}
 use Rattle.std.specs.List.{AllByRecursion, list_all, list_any, slice_get}
 use Rattle.std.specs.Str.{bytes_eq}
 use Rattle.std.proofs.lemmas.Bool.{and_parts}
 use Rattle.plan_core.specs.declared.data_type.DataType.{DataType}
 use Rattle.plan_core.specs.declared.data_type.DataType.TheVariants.{Int64, String, Boolean, List as ListOf}
-use Rattle.plan_core.specs.declared.data_type.PlainType.{PlainType}
 use Rattle.plan_core.specs.declared.data_type.PlainType.TheVariants as plains
 use Rattle.plan_core.specs.declared.error.PolarsError.TheVariants.{SchemaFieldNotFound, SchemaMismatch}
 use Rattle.plan_core.specs.Columns.{Columns, names_of, type_of}
@@ -13,7 +12,7 @@ use Rattle.plan_core.specs.Names.{has}
 use Rattle.plan_expr.specs.Leaves.{Name}
 use Rattle.plan_ir.specs.declared.functions.FunctionIR.TheVariants.{Explode, Rename, RowIndex}
 use Rattle.plan_frame.specs.Reshaped.{exploded_columns, item_type, renamed_columns}
-use Rattle.plan_frame.proofs.NameSets.{named, same_named, has_cons, has_first, has_later, some-type_of}
+use Rattle.plan_frame.proofs.NameSets.{named, same_named, has_first, has_later, some-type_of}
 use Rattle.plan_meaning.specs.Checks.{Check, each, is_known}
 use Rattle.plan_meaning.specs.Functions.{become_one, renamed, stay_apart}
 use Rattle.plan_meaning.specs.Typing.{AllHold, explode_checks, is_list_type, rename_checks, row_index_checks}
@@ -258,6 +257,11 @@ rename-shows o p old new swapping s fresh put shows a =
 pub none_there : (d : Option DataType) → is_some d ≡ false → d ≡ None
 none_there None e = refl
 none_there (Some t) e = cc
+
+-- a column that isn't there once another one is gone was not there before
+pub none_before : (t : Bool) (d e : Option DataType) → t ≡ false → d ≡ cond t None e → is_some d ≡ false → e ≡ None
+none_before true d e f g h = cc
+none_before false d e f g h = sym g ∙ none_there d h
 
 -- the names before the next place, with the name at this one
 has-next : (names : List Name) (i : ℕ) (n a : Name) → slice_get names i ≡ Some n → has (take (i + 1) names) a ≡ (has (take i names) a || bytes_eq a n)

@@ -1,9 +1,8 @@
 -- Each column is one of the names of which something is known.
-use Rattle.std.proofs.Common.{◌≡◌, Bool, true, false, cond, ◌||◌, ℕ, List, [], ◌∷◌, ◌++◌, map, Option, Some, None, is_some, unwrap_or, refl, sym, ap, ◌∙◌}
+use Rattle.std.proofs.Common.{◌≡◌, Bool, true, false, cond, Bor, ◌||◌, ℕ, List, [], ◌∷◌, Option, Some, None, is_some, unwrap_or, refl, sym, ap, ◌∙◌}
 use Rattle.std.specs.List.{slice_get}
 use Rattle.std.specs.Str.{bytes_eq}
-use Rattle.std.specs.Prelude.{String, string_bytes, option_map}
-use Rattle.std.specs.declared.alloc.Global.{Global}
+use Rattle.std.specs.Prelude.{option_map}
 use Rattle.std.proofs.lemmas.Option.{slice_get-map}
 use Rattle.plan_core.specs.declared.data_type.DataType.{DataType}
 use Rattle.plan_core.specs.Columns.{names_of, type_of}
@@ -32,8 +31,8 @@ told-if-there o a h = at (changed o.changes a) (some-changed o.changes a) h
     at (Some d) r h = has_back (names_of (columns_told o.stored)) (names_in o.changes) a (sym r)
 
 -- the name at a place of a map's entries
-pub name-seen : (es : Entries) (i : ℕ) (k : String Global) (d : Option DataType) → Some (k, d) ≡ slice_get es i → slice_get (names_in (seen es)) i ≡ Some (string_bytes k)
+pub name-seen : (es : Entries) (i : ℕ) (k : Bor Name) (d : Option DataType) → Some (k, d) ≡ slice_get es i → slice_get (names_in (seen es)) i ≡ Some k.now
 name-seen es i k d e =
     slice_get-map (λ (c : Name × Option DataType). c.0) (seen es) i
-    ∙ ap (option_map (λ (c : Name × Option DataType). c.0)) (slice_get-map (λ (p : String Global × Option DataType). (string_bytes p.0, p.1)) es i)
-    ∙ ap (λ (o : Option (String Global × Option DataType)). option_map (λ (c : Name × Option DataType). c.0) (option_map (λ (p : String Global × Option DataType). (string_bytes p.0, p.1)) o)) (sym e)
+    ∙ ap (option_map (λ (c : Name × Option DataType). c.0)) (slice_get-map (λ (p : Bor Name × Option DataType). (p.0.now, p.1)) es i)
+    ∙ ap (λ (o : Option (Bor Name × Option DataType)). option_map (λ (c : Name × Option DataType). c.0) (option_map (λ (p : Bor Name × Option DataType). (p.0.now, p.1)) o)) (sym e)

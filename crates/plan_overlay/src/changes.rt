@@ -1,5 +1,5 @@
 //! What becomes of columns, by name.
-ghost use Rattle.std.specs.Prelude.{◌≡◌, [], List, IfNone, IfSome, None, OnOk, Some, ℕ, if◌then◌else◌, length, slice_get};
+ghost use Rattle.std.specs.Prelude.{◌≡◌, [], List, IfNone, IfOk, IfSome, None, OnOk, Some, ℕ, if◌then◌else◌, length, slice_get};
 ghost use Rattle.std.specs.Str.{bytes_eq};
 ghost use Rattle.plan_overlay.specs.Overlays.{changed, names_in};
 
@@ -8,22 +8,23 @@ use plan_core::DataType;
 use std::alloc::{AllocError, Global};
 use std::marker::Model;
 
-/// What becomes of columns, by name: the type that one has, or none where it is gone. A contract sees the pairs.
+/// What becomes of columns, by name: the type that one has, or none where it is gone. The names are borrowed. A contract sees the
+/// pairs.
 #[derive(Drop)]
-pub struct Changes {
-    types: IndexMap<String, Option<DataType>>,
+pub struct Changes<'a> {
+    types: IndexMap<&'a str, Option<DataType>>,
 }
 
-impl Model for Changes {
-    ghost use Rattle.std.specs.Prelude.{List, Option, ℕ, map, string_bytes};
+impl<'a> Model for Changes<'a> {
+    ghost use Rattle.std.specs.Prelude.{List, Option, ℕ, map};
     ghost use Rattle.plan_core.specs.declared.data_type.DataType.{DataType};
 
     ghost Value = { List (List ℕ × Option DataType) };
 
-    ghost view = { λ s. map (λ p. (string_bytes p.0, p.1)) s.types.entries };
+    ghost view = { λ s. map (λ p. (p.0.now, p.1)) s.types.entries };
 }
 
-impl Changes {
+impl<'a> Changes<'a> {
     /// No changes.
     pub fn new(alloc: Global) -> Self
         ensures { result ≡ [] }
@@ -31,6 +32,15 @@ impl Changes {
         Changes {
             types: IndexMap::new(alloc),
         }
+    }
+
+    /// No changes, with room for so many. Refuses for want of memory alone.
+    pub fn with_capacity(alloc: Global, count: usize) -> Result<Self, AllocError>
+        ensures { IfOk result (λ changes. changes ≡ []) }
+    {
+        Ok(Changes {
+            types: IndexMap::with_capacity(alloc, count)?,
+        })
     }
 
     /// What becomes of a name, if something does.
@@ -54,21 +64,19 @@ impl Changes {
     {
         match self.types.get_index(index) {
             None => None,
-            Some((name, _)) => Some(name.as_str()),
+            Some((name, _)) => Some(*name),
         }
     }
 
-    /// Says what becomes of a name. Refuses for want of memory alone.
+    /// Says what becomes of a name, and gives what became of it before, if something did. Refuses for want of memory alone.
     pub fn set(
         &mut self,
-        alloc: Global,
-        name: &str,
+        name: &'a str,
         dtype: Option<DataType>,
-    ) -> Result<(), AllocError>
-        ensures { OnOk result ((a : List ℕ) → changed self.new a ≡ (if bytes_eq a name.now then Some dtype else changed self.old a)) }
+    ) -> Result<Option<Option<DataType>>, AllocError>
+        ensures given { IfOk result (λ old. old ≡ changed self.old name.now) }
+        ensures after { OnOk result ((a : List ℕ) → changed self.new a ≡ (if bytes_eq a name.now then Some dtype else changed self.old a)) }
     {
-        let owned = String::from_str(alloc, name)?;
-        self.types.insert(owned, dtype)?;
-        Ok(())
+        Ok(self.types.insert(name, dtype)?)
     }
 }

@@ -11,18 +11,15 @@ ghost use Rattle.plan_overlay.specs.Overlays.{Shows, is_by_name, item_in, type_i
 use crate::overlay::Overlay;
 use plan_core::{DataType, PlSmallStr};
 use plan_ir::FunctionIR;
-use std::alloc::{AllocError, Global};
+use std::alloc::AllocError;
 
-/// Puts the number of the rows before the columns. Says whether that can be; if not, the overlay stays. Refuses for want of memory
-/// alone.
-fn number(alloc: Global, name: &PlSmallStr, overlay: &mut Overlay<'_>) -> Result<bool, AllocError>
+/// Puts the number of the rows before the columns. Says whether that can be; if not, nothing is known of the overlay. Refuses for
+/// want of memory alone.
+fn number<'a>(name: &'a PlSmallStr, overlay: &mut Overlay<'a>) -> Result<bool, AllocError>
     ensures { IfOk result (λ fits. IsTrue fits → (s : Columns) (offset : Option ℕ) → Shows overlay.old s → Shows overlay.new (given_by (RowIndex name.now offset) s)) }
 {
-    if overlay.get(name.as_str()).is_some() {
-        return Ok(false);
-    }
-    overlay.set(alloc, name.as_str(), Some(DataType::Int64))?;
-    Ok(true)
+    let taken = overlay.set(name.as_str(), Some(DataType::Int64))?;
+    Ok(taken.is_none())
 }
 
 /// Whether a column is there, and has lists.
@@ -53,32 +50,24 @@ fn item_type(dtype: Option<DataType>) -> Option<DataType>
 }
 
 /// Takes lists apart. Refuses for want of memory alone.
-fn take_apart(
-    alloc: Global,
-    names: &[PlSmallStr],
-    overlay: &mut Overlay<'_>,
-) -> Result<(), AllocError>
+fn take_apart<'a>(names: &'a [PlSmallStr], overlay: &mut Overlay<'a>) -> Result<(), AllocError>
     ensures { IfOk result (λ _. (a : Name) → type_in overlay.new a ≡ with_items names.now (type_in overlay.old) a) }
 {
     for name in names {
         let dtype = item_type(overlay.get(name.as_str()));
-        overlay.set(alloc, name.as_str(), dtype)?;
+        overlay.set(name.as_str(), dtype)?;
     }
     Ok(())
 }
 
 /// Takes the lists of these columns apart. Says whether that can be; if not, the overlay stays. Refuses for want of memory alone.
-fn explode(
-    alloc: Global,
-    names: &[PlSmallStr],
-    overlay: &mut Overlay<'_>,
-) -> Result<bool, AllocError>
+fn explode<'a>(names: &'a [PlSmallStr], overlay: &mut Overlay<'a>) -> Result<bool, AllocError>
     ensures { IfOk result (λ fits. IsTrue fits → (s : Columns) → Shows overlay.old s → Shows overlay.new (given_by (Explode names.now) s)) }
 {
     if !all_have_lists(names, overlay) {
         return Ok(false);
     }
-    take_apart(alloc, names, overlay)?;
+    take_apart(names, overlay)?;
     Ok(true)
 }
 
@@ -92,36 +81,30 @@ pub fn only_name(names: &[PlSmallStr]) -> Option<&str>
     None
 }
 
-/// Gives a column another name, which none has. Refuses for want of memory alone.
-fn rename_one(
-    alloc: Global,
-    old: &str,
-    new: &str,
-    overlay: &mut Overlay<'_>,
-) -> Result<bool, AllocError>
+/// Gives a column another name. Says whether it does: where none has that name. If not, nothing is known of the overlay. Refuses for
+/// want of memory alone.
+fn rename_one<'a>(old: &'a str, new: &'a str, overlay: &mut Overlay<'a>) -> Result<bool, AllocError>
     ensures { IfOk result (λ fits. IsTrue fits → (s : Columns) (swapping : Bool) → Shows overlay.old s → Shows overlay.new (given_by (Rename (old.now ∷ []) (new.now ∷ []) swapping) s)) }
 {
-    if overlay.get(new).is_some() {
+    if new == old {
         return Ok(false);
     }
-    let dtype = overlay.get(old);
-    overlay.set(alloc, old, None)?;
-    overlay.set(alloc, new, dtype)?;
-    Ok(true)
+    let dtype = overlay.set(old, None)?;
+    let before = overlay.set(new, dtype)?;
+    Ok(before.is_none())
 }
 
-/// Gives a column another name. Says whether it does: where one column gets a name that none has. If not, the overlay stays. Refuses
-/// for want of memory alone.
-fn rename(
-    alloc: Global,
-    existing: &[PlSmallStr],
-    new: &[PlSmallStr],
-    overlay: &mut Overlay<'_>,
+/// Gives a column another name. Says whether it does: where one column gets a name that none has. If not, nothing is known of the
+/// overlay. Refuses for want of memory alone.
+fn rename<'a>(
+    existing: &'a [PlSmallStr],
+    new: &'a [PlSmallStr],
+    overlay: &mut Overlay<'a>,
 ) -> Result<bool, AllocError>
     ensures { IfOk result (λ fits. IsTrue fits → (s : Columns) (swapping : Bool) → Shows overlay.old s → Shows overlay.new (given_by (Rename existing.now new.now swapping) s)) }
 {
     match (only_name(existing), only_name(new)) {
-        (Some(old), Some(new)) => rename_one(alloc, old, new, overlay),
+        (Some(old), Some(new)) => rename_one(old, new, overlay),
         _ => Ok(false),
     }
 }
@@ -136,19 +119,16 @@ pub fn changes_names(function: &FunctionIR) -> bool
     )
 }
 
-/// Changes the columns as a function does. Says whether it does. Refuses for want of memory alone.
-pub fn change(
-    alloc: Global,
-    function: &FunctionIR,
-    overlay: &mut Overlay<'_>,
-) -> Result<bool, AllocError>
+/// Changes the columns as a function does. Says whether it does; if not, nothing is known of the overlay. Refuses for want of memory
+/// alone.
+pub fn change<'a>(function: &'a FunctionIR, overlay: &mut Overlay<'a>) -> Result<bool, AllocError>
     ensures { IfOk result (λ fits. IsTrue fits → (s : Columns) → Shows overlay.old s → Shows overlay.new (given_by function.now s)) }
 {
     match function {
-        FunctionIR::RowIndex { name, .. } => number(alloc, name, overlay),
-        FunctionIR::Explode { columns } => explode(alloc, columns.as_slice(), overlay),
+        FunctionIR::RowIndex { name, .. } => number(name, overlay),
+        FunctionIR::Explode { columns } => explode(columns.as_slice(), overlay),
         FunctionIR::Rename { existing, new, .. } => {
-            rename(alloc, existing.as_slice(), new.as_slice(), overlay)
+            rename(existing.as_slice(), new.as_slice(), overlay)
         }
         _ => Ok(false),
     }

@@ -1,5 +1,5 @@
 //! Columns by name, over what a node stores.
-ghost use Rattle.std.specs.Prelude.{◌≡◌, IfNone, IfSome, None, OnOk, Some, if◌then◌else◌, length, slice_get};
+ghost use Rattle.std.specs.Prelude.{◌≡◌, IfNone, IfOk, IfSome, None, OnOk, Some, if◌then◌else◌, length, slice_get};
 ghost use Rattle.std.specs.Str.{bytes_eq};
 ghost use Rattle.plan_core.specs.Columns.{type_of};
 ghost use Rattle.plan_expr.specs.Leaves.{Name};
@@ -14,7 +14,7 @@ use std::alloc::{AllocError, Global};
 /// The types of columns by name: what functions change of them, over what a node stores.
 #[derive(Drop)]
 pub struct Overlay<'a> {
-    changes: Changes,
+    changes: Changes<'a>,
     stored: StoredSchema<'a>,
 }
 
@@ -27,6 +27,18 @@ impl<'a> Overlay<'a> {
             changes: Changes::new(alloc),
             stored,
         }
+    }
+
+    /// The columns that a node stores, unchanged, with room for so many changes. Refuses for want of memory alone.
+    pub fn with_capacity(
+        alloc: Global,
+        stored: StoredSchema<'a>,
+        count: usize,
+    ) -> Result<Self, AllocError>
+        ensures { IfOk result (λ overlay. (a : Name) → type_in overlay a ≡ type_of (columns_told stored.entry) a) }
+    {
+        let changes = Changes::with_capacity(alloc, count)?;
+        Ok(Overlay { changes, stored })
     }
 
     /// The type of a column, if it is there.
@@ -61,15 +73,18 @@ impl<'a> Overlay<'a> {
         self.changes.name_at(index)
     }
 
-    /// Gives a column a type, or takes it away. Refuses for want of memory alone.
+    /// Gives a column a type, or takes it away, and gives the type that it had, if it was there. Refuses for want of memory alone.
     pub fn set(
         &mut self,
-        alloc: Global,
-        name: &str,
+        name: &'a str,
         dtype: Option<DataType>,
-    ) -> Result<(), AllocError>
-        ensures { OnOk result ((a : Name) → type_in self.new a ≡ (if bytes_eq a name.now then dtype else type_in self.old a)) }
+    ) -> Result<Option<DataType>, AllocError>
+        ensures given { IfOk result (λ old. old ≡ type_in self.old name.now) }
+        ensures after { OnOk result ((a : Name) → type_in self.new a ≡ (if bytes_eq a name.now then dtype else type_in self.old a)) }
     {
-        self.changes.set(alloc, name, dtype)
+        match self.changes.set(name, dtype)? {
+            Some(old) => Ok(old),
+            None => Ok(self.stored.columns().get(name).copied()),
+        }
     }
 }

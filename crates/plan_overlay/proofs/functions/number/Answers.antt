@@ -1,4 +1,4 @@
-use Rattle.std.proofs.Common.{◌≡◌, ◌∙◌, ap, cond, sym, None, Some}
+use Rattle.std.proofs.Common.{◌≡◌, ◌∙◌, ap, cond, not, sym, None, Some}
 use Rattle.std.specs.Str.{bytes_eq}
 use Rattle.plan_core.specs.declared.data_type.DataType.TheVariants.{Int64}
 use Rattle.plan_expr.specs.Leaves.{Name}
@@ -8,6 +8,6 @@ use Rattle.plan_overlay.proofs.functions.number.Goals as goal
 
 pub returns : goal.returns
 returns c = λ yes s offset shows.
-    let fresh : type_in c.args.overlay.now c.args.name.now ≡ None = ap (type_in c.args.overlay.now) (sym c.as_str.ensures) ∙ sym c.get.ensures ∙ none_there c.get.result (sym c.if-is_some.ensures) in
+    let fresh : type_in c.args.overlay.now c.args.name.now ≡ None = ap (type_in c.args.overlay.now) (sym c.as_str.ensures) ∙ sym c.in_ok-taken.ensures.given ∙ none_there c.in_ok-taken.taken (c.is_none.ensures ∙ ap not yes) in
     number-shows c.args.overlay.now c.set.new.self c.args.name.now offset s fresh
-    (λ a. c.in_ok-set.ensures a ∙ ap (λ (n : Name). cond (bytes_eq a n) (Some Int64) (type_in c.args.overlay.now a)) c.as_str-2.ensures) shows
+    (λ a. c.in_ok-taken.ensures.after a ∙ ap (λ (n : Name). cond (bytes_eq a n) (Some Int64) (type_in c.args.overlay.now a)) c.as_str.ensures) shows

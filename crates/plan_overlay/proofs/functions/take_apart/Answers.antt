@@ -1,4 +1,4 @@
-use Rattle.std.proofs.Common.{◌≡◌, ◌∙◌, ap, cond, sym, List, Option, Some}
+use Rattle.std.proofs.Common.{◌≡◌, ◌∙◌, ap, cond, sym, Option, Some}
 use Rattle.std.specs.List.{slice_get}
 use Rattle.std.specs.Str.{bytes_eq}
 use Rattle.plan_core.specs.declared.data_type.DataType.{DataType}
@@ -14,4 +14,4 @@ loop-name-preserved c =
     let here : slice_get c.args.names.now c.loop-name.name-index ≡ Some name = item_here c.args.names.now c.loop-name.name-index c.name-item.result c.loop-name-test.true c.name-item.is ∙ ap (λ (a : Name). Some a) (sym c.as_str.ensures) in
     items-next c.args.names.now c.loop-name.name-index name (type_in c.args.overlay.now) (type_in c.loop-name.overlay) (type_in c.set.new.self) c.item_type-dtype.result here c.loop-name.invariant
     (c.item_type-dtype.ensures ∙ ap (λ (d : Option DataType). item_in d) c.get.ensures)
-    (λ a. c.in_ok-set.ensures a ∙ ap (λ (n : Name). cond (bytes_eq a n) c.item_type-dtype.result (type_in c.loop-name.overlay a)) (c.as_str-in-loop-name.ensures ∙ sym c.as_str.ensures))
+    (λ a. c.in_ok-set.ensures.after a ∙ ap (λ (n : Name). cond (bytes_eq a n) c.item_type-dtype.result (type_in c.loop-name.overlay a)) (c.as_str-in-loop-name.ensures ∙ sym c.as_str.ensures))

@@ -1,6 +1,5 @@
 use Rattle.std.proofs.Common.{◌≡◌, ◌∙◌, [], ◌∷◌, ap, sym, refl, arith, Some}
 use Rattle.std.specs.List.{slice_get}
-use Rattle.std.proofs.lemmas.Option.{IfSome_then}
 use Rattle.std.proofs.lemmas.Result.{IfOk-weaker}
 use Rattle.plan_core.specs.Columns.{Columns, type_of}
 use Rattle.plan_tree.proofs.TreeLemmas.{height-falls, StandsOnce-input}
@@ -22,9 +21,9 @@ laid-requires t c =
     (omega (arith, falls, c.decreases), StandsOnce-input plan_shape c.args.lp.now c.args.node c.in-Some.input c.get-entry.result.now 0 c.requires e first)
 
 pub returns-in-Some : goal.returns-in-Some
-returns-in-Some t c = IfOk-weaker c.laid.result _ _ (λ made is. IfSome_then made is (λ o shows. λ ex a.
-    shows ex a
-    ∙ ap (λ (s : Columns). type_of s a) (shown-same c.args.lp.now ex c.args.node c.in-Some.input c.get-entry.result.now c.requires c.get-entry.ensures.entry (sym c.in-Some.ensures)))) c.laid.ensures
+returns-in-Some t c = IfOk-weaker c.laid.result _ _ (λ fits shows. λ yes ex a.
+    shows yes ex a
+    ∙ ap (λ (s : Columns). type_of s a) (shown-same c.args.lp.now ex c.args.node c.in-Some.input c.get-entry.result.now c.requires c.get-entry.ensures.entry (sym c.in-Some.ensures))) c.laid.ensures
 
 pub laid-requires-then-changes_names : goal.laid-requires-then-changes_names
 laid-requires-then-changes_names t c =
@@ -37,9 +36,9 @@ pub returns-then-changes_names : goal.returns-then-changes_names
 returns-then-changes_names t c =
     let p : IR = MapFunction c.in-MapFunction.input c.in-MapFunction.function in
     let e : slice_get c.args.lp.now c.args.node.0 ≡ Some p = c.get-entry.ensures.entry ∙ ap Some c.in-MapFunction.is in
-    IfOk-weaker c.changed.result _ _ (λ made is. IfSome_then made is (λ o over. λ ex a.
-    over (first_schema (stored_all (bare (plans_at c.args.lp.now ex (c.in-MapFunction.input ∷ []))))) (IfSome_then c.in_ok-laid.field-0 c.in_ok-laid.ensures (λ b shows. shows ex)) a
-    ∙ ap (λ (s : Columns). type_of s a) (stored_open c.args.lp.now ex c.args.node p c.requires e))) c.changed.ensures
+    IfOk-weaker c.change.result _ _ (λ made over. λ yes ex a.
+    over yes (first_schema (stored_all (bare (plans_at c.args.lp.now ex (c.in-MapFunction.input ∷ []))))) (c.in_ok-fits.ensures c.if-not-fits.false ex) a
+    ∙ ap (λ (s : Columns). type_of s a) (stored_open c.args.lp.now ex c.args.node p c.requires e)) c.change.ensures
 
 pub returns : goal.returns
-returns t c = λ ex a. c.new.ensures a ∙ ap (λ (s : Columns). type_of s a) (c.in_ok-stored_schema.ensures.stored ex)
+returns t c = λ yes ex a. c.in_ok-overlay.ensures a ∙ ap (λ (s : Columns). type_of s a) (c.in_ok-stored.ensures.stored ex)
