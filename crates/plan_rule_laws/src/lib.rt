@@ -2,6 +2,6 @@
 #![tactic(auto)]
 
 mod kind;
-pub mod laws;
+pub mod rule_laws;
 
 pub use kind::RuleKind;
