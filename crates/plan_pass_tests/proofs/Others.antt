@@ -5,8 +5,8 @@ use Rattle.plan_tree.specs.Stands.{Trees}
 use Rattle.plan_expr.specs.declared.aexpr.AExpr.{AExpr}
 use Rattle.plan_ir.specs.declared.ir.IR.{IR}
 use Rattle.plan_ir.specs.Parts.{StandsPlan}
-use Rattle.plan_rule_laws.specs.declared.kind.RuleKind.{RuleKind}
-use Rattle.plan_rule_laws.specs.declared.kind.RuleKind.TheVariants as kinds
+use Rattle.plan_pass_laws.specs.declared.kind.RuleKind.{RuleKind}
+use Rattle.plan_pass_laws.specs.declared.kind.RuleKind.TheVariants as kinds
 use Rattle.plan_rule.specs.Calls.{Answers}
 use Rattle.plan_rule.proofs.Placed.{stays}
 

@@ -17,7 +17,7 @@ pub struct Heard {
 
 impl OptimizationRule for Heard {
     ghost use Rattle.std.specs.Prelude.{false};
-    ghost use Rattle.plan_rule_laws.specs.declared.kind.RuleKind.TheVariants.{Other as other};
+    ghost use Rattle.plan_pass_laws.specs.declared.kind.RuleKind.TheVariants.{Other as other};
 
     ghost kind_of = { λ _. other };
 

@@ -25,7 +25,7 @@ impl Once {
 
 impl OptimizationRule for Once {
     ghost use Rattle.std.specs.Prelude.{false};
-    ghost use Rattle.plan_rule_laws.specs.declared.kind.RuleKind.TheVariants.{Other as other};
+    ghost use Rattle.plan_pass_laws.specs.declared.kind.RuleKind.TheVariants.{Other as other};
 
     ghost kind_of = { λ _. other };
 

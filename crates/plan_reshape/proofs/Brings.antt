@@ -17,12 +17,12 @@ use Rattle.plan_meaning.specs.PlanAt.{one_plan, plan_at}
 use Rattle.plan_meaning.specs.Relating.{EachRefines}
 use Rattle.plan_meaning.specs.Steps.{IsValid}
 use Rattle.plan_meaning.specs.Typing.{AllValid}
-use Rattle.plan_rule_laws.specs.declared.kind.RuleKind.{RuleKind}
-use Rattle.plan_rule_laws.specs.Clearing.{AreCleared, Cleared}
-use Rattle.plan_rule_laws.specs.Patterns.{are_counted, is_counted, shows, shows_one}
-use Rattle.plan_rule_laws.specs.Settling.{Done, Reworked, Reworks, both, idle, one_done}
-use Rattle.plan_rule_laws.specs.Weights.{weight, weight_in}
-use Rattle.plan_rule_laws.proofs.Reworked.{reworked_answer, reworks_cleared, reworks_refl, reworks_trans, reworks_weaker}
+use Rattle.plan_pass_laws.specs.declared.kind.RuleKind.{RuleKind}
+use Rattle.plan_pass_laws.specs.Clearing.{AreCleared, Cleared}
+use Rattle.plan_pass_laws.specs.Patterns.{are_counted, is_counted, shows, shows_one}
+use Rattle.plan_pass_laws.specs.Settling.{Done, Reworked, Reworks, both, idle, one_done}
+use Rattle.plan_pass_laws.specs.Weights.{weight, weight_in}
+use Rattle.plan_pass_laws.proofs.Reworked.{reworked_answer, reworks_cleared, reworks_refl, reworks_trans, reworks_weaker}
 use Rattle.plan_rule.specs.Calls.{Answers, Leaves, Replaces, plan_of}
 use Rattle.plan_pass_laws.specs.Becoming.{AllBecome, Becomes}
 use Rattle.plan_reshape.specs.Walking.{AtTop, Brought}

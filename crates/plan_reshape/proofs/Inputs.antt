@@ -16,12 +16,12 @@ use Rattle.plan_meaning.specs.Marks.{unmarked, unmarked_all, unmarked_op}
 use Rattle.plan_meaning.specs.PlanAt.{plan_at}
 use Rattle.plan_meaning.specs.Steps.{IsValid}
 use Rattle.plan_meaning.specs.Typing.{AllValid}
-use Rattle.plan_rule_laws.specs.declared.kind.RuleKind.{RuleKind}
-use Rattle.plan_rule_laws.specs.Patterns.{shows_one}
-use Rattle.plan_rule_laws.specs.Settling.{Done, Reworks, Walked, both, idle}
-use Rattle.plan_rule_laws.specs.Walks.{AllWalk, UntilAll, Walks, more_walks, no_walk, walks}
-use Rattle.plan_rule_laws.specs.Weights.{weight, weight_in, own_weight}
-use Rattle.plan_rule_laws.proofs.Reworked.{walked_more, walked_node, walked_none}
+use Rattle.plan_pass_laws.specs.declared.kind.RuleKind.{RuleKind}
+use Rattle.plan_pass_laws.specs.Patterns.{shows_one}
+use Rattle.plan_pass_laws.specs.Settling.{Done, Reworks, Walked, both, idle}
+use Rattle.plan_pass_laws.specs.Walks.{AllWalk, UntilAll, Walks, more_walks, no_walk, walks}
+use Rattle.plan_pass_laws.specs.Weights.{weight, weight_in, own_weight}
+use Rattle.plan_pass_laws.proofs.Reworked.{walked_more, walked_node, walked_none}
 use Rattle.plan_rule.specs.Calls.{plan_of}
 use Rattle.plan_pass_laws.proofs.KeptPlans.{op_kept, plans_kept}
 use Rattle.plan_tree.proofs.Pairs.{stand_first}

@@ -12,10 +12,10 @@ use Rattle.plan_ir.specs.declared.ir.IR.{IR}
 use Rattle.plan_ir.specs.Parts.{IsPlan, StandsPlan}
 use Rattle.plan_ir.specs.Plans.{bare, plans_of}
 use Rattle.plan_meaning.specs.PlanAt.{plan_at}
-use Rattle.plan_rule_laws.specs.declared.kind.RuleKind.{RuleKind}
-use Rattle.plan_rule_laws.specs.Settling.{Done, both}
-use Rattle.plan_rule_laws.specs.Weights.{weight}
-use Rattle.plan_rule_laws.proofs.ClearedPatterns.{one_cleared}
+use Rattle.plan_pass_laws.specs.declared.kind.RuleKind.{RuleKind}
+use Rattle.plan_pass_laws.specs.Settling.{Done, both}
+use Rattle.plan_pass_laws.specs.Weights.{weight}
+use Rattle.plan_pass_laws.proofs.ClearedPatterns.{one_cleared}
 use Rattle.plan_rule.specs.Calls.{ListsExpr, plan_of}
 use Rattle.plan_reshape.specs.Walking.{AtTop, Brought, Tended}
 use Rattle.plan_reshape.proofs.Brings.{brought_then, cleared_of}

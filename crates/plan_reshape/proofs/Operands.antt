@@ -18,10 +18,10 @@ use Rattle.plan_ir.specs.Parts.{IsPlan, StandsPlan, listed_exprs_of, plan_shape,
 use Rattle.plan_ir.specs.Plans.{bare, plans_of}
 use Rattle.plan_meaning.specs.PlanAt.{plan_at}
 use Rattle.plan_meaning.specs.Steps.{IsValid}
-use Rattle.plan_rule_laws.specs.declared.kind.RuleKind.{RuleKind}
-use Rattle.plan_rule_laws.specs.Settling.{Done, Reworks, both, idle}
-use Rattle.plan_rule_laws.specs.Weights.{weight, weight_in}
-use Rattle.plan_rule_laws.proofs.Reworked.{reworks_refl, reworks_trans}
+use Rattle.plan_pass_laws.specs.declared.kind.RuleKind.{RuleKind}
+use Rattle.plan_pass_laws.specs.Settling.{Done, Reworks, both, idle}
+use Rattle.plan_pass_laws.specs.Weights.{weight, weight_in}
+use Rattle.plan_pass_laws.proofs.Reworked.{reworks_refl, reworks_trans}
 use Rattle.plan_rule.specs.Calls.{ListsExpr, plan_of}
 use Rattle.plan_rule.proofs.Listed.{listed_roots, stands_at}
 use Rattle.plan_reshape.specs.Walking.{Tended}

@@ -8,10 +8,10 @@ use Rattle.plan_ir.specs.Parts.{IsPlan, StandsPlan}
 use Rattle.plan_ir.specs.Plans.{Plan, bare, plans_of}
 use Rattle.plan_meaning.specs.PlanAt.{plan_at}
 use Rattle.plan_meaning.specs.Steps.{IsValid}
-use Rattle.plan_rule_laws.specs.declared.kind.RuleKind.{RuleKind}
-use Rattle.plan_rule_laws.specs.Settling.{Done, Settles, both, idle}
-use Rattle.plan_rule_laws.specs.Weights.{weight}
-use Rattle.plan_rule_laws.proofs.Reworked.{settles}
+use Rattle.plan_pass_laws.specs.declared.kind.RuleKind.{RuleKind}
+use Rattle.plan_pass_laws.specs.Settling.{Done, Settles, both, idle}
+use Rattle.plan_pass_laws.specs.Weights.{weight}
+use Rattle.plan_pass_laws.proofs.Reworked.{settles}
 use Rattle.plan_rule.specs.Calls.{plan_of}
 use Rattle.plan_reshape.specs.Walking.{Brought, WalkedAt}
 use Rattle.plan_pass_laws.specs.Becoming.{Becomes}

@@ -20,7 +20,7 @@ use Rattle.plan_ir.specs.Parts.{IsPlan, StandsPlan, condition_in, condition_of, 
 use Rattle.plan_ir.specs.Plans.{bare, op_at, plans_of}
 use Rattle.plan_meaning.specs.JoinChecks.{conditions}
 use Rattle.plan_meaning.specs.PlanAt.{plan_at}
-use Rattle.plan_rule_laws.specs.Weights.{bulk, bulk_in, expr_nodes, own_bulk, own_exprs, weight, weight_in}
+use Rattle.plan_pass_laws.specs.Weights.{bulk, bulk_in, expr_nodes, own_bulk, own_exprs, weight, weight_in}
 use Rattle.plan_rule.specs.Calls.{plan_of}
 use Rattle.plan_reshape.proofs.Brings.{one_of, plan_at_is}
 

@@ -18,11 +18,11 @@ use Rattle.plan_ir.specs.Parts.{IsPlan, StandsPlan, condition_of, list_of, liste
 use Rattle.plan_ir.specs.Plans.{Plan, bare, plans_of}
 use Rattle.plan_meaning.specs.PlanAt.{plan_at}
 use Rattle.plan_meaning.specs.Steps.{IsValid}
-use Rattle.plan_rule_laws.specs.declared.kind.RuleKind.{RuleKind}
-use Rattle.plan_rule_laws.specs.Patterns.{are_counted, is_counted}
-use Rattle.plan_rule_laws.specs.Settling.{Done, Reworked, Reworks, both, idle, one_done}
-use Rattle.plan_rule_laws.specs.Weights.{weight, weight_in}
-use Rattle.plan_rule_laws.proofs.Reworked.{reworked_answer, reworks_refl, reworks_trans, reworks_weaker}
+use Rattle.plan_pass_laws.specs.declared.kind.RuleKind.{RuleKind}
+use Rattle.plan_pass_laws.specs.Patterns.{are_counted, is_counted}
+use Rattle.plan_pass_laws.specs.Settling.{Done, Reworked, Reworks, both, idle, one_done}
+use Rattle.plan_pass_laws.specs.Weights.{weight, weight_in}
+use Rattle.plan_pass_laws.proofs.Reworked.{reworked_answer, reworks_refl, reworks_trans, reworks_weaker}
 use Rattle.plan_rule.specs.Calls.{AnswersExpr, ListsExpr, plan_of}
 use Rattle.plan_rule.proofs.Listed.{listed_inside, listed_roots, stands_at}
 use Rattle.plan_reshape.specs.Walking.{Brought, Tended}

@@ -13,11 +13,11 @@ use Rattle.plan_meaning.specs.Marks.{unmarked}
 use Rattle.plan_meaning.specs.PlanAt.{plan_at}
 use Rattle.plan_rule.specs.Calls.{Answers, AnswersExpr, ListsExpr, plan_of}
 use Rattle.plan_rule.proofs.Listed.{listed_roots, stands_at}
-use Rattle.plan_rule_laws.specs.declared.kind.RuleKind.{RuleKind}
-use Rattle.plan_rule_laws.specs.Answers.{answer_of}
-use Rattle.plan_rule_laws.specs.Walks.{Until, UntilAll, once_more, still}
-use Rattle.plan_rule_laws.proofs.AlikeAnswers.{answer_alike}
-use Rattle.plan_rule_laws.proofs.ClearedPlans.{cleared_alike}
+use Rattle.plan_pass_laws.specs.declared.kind.RuleKind.{RuleKind}
+use Rattle.plan_pass_laws.specs.Answers.{answer_of}
+use Rattle.plan_pass_laws.specs.Walks.{Until, UntilAll, once_more, still}
+use Rattle.plan_pass_laws.proofs.AlikeAnswers.{answer_alike}
+use Rattle.plan_pass_laws.proofs.ClearedPlans.{cleared_alike}
 use Rattle.plan_reshape.specs.Walking.{all_own}
 use Rattle.plan_reshape.proofs.Brings.{plan_at_is}
 

@@ -10,10 +10,10 @@ use Rattle.plan_ir.specs.Parts.{IsPlan, StandsPlan}
 use Rattle.plan_ir.specs.Plans.{Plan, bare, plans_of}
 use Rattle.plan_meaning.specs.PlanAt.{plan_at}
 use Rattle.plan_meaning.specs.Steps.{IsValid}
-use Rattle.plan_rule_laws.specs.declared.kind.RuleKind.{RuleKind}
-use Rattle.plan_rule_laws.specs.Patterns.{are_counted, is_counted, shows, shows_one}
-use Rattle.plan_rule_laws.specs.Settling.{Done, both, idle}
-use Rattle.plan_rule_laws.proofs.ClearedPatterns.{one_cleared}
+use Rattle.plan_pass_laws.specs.declared.kind.RuleKind.{RuleKind}
+use Rattle.plan_pass_laws.specs.Patterns.{are_counted, is_counted, shows, shows_one}
+use Rattle.plan_pass_laws.specs.Settling.{Done, both, idle}
+use Rattle.plan_pass_laws.proofs.ClearedPatterns.{one_cleared}
 use Rattle.plan_rule.specs.Calls.{plan_of}
 use Rattle.plan_reshape.specs.Walking.{AtTop}
 use Rattle.plan_reshape.proofs.Brings.{Stays, all_valid_at, brought_refl, brought_then, brought_weaker, cleared_of, stays}

@@ -9,9 +9,9 @@ use Rattle.plan_ir.specs.declared.ir.IR.{IR}
 use Rattle.plan_ir.specs.Plans.{bare, plans_of}
 use Rattle.plan_pass_laws.specs.Becoming.{AllBecome, Becomes}
 use Rattle.plan_rule.specs.Calls.{plan_of}
-use Rattle.plan_rule_laws.specs.declared.kind.RuleKind.{RuleKind}
-use Rattle.plan_rule_laws.specs.Patterns.{shows_one}
-use Rattle.plan_rule_laws.specs.Settling.{Done, Reworks, WalkedAlone}
+use Rattle.plan_pass_laws.specs.declared.kind.RuleKind.{RuleKind}
+use Rattle.plan_pass_laws.specs.Patterns.{shows_one}
+use Rattle.plan_pass_laws.specs.Settling.{Done, Reworks, WalkedAlone}
 use Rattle.plan_reshape.specs.declared.work.Work.{Work}
 
 -- what was done

@@ -9,7 +9,7 @@ ghost use Rattle.plan_ir.specs.Parts.{IsPlan, StandsPlan};
 ghost use Rattle.plan_meaning.specs.PlanAt.{plan_at};
 ghost use Rattle.plan_meaning.specs.Steps.{IsValid};
 ghost use Rattle.plan_rule.specs.Calls.{ListsExpr};
-ghost use Rattle.plan_rule_laws.specs.Weights.{weight};
+ghost use Rattle.plan_pass_laws.specs.Weights.{weight};
 ghost use Rattle.plan_reshape.specs.Walking.{Brought, Tended, all_own, asks_rules, done_of};
 
 use crate::items::{exprs_at, node_at, operands_at, root_at};

@@ -8,8 +8,8 @@ ghost use Rattle.plan_ir.specs.Parts.{IsPlan, StandsPlan};
 ghost use Rattle.plan_meaning.specs.Marks.{unmarked};
 ghost use Rattle.plan_meaning.specs.PlanAt.{plan_at};
 ghost use Rattle.plan_meaning.specs.Steps.{IsValid};
-ghost use Rattle.plan_rule_laws.specs.Walks.{Until, UntilAll};
-ghost use Rattle.plan_rule_laws.specs.Weights.{weight};
+ghost use Rattle.plan_pass_laws.specs.Walks.{Until, UntilAll};
+ghost use Rattle.plan_pass_laws.specs.Weights.{weight};
 ghost use Rattle.plan_reshape.specs.Walking.{AtTop, all_own, done_of};
 
 use crate::work::{Work, counts};

@@ -9,8 +9,8 @@ ghost use Rattle.plan_meaning.specs.Caches.{AreShared};
 ghost use Rattle.plan_meaning.specs.PlanAt.{plan_at};
 ghost use Rattle.plan_meaning.specs.Steps.{IsValid};
 ghost use Rattle.plan_pass_laws.specs.Becoming.{Becomes};
-ghost use Rattle.plan_rule_laws.specs.Clearing.{Cleared};
-ghost use Rattle.plan_rule_laws.specs.Settling.{Settles};
+ghost use Rattle.plan_pass_laws.specs.Clearing.{Cleared};
+ghost use Rattle.plan_pass_laws.specs.Settling.{Settles};
 ghost use Rattle.plan_reshape.specs.Walking.{all_own};
 
 use crate::boxed::BoxedRule;

@@ -10,9 +10,9 @@ ghost use Rattle.plan_meaning.specs.Marks.{unmarked};
 ghost use Rattle.plan_meaning.specs.PlanAt.{plan_at};
 ghost use Rattle.plan_meaning.specs.Steps.{IsValid};
 ghost use Rattle.plan_pass_laws.specs.Becoming.{Becomes};
-ghost use Rattle.plan_rule_laws.specs.Settling.{Settles};
-ghost use Rattle.plan_rule_laws.specs.Walks.{Walks};
-ghost use Rattle.plan_rule_laws.specs.Weights.{weight};
+ghost use Rattle.plan_pass_laws.specs.Settling.{Settles};
+ghost use Rattle.plan_pass_laws.specs.Walks.{Walks};
+ghost use Rattle.plan_pass_laws.specs.Weights.{weight};
 ghost use Rattle.plan_reshape.specs.Walking.{WalkedAt, all_own, done_of};
 
 use crate::exprs::walk_exprs;

@@ -1,7 +1,7 @@
 //! What calls of rules do.
 ghost use Rattle.std.specs.Prelude.{◌≡◌, ◌<◌, ◌+◌, ◌^◌};
-ghost use Rattle.plan_rule_laws.specs.Patterns.{is_counted};
-ghost use Rattle.plan_rule_laws.specs.Settling.{both, idle};
+ghost use Rattle.plan_pass_laws.specs.Patterns.{is_counted};
+ghost use Rattle.plan_pass_laws.specs.Settling.{both, idle};
 ghost use Rattle.plan_reshape.specs.Walking.{done_of};
 
 use plan_rule::RuleKind;

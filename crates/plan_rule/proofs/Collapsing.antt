@@ -16,10 +16,10 @@ use Rattle.plan_ir.proofs.PlanLemmas.{plan_down}
 use Rattle.plan_meaning.specs.PlanAt.{plan_at}
 use Rattle.plan_meaning.specs.Steps.{IsValid}
 use Rattle.plan_meaning.specs.Typing.{schema, schema_by, schemas}
-use Rattle.plan_rule_laws.specs.declared.kind.RuleKind.TheVariants as kinds
-use Rattle.plan_rule_laws.specs.Answers.{answer_of, as_projection, hits_of, joined_node, or_answer, selects_columns}
-use Rattle.plan_rule_laws.specs.Patterns.{shows}
-use Rattle.plan_rule_laws.proofs.AnswerLaws.{collapse_shows}
+use Rattle.plan_pass_laws.specs.declared.kind.RuleKind.TheVariants as kinds
+use Rattle.plan_pass_laws.specs.Answers.{answer_of, as_projection, hits_of, joined_node, or_answer, selects_columns}
+use Rattle.plan_pass_laws.specs.Patterns.{shows}
+use Rattle.plan_pass_laws.proofs.AnswerLaws.{collapse_shows}
 use Rattle.plan_rule.specs.Calls.{Answers, Leaves, Replaces, plan_of}
 use Rattle.plan_rule.specs.Joined.{as_projection_node, caches_joined, projected_input, projection_onto}
 use Rattle.plan_rule.proofs.InputUp.{input_up}

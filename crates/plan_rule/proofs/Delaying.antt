@@ -13,11 +13,11 @@ use Rattle.plan_ir.specs.declared.ir.IR.{IR}
 use Rattle.plan_ir.specs.declared.ir.IR.TheVariants.{GroupBy}
 use Rattle.plan_ir.specs.Parts.{IsPlan, StandsPlan, first_input, inputs_of, plan_shape, roots_in, roots_of}
 use Rattle.plan_ir.specs.Plans.{Op, Plan, bare, op_at, plans_of}
-use Rattle.plan_rule_laws.specs.declared.kind.RuleKind.TheVariants as kinds
-use Rattle.plan_rule_laws.specs.Answers.{delayed, delayed_in, first_met, groups_by_one}
-use Rattle.plan_rule_laws.specs.Clearing.{Cleared}
-use Rattle.plan_rule_laws.specs.Patterns.{any_marked, shows}
-use Rattle.plan_rule_laws.proofs.ClearedPatterns.{delayed_cleared, delayed_quiet}
+use Rattle.plan_pass_laws.specs.declared.kind.RuleKind.TheVariants as kinds
+use Rattle.plan_pass_laws.specs.Answers.{delayed, delayed_in, first_met, groups_by_one}
+use Rattle.plan_pass_laws.specs.Clearing.{Cleared}
+use Rattle.plan_pass_laws.specs.Patterns.{any_marked, shows}
+use Rattle.plan_pass_laws.proofs.ClearedPatterns.{delayed_cleared, delayed_quiet}
 use Rattle.plan_rule.specs.Calls.{Leaves, plan_of}
 use Rattle.plan_rule.specs.Sought.{Delays}
 use Rattle.plan_rule.proofs.Placed.{stays}

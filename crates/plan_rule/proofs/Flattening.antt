@@ -18,9 +18,9 @@ use Rattle.plan_ir.specs.Parts.{IsPlan, StandsPlan, inputs_of, is_invalid, plan_
 use Rattle.plan_ir.specs.Plans.{Op, bare, op_at, plans_of, union}
 use Rattle.plan_meaning.specs.PlanAt.{plan_at}
 use Rattle.plan_meaning.specs.Steps.{IsValid}
-use Rattle.plan_rule_laws.specs.declared.kind.RuleKind.TheVariants as kinds
-use Rattle.plan_rule_laws.specs.Answers.{all_taken_up, answer_of, flatten_answer, has_unflattened, is_unflattened, taken_up}
-use Rattle.plan_rule_laws.proofs.AnswerLaws.{flatten_shows}
+use Rattle.plan_pass_laws.specs.declared.kind.RuleKind.TheVariants as kinds
+use Rattle.plan_pass_laws.specs.Answers.{all_taken_up, answer_of, flatten_answer, has_unflattened, is_unflattened, taken_up}
+use Rattle.plan_pass_laws.proofs.AnswerLaws.{flatten_shows}
 use Rattle.plan_rule.specs.Calls.{Leaves, Replaces, plan_of}
 use Rattle.plan_rule.specs.TakenUp.{flattened_options, has_unflattened_node, is_unflattened_node, numbers_for, numbers_taken_up}
 use Rattle.plan_rule.proofs.Placed.{Last, put_at, stays}

@@ -11,8 +11,8 @@ use Rattle.plan_ir.specs.declared.ir.IR.{IR}
 use Rattle.plan_ir.specs.Parts.{StandsPlan, inputs_of, is_invalid, plan_shape, roots_in, roots_of}
 use Rattle.plan_meaning.specs.PlanAt.{plan_at}
 use Rattle.plan_meaning.specs.Steps.{IsValid}
-use Rattle.plan_rule_laws.specs.declared.kind.RuleKind.{RuleKind}
-use Rattle.plan_rule_laws.specs.Answers.{answer_of}
+use Rattle.plan_pass_laws.specs.declared.kind.RuleKind.{RuleKind}
+use Rattle.plan_pass_laws.specs.Answers.{answer_of}
 use Rattle.plan_rule.specs.Calls.{Replaces, plan_of}
 use Rattle.plan_rule.proofs.Placed.{Last, last_exprs, plan_at-of, put_at, same_numbers}
 

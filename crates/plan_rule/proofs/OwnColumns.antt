@@ -9,7 +9,7 @@ use Rattle.plan_expr.specs.Exprs.{Expr, all_named_at, expr_op, named_at}
 use Rattle.plan_expr.specs.Operands.{IsExpr}
 use Rattle.plan_expr.proofs.ExprLemmas.{expr_open}
 use Rattle.plan_meaning.specs.Work.{is_column_op, is_plain}
-use Rattle.plan_rule_laws.specs.Answers.{are_own_columns, is_alias, is_own_column}
+use Rattle.plan_pass_laws.specs.Answers.{are_own_columns, is_alias, is_own_column}
 
 module _ (ex : List AExpr) (es : List ExprIR) (i : ℕ) where
   -- an expression more

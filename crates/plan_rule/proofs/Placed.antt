@@ -19,12 +19,12 @@ use Rattle.plan_ir.specs.Plans.{Op, Plan, bare, op_at, plans_of}
 use Rattle.plan_ir.proofs.PlanLemmas.{plan_exprs}
 use Rattle.plan_meaning.specs.PlanAt.{plan_at}
 use Rattle.plan_meaning.specs.Steps.{IsValid}
-use Rattle.plan_rule_laws.specs.declared.kind.RuleKind.{RuleKind}
-use Rattle.plan_rule_laws.specs.Answers.{answer_of, left_by}
-use Rattle.plan_rule_laws.specs.Patterns.{shows}
-use Rattle.plan_rule_laws.proofs.AnswerLaws.{answer_keeps, answer_lighter, answer_refines, answer_smaller}
-use Rattle.plan_rule_laws.proofs.AnswerViews.{answered}
-use Rattle.plan_rule_laws.proofs.ClearedPlans.{cleared_refl}
+use Rattle.plan_pass_laws.specs.declared.kind.RuleKind.{RuleKind}
+use Rattle.plan_pass_laws.specs.Answers.{answer_of, left_by}
+use Rattle.plan_pass_laws.specs.Patterns.{shows}
+use Rattle.plan_pass_laws.proofs.AnswerLaws.{answer_keeps, answer_lighter, answer_refines, answer_smaller}
+use Rattle.plan_pass_laws.proofs.AnswerViews.{answered}
+use Rattle.plan_pass_laws.proofs.ClearedPlans.{cleared_refl}
 use Rattle.plan_rule.specs.Calls.{IsBetter, Leaves, Replaces, plan_of}
 
 -- the plan that a number reaches is that of the tree over it

@@ -14,7 +14,7 @@ use Rattle.plan_ir.specs.declared.ir.IR.TheVariants.{Scan, Join, Union}
 use Rattle.plan_ir.specs.Parts.{inputs_of, is_invalid, plan_shape, roots_in, roots_of}
 use Rattle.plan_ir.specs.Plans.{Op, bare, op_at, plans_of}
 use Rattle.plan_meaning.specs.Marks.{unmarked_op}
-use Rattle.plan_rule_laws.specs.Answers.{delayed_in, is_met, meets}
+use Rattle.plan_pass_laws.specs.Answers.{delayed_in, is_met, meets}
 use Rattle.plan_rule.specs.Sought.{Delays, first_sought, is_sought, or_number, unmarked_entry}
 
 abbrev Plans : Type 0

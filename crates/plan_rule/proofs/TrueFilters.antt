@@ -12,9 +12,9 @@ use Rattle.plan_ir.specs.Plans.{Op, op_at, plans_of, bare}
 use Rattle.plan_tree.proofs.TreeLemmas.{opened}
 use Rattle.plan_meaning.specs.PlanAt.{plan_at}
 use Rattle.plan_meaning.specs.Steps.{IsValid}
-use Rattle.plan_rule_laws.specs.declared.kind.RuleKind.TheVariants as kinds
-use Rattle.plan_rule_laws.specs.Answers.{answer_of, keeps_all, only_input, true_filter_answer}
-use Rattle.plan_rule_laws.specs.Patterns.{shows}
+use Rattle.plan_pass_laws.specs.declared.kind.RuleKind.TheVariants as kinds
+use Rattle.plan_pass_laws.specs.Answers.{answer_of, keeps_all, only_input, true_filter_answer}
+use Rattle.plan_pass_laws.specs.Patterns.{shows}
 use Rattle.plan_rule.specs.Calls.{Leaves, Replaces, plan_of}
 use Rattle.plan_rule.proofs.InputUp.{input_up}
 use Rattle.plan_rule.proofs.Placed.{over_one, stays}

@@ -11,11 +11,11 @@ use Rattle.plan_ir.specs.Plans.{Plan, bare, plans_of}
 use Rattle.plan_meaning.specs.PlanAt.{one_plan, plan_at}
 use Rattle.plan_meaning.specs.Relating.{Refines}
 use Rattle.plan_meaning.specs.Scans.{Keeps}
-use Rattle.plan_rule_laws.specs.declared.kind.RuleKind.{RuleKind}
-use Rattle.plan_rule_laws.specs.Answers.{answer_of, left_by}
-use Rattle.plan_rule_laws.specs.Clearing.{Cleared}
-use Rattle.plan_rule_laws.specs.Patterns.{is_counted, shows}
-use Rattle.plan_rule_laws.specs.Weights.{bulk, weight}
+use Rattle.plan_pass_laws.specs.declared.kind.RuleKind.{RuleKind}
+use Rattle.plan_pass_laws.specs.Answers.{answer_of, left_by}
+use Rattle.plan_pass_laws.specs.Clearing.{Cleared}
+use Rattle.plan_pass_laws.specs.Patterns.{is_counted, shows}
+use Rattle.plan_pass_laws.specs.Weights.{bulk, weight}
 use Rattle.plan_pass_laws.specs.Becoming.{Becomes}
 
 -- the plan that a tree of nodes is

@@ -3,7 +3,7 @@ use Rattle.std.specs.Prelude.{ℕ, Option, Some, None}
 use Rattle.plan_core.specs.declared.arena.Node.{Node}
 use Rattle.plan_ir.specs.declared.ir.IR.{IR}
 use Rattle.plan_ir.specs.declared.ir.IR.TheVariants.{SimpleProjection, Select, Cache}
-use Rattle.plan_rule_laws.specs.Answers.{hits_of}
+use Rattle.plan_pass_laws.specs.Answers.{hits_of}
 
 -- a selection as a projection to the columns that it stores
 abbrev pub as_projection_node : IR → IR

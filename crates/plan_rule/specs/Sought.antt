@@ -8,7 +8,7 @@ use Rattle.plan_ir.specs.declared.ir.IR.{IR}
 use Rattle.plan_ir.specs.declared.ir.IR.TheVariants.{Scan, Join, Union}
 use Rattle.plan_ir.specs.Parts.{plan_shape, roots_in}
 use Rattle.plan_ir.specs.Plans.{bare, plans_of}
-use Rattle.plan_rule_laws.specs.Answers.{delayed_in}
+use Rattle.plan_pass_laws.specs.Answers.{delayed_in}
 
 -- a scan of files, a union or a join
 abbrev pub is_sought : IR → Bool

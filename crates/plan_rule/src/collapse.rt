@@ -28,9 +28,9 @@ ghost use Rattle.plan_meaning.specs.PlanAt.{plan_at};
 ghost use Rattle.plan_meaning.specs.Steps.{IsValid};
 ghost use Rattle.plan_meaning.specs.Typing.{schema};
 ghost use Rattle.plan_meaning.specs.Work.{is_column_op};
-ghost use Rattle.plan_rule_laws.specs.declared.kind.RuleKind.TheVariants as kinds;
-ghost use Rattle.plan_rule_laws.specs.Answers.{are_own_columns, is_alias, is_own_column, selects_columns};
-ghost use Rattle.plan_rule_laws.specs.Patterns.{shows};
+ghost use Rattle.plan_pass_laws.specs.declared.kind.RuleKind.TheVariants as kinds;
+ghost use Rattle.plan_pass_laws.specs.Answers.{are_own_columns, is_alias, is_own_column, selects_columns};
+ghost use Rattle.plan_pass_laws.specs.Patterns.{shows};
 ghost use Rattle.plan_rule.specs.Calls.{plan_of, Answers};
 ghost use Rattle.plan_rule.specs.Joined.{as_projection_node, caches_joined, projected_input, projection_onto};
 
@@ -38,7 +38,7 @@ use crate::rule::OptimizationRule;
 use plan_core::{Arena, Node, PolarsResult, Schema};
 use plan_expr::{AExpr, ExprIR, OutputName};
 use plan_ir::IR;
-use plan_rule_laws::RuleKind;
+use plan_pass_laws::RuleKind;
 use plan_schema::stored_schema;
 use std::alloc::{AllocError, Global};
 
@@ -204,7 +204,7 @@ impl SimpleProjectionAndCollapse {
 
 impl OptimizationRule for SimpleProjectionAndCollapse {
     ghost use Rattle.std.specs.Prelude.{true};
-    ghost use Rattle.plan_rule_laws.specs.declared.kind.RuleKind.TheVariants.{Collapse as collapse};
+    ghost use Rattle.plan_pass_laws.specs.declared.kind.RuleKind.TheVariants.{Collapse as collapse};
 
     ghost kind_of = { λ rule. collapse rule.eager };
 

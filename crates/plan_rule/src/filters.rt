@@ -9,13 +9,13 @@ ghost use Rattle.plan_expr.specs.Exprs.{expr_at, expr_op};
 ghost use Rattle.plan_expr.specs.Operands.{IsExpr};
 ghost use Rattle.plan_ir.specs.Parts.{exprs_of, first_input};
 ghost use Rattle.plan_ir.specs.Plans.{op_at};
-ghost use Rattle.plan_rule_laws.specs.Answers.{is_true_literal, is_true_op, keeps_all};
+ghost use Rattle.plan_pass_laws.specs.Answers.{is_true_literal, is_true_op, keeps_all};
 
 use crate::rule::OptimizationRule;
 use plan_core::{Arena, Node, PolarsResult};
 use plan_expr::{AExpr, LiteralValue};
 use plan_ir::IR;
-use plan_rule_laws::RuleKind;
+use plan_pass_laws::RuleKind;
 use std::alloc::Global;
 
 /// Puts the input of a filter by the literal true in its place.
@@ -56,7 +56,7 @@ fn true_filter_input(entry: &IR, ex: &Arena<AExpr>) -> Option<Node>
 
 impl OptimizationRule for DropTrueFilter {
     ghost use Rattle.std.specs.Prelude.{true};
-    ghost use Rattle.plan_rule_laws.specs.declared.kind.RuleKind.TheVariants.{TrueFilter as true_filter};
+    ghost use Rattle.plan_pass_laws.specs.declared.kind.RuleKind.TheVariants.{TrueFilter as true_filter};
 
     ghost kind_of = { λ _. true_filter };
 

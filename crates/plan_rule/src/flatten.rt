@@ -19,7 +19,7 @@ use plan_core::{Arena, Items, Node, PolarsResult};
 use plan_expr::AExpr;
 use plan_ir::IR;
 use plan_options::UnionOptions;
-use plan_rule_laws::RuleKind;
+use plan_pass_laws::RuleKind;
 use plan_tree::Entry;
 use std::alloc::{AllocError, Global};
 
@@ -85,7 +85,7 @@ fn flattened(options: &UnionOptions) -> UnionOptions
 
 impl OptimizationRule for FlattenUnionRule {
     ghost use Rattle.std.specs.Prelude.{true};
-    ghost use Rattle.plan_rule_laws.specs.declared.kind.RuleKind.TheVariants.{Flatten as flatten};
+    ghost use Rattle.plan_pass_laws.specs.declared.kind.RuleKind.TheVariants.{Flatten as flatten};
 
     ghost kind_of = { λ _. flatten };
 

@@ -10,6 +10,6 @@ mod rule;
 pub use collapse::SimpleProjectionAndCollapse;
 pub use filters::DropTrueFilter;
 pub use flatten::FlattenUnionRule;
-pub use plan_rule_laws::RuleKind;
+pub use plan_pass_laws::RuleKind;
 pub use rechunk::DelayRechunk;
 pub use rule::OptimizationRule;

@@ -11,14 +11,14 @@ ghost use Rattle.plan_expr.specs.declared.aexpr.AExpr.{AExpr as AExprType};
 ghost use Rattle.plan_ir.specs.declared.ir.IR.{IR as IRType};
 ghost use Rattle.plan_ir.specs.Parts.{first_input, plan_shape};
 ghost use Rattle.plan_ir.specs.Plans.{op_at};
-ghost use Rattle.plan_rule_laws.specs.Answers.{groups_by_one};
+ghost use Rattle.plan_pass_laws.specs.Answers.{groups_by_one};
 ghost use Rattle.plan_rule.specs.Sought.{first_sought, is_sought, unmarked_entry, Delays};
 
 use crate::rule::OptimizationRule;
 use plan_core::{Arena, Items, Node, PolarsResult};
 use plan_expr::AExpr;
 use plan_ir::IR;
-use plan_rule_laws::RuleKind;
+use plan_pass_laws::RuleKind;
 use plan_tree::Entry;
 use std::alloc::{AllocError, Global};
 
@@ -108,7 +108,7 @@ impl DelayRechunk {
 
 impl OptimizationRule for DelayRechunk {
     ghost use Rattle.std.specs.Prelude.{true};
-    ghost use Rattle.plan_rule_laws.specs.declared.kind.RuleKind.TheVariants.{Rechunk as rechunk};
+    ghost use Rattle.plan_pass_laws.specs.declared.kind.RuleKind.TheVariants.{Rechunk as rechunk};
 
     ghost kind_of = { λ _. rechunk };
 

@@ -12,7 +12,7 @@ ghost use Rattle.plan_rule.specs.Calls.{Answers, AnswersExpr, ListsExpr};
 use plan_core::{Arena, Node, PolarsResult};
 use plan_expr::AExpr;
 use plan_ir::IR;
-use plan_rule_laws::RuleKind;
+use plan_pass_laws::RuleKind;
 use std::alloc::Global;
 
 /// A rule that puts lighter plans in the place of others. An answer is an entry that the caller puts at the number that it asked for.
@@ -26,7 +26,7 @@ use std::alloc::Global;
 pub trait OptimizationRule: Drop {
     ghost use Rattle.std.specs.Prelude.{Bool};
     ghost use Rattle.plan_core.specs.declared.error.PolarsError.TheVariants.{OutOfMemory as out_of_memory};
-    ghost use Rattle.plan_rule_laws.specs.declared.kind.RuleKind.{RuleKind};
+    ghost use Rattle.plan_pass_laws.specs.declared.kind.RuleKind.{RuleKind};
 
     // The kind of the rule.
     ghost kind_of: { Self → RuleKind };

@@ -7,8 +7,8 @@ use Rattle.plan_tree.specs.Rose.{size}
 use Rattle.plan_expr.specs.Operands.{expr_shape, operands_of}
 use Rattle.plan_meaning.specs.PlanAt.{plan_at}
 use Rattle.plan_rule.proofs.Listed.{listed_inside}
-use Rattle.plan_rule_laws.specs.Settling.{both}
-use Rattle.plan_rule_laws.specs.Weights.{weight}
+use Rattle.plan_pass_laws.specs.Settling.{both}
+use Rattle.plan_pass_laws.specs.Weights.{weight}
 use Rattle.plan_reshape.specs.Walking.{all_own, done_of}
 use Rattle.plan_reshape.proofs.Operands.{Ops, at_expr, at_start, ops_asks, ops_at, ops_end, ops_first, ops_fits, ops_next, start_tree}
 use Rattle.plan_reshape.proofs.exprs.+walk_expr.Goals as goal

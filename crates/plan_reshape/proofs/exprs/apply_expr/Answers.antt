@@ -1,7 +1,7 @@
 use Rattle.std.proofs.Common.{arith, ◌≡◌, ◌<◌, ◌≤◌, ◌+◌, ◌^◌, [], ◌∷◌, length, refl, sym, ◌∙◌, ap, length-set}
-use Rattle.plan_rule_laws.specs.Patterns.{is_counted}
+use Rattle.plan_pass_laws.specs.Patterns.{is_counted}
 use Rattle.plan_meaning.specs.PlanAt.{plan_at}
-use Rattle.plan_rule_laws.specs.Weights.{weight}
+use Rattle.plan_pass_laws.specs.Weights.{weight}
 use Rattle.plan_reshape.proofs.Tends.{expr_counted, expr_end, expr_falls, expr_first, expr_room, expr_silent, expr_stays}
 use Rattle.plan_reshape.proofs.Told.{foreign_answer, left_plan}
 use Rattle.plan_reshape.proofs.exprs.apply_expr.Goals as goal

@@ -1,6 +1,6 @@
 use Rattle.std.proofs.Common.{◌≡◌, ◌≤◌, [], ◌∷◌, length, true}
 use Rattle.plan_meaning.specs.PlanAt.{plan_at}
-use Rattle.plan_rule_laws.specs.Weights.{weight}
+use Rattle.plan_pass_laws.specs.Weights.{weight}
 use Rattle.plan_reshape.proofs.Tends.{TriedExpr}
 use Rattle.plan_reshape.proofs.exprs.apply_expr.Given as goal
 

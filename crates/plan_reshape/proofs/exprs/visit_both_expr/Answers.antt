@@ -1,8 +1,8 @@
 use Rattle.std.proofs.Common.{arith, ◌≡◌, ◌+◌, ◌<◌, ◌≤◌, ◌^◌, ◌++◌, ◌∙◌, map, length, refl}
 use Rattle.plan_meaning.specs.PlanAt.{plan_at}
 use Rattle.plan_rule.proofs.Listed.{listed_inside}
-use Rattle.plan_rule_laws.specs.Settling.{both}
-use Rattle.plan_rule_laws.specs.Weights.{weight}
+use Rattle.plan_pass_laws.specs.Settling.{both}
+use Rattle.plan_pass_laws.specs.Weights.{weight}
 use Rattle.plan_reshape.specs.Walking.{done_of}
 use Rattle.plan_reshape.proofs.Told.{own_join}
 use Rattle.plan_reshape.proofs.Tends.{TriedExpr, expr_first, expr_stays, expr_then}

@@ -4,8 +4,8 @@ use Rattle.std.proofs.lemmas.Option.{slice_get_within}
 use Rattle.std.proofs.lemmas.List.{length-map}
 use Rattle.plan_expr.specs.declared.expr_ir.ExprIR.{ExprIR}
 use Rattle.plan_meaning.specs.PlanAt.{plan_at}
-use Rattle.plan_rule_laws.specs.Settling.{both}
-use Rattle.plan_rule_laws.specs.Weights.{weight}
+use Rattle.plan_pass_laws.specs.Settling.{both}
+use Rattle.plan_pass_laws.specs.Weights.{weight}
 use Rattle.plan_reshape.specs.Walking.{all_own, done_of}
 use Rattle.plan_reshape.proofs.Brings.{plan_inside}
 use Rattle.plan_reshape.proofs.Listed.{root_listed, roots_next, roots_none, since_tended}

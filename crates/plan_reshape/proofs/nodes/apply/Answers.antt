@@ -1,7 +1,7 @@
 use Rattle.std.proofs.Common.{arith, ◌≡◌, ◌<◌, ◌≤◌, ◌+◌, ◌^◌, length, refl, sym, ◌∙◌, ap, length-set}
-use Rattle.plan_rule_laws.specs.Patterns.{is_counted}
+use Rattle.plan_pass_laws.specs.Patterns.{is_counted}
 use Rattle.plan_meaning.specs.PlanAt.{plan_at}
-use Rattle.plan_rule_laws.specs.Weights.{weight}
+use Rattle.plan_pass_laws.specs.Weights.{weight}
 use Rattle.plan_reshape.proofs.Brings.{tried_first, tried_stays, tried_counted, tried_silent, tried_falls, tried_room, tried_end}
 use Rattle.plan_reshape.proofs.Told.{onward_end, onward_next}
 use Rattle.plan_reshape.proofs.nodes.apply.Goals as goal

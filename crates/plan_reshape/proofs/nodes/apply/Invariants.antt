@@ -1,6 +1,6 @@
 use Rattle.std.proofs.Common.{◌≡◌, ◌≤◌, length}
 use Rattle.plan_meaning.specs.PlanAt.{plan_at}
-use Rattle.plan_rule_laws.specs.Weights.{weight}
+use Rattle.plan_pass_laws.specs.Weights.{weight}
 use Rattle.plan_reshape.proofs.Brings.{Tried}
 use Rattle.plan_reshape.proofs.Told.{Onward}
 use Rattle.plan_reshape.proofs.nodes.apply.Given as goal

@@ -1,7 +1,7 @@
 use Rattle.std.proofs.Common.{◌≡◌, ◌≤◌, true, length, map, take}
 use Rattle.plan_meaning.specs.Marks.{unmarked}
 use Rattle.plan_meaning.specs.PlanAt.{plan_at}
-use Rattle.plan_rule_laws.specs.Walks.{UntilAll}
+use Rattle.plan_pass_laws.specs.Walks.{UntilAll}
 use Rattle.plan_reshape.specs.Walking.{all_own, done_of}
 use Rattle.plan_reshape.proofs.Visits.{Visited}
 use Rattle.plan_reshape.proofs.nodes.visit.Given as goal

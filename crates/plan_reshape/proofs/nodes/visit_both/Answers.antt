@@ -1,8 +1,8 @@
 use Rattle.std.proofs.Common.{arith, ◌≡◌, ◌+◌, ◌<◌, ◌≤◌, ◌^◌, ◌++◌, map, length}
 use Rattle.plan_meaning.specs.Marks.{unmarked}
 use Rattle.plan_meaning.specs.PlanAt.{plan_at}
-use Rattle.plan_rule_laws.specs.Settling.{both}
-use Rattle.plan_rule_laws.specs.Weights.{weight}
+use Rattle.plan_pass_laws.specs.Settling.{both}
+use Rattle.plan_pass_laws.specs.Weights.{weight}
 use Rattle.plan_reshape.specs.Walking.{done_of}
 use Rattle.plan_reshape.proofs.Told.{own_join, until_then}
 use Rattle.plan_reshape.proofs.Visits.{visited_stays, visited_then}

@@ -4,9 +4,9 @@ use Rattle.plan_ir.specs.Parts.{inputs_of}
 use Rattle.plan_ir.specs.Plans.{Plan, bare, plans_of}
 use Rattle.plan_meaning.specs.Marks.{unmarked}
 use Rattle.plan_meaning.specs.PlanAt.{plan_at}
-use Rattle.plan_rule_laws.specs.Settling.{both}
-use Rattle.plan_rule_laws.specs.Walks.{UntilAll}
-use Rattle.plan_rule_laws.specs.Weights.{weight, weight_in}
+use Rattle.plan_pass_laws.specs.Settling.{both}
+use Rattle.plan_pass_laws.specs.Walks.{UntilAll}
+use Rattle.plan_pass_laws.specs.Weights.{weight, weight_in}
 use Rattle.plan_reshape.specs.Walking.{all_own, done_of}
 use Rattle.plan_reshape.proofs.Inputs.{Left, end_fits, falls_to, fits_below, inputs_ask, left_at, left_first, left_next, no_inputs, under_of, walked_end, walked_told}
 use Rattle.plan_reshape.proofs.Brings.{stays}

@@ -1,6 +1,6 @@
 use Rattle.std.proofs.Common.{◌≡◌, ◌≤◌, ◌++◌, length, map}
 use Rattle.plan_meaning.specs.PlanAt.{plan_at}
-use Rattle.plan_rule_laws.specs.Weights.{weight}
+use Rattle.plan_pass_laws.specs.Weights.{weight}
 use Rattle.plan_reshape.specs.Walking.{all_own, done_of}
 use Rattle.plan_reshape.proofs.Inputs.{Left}
 use Rattle.plan_reshape.proofs.walks.+walk.Given as goal

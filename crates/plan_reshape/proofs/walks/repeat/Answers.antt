@@ -1,8 +1,8 @@
 use Rattle.std.proofs.Common.{arith, ◌≡◌, ◌<◌, ◌≤◌, ◌+◌, ◌||◌, ◌^◌, ◌++◌, refl, ap₂, ◌∙◌, false, map, List, Bool, length}
 use Rattle.plan_meaning.specs.PlanAt.{plan_at}
-use Rattle.plan_rule_laws.specs.Settling.{both}
-use Rattle.plan_rule_laws.specs.Weights.{weight}
-use Rattle.plan_rule_laws.proofs.WalkCaches.{walk_shared}
+use Rattle.plan_pass_laws.specs.Settling.{both}
+use Rattle.plan_pass_laws.specs.Weights.{weight}
+use Rattle.plan_pass_laws.proofs.WalkCaches.{walk_shared}
 use Rattle.plan_reshape.specs.Walking.{all_own, done_of}
 use Rattle.plan_reshape.proofs.Repeats.{since_first, since_stays, since_next, since_room, since_falls, since_end, since_settles, not_is_true, not_is_false}
 use Rattle.plan_reshape.proofs.Sizes.{weight_fits}

@@ -1,7 +1,7 @@
 use Rattle.std.proofs.Common.{◌≡◌, ◌≤◌, ◌++◌, length, Bool, map, true}
 use Rattle.plan_meaning.specs.Caches.{AreShared}
 use Rattle.plan_meaning.specs.PlanAt.{plan_at}
-use Rattle.plan_rule_laws.specs.Weights.{weight}
+use Rattle.plan_pass_laws.specs.Weights.{weight}
 use Rattle.plan_reshape.specs.Walking.{all_own}
 use Rattle.plan_reshape.proofs.Repeats.{Since}
 use Rattle.plan_reshape.proofs.walks.repeat.Given as goal

@@ -1,6 +1,6 @@
 use Rattle.std.proofs.Common.{◌≡◌, drop}
 use Rattle.plan_expr.specs.Exprs.{all_named_at}
-use Rattle.plan_rule_laws.specs.Answers.{are_own_columns}
+use Rattle.plan_pass_laws.specs.Answers.{are_own_columns}
 use Rattle.plan_rule.proofs.collapse.are_own_columns.Given as goal
 
 abbrev pub invariant-loop-expr : goal.invariant-loop-expr

@@ -1,5 +1,5 @@
 use Rattle.std.proofs.Common.{◌∙◌, ◌&&◌, Bool, not, sym, ap}
-use Rattle.plan_rule_laws.specs.Answers.{is_alias}
+use Rattle.plan_pass_laws.specs.Answers.{is_alias}
 use Rattle.plan_rule.proofs.OwnColumns.{own_open}
 use Rattle.plan_rule.proofs.collapse.is_own_column.Goals as goal
 

@@ -1,6 +1,6 @@
 use Rattle.std.proofs.Common.{◌∙◌, ap, sym}
 use Rattle.plan_expr.proofs.ExprLemmas.{expr_open}
-use Rattle.plan_rule_laws.specs.Answers.{is_true_literal}
+use Rattle.plan_pass_laws.specs.Answers.{is_true_literal}
 use Rattle.plan_rule.proofs.filters.is_true.Goals as goal
 
 pub returns : goal.returns

@@ -1,4 +1,4 @@
-use Rattle.plan_rule_laws.specs.declared.kind.RuleKind.TheVariants.{TrueFilter}
+use Rattle.plan_pass_laws.specs.declared.kind.RuleKind.TheVariants.{TrueFilter}
 use Rattle.plan_pass_tests.proofs.Others.{as_other, nothing}
 use Rattle.plan_pass_tests.proofs.once.OnceOptimizationRule.optimize_plan.Goals as goal
 

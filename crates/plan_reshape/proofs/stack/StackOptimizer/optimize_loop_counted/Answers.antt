@@ -1,6 +1,6 @@
 use Rattle.std.proofs.Common.{arith, ◌≡◌, ◌+◌, ◌≤◌, ◌∙◌, ap, append-nil, map}
 use Rattle.plan_meaning.specs.PlanAt.{plan_at}
-use Rattle.plan_rule_laws.proofs.ClearedPlans.{cleared_weight}
+use Rattle.plan_pass_laws.proofs.ClearedPlans.{cleared_weight}
 use Rattle.plan_reshape.specs.Walking.{all_own}
 use Rattle.plan_reshape.proofs.stack.StackOptimizer.optimize_loop_counted.Goals as goal
 

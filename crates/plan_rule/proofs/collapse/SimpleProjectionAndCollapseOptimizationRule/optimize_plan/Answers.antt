@@ -1,6 +1,6 @@
 use Rattle.std.proofs.Common.{◌∙◌, Bool, subst, sym, true}
 use Rattle.std.proofs.lemmas.Option.{slice_get_within}
-use Rattle.plan_rule_laws.specs.declared.kind.RuleKind.TheVariants as kinds
+use Rattle.plan_pass_laws.specs.declared.kind.RuleKind.TheVariants as kinds
 use Rattle.plan_rule.specs.Calls.{Answers, Leaves}
 use Rattle.plan_rule.proofs.Collapsing.{eager_stays, selection_taken, shows_none}
 use Rattle.plan_rule.proofs.Placed.{exprs_stand}

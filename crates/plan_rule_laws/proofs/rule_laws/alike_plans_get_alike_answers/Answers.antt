@@ -1,5 +1,0 @@
-use Rattle.plan_rule_laws.proofs.AlikeAnswers.{answer_alike}
-use Rattle.plan_rule_laws.proofs.rule_laws.alike_plans_get_alike_answers.Goals as goal
-
-pub returns : goal.returns
-returns c = λ kind p. answer_alike kind p

@@ -1,5 +1,0 @@
-use Rattle.plan_rule_laws.proofs.FlattenRefines.{turned}
-use Rattle.plan_rule_laws.proofs.rule_laws.inputs_taken_up_give_the_same_rows.Goals as goal
-
-pub returns : goal.returns
-returns c = λ d ts v k fs m. turned d ts v k fs m

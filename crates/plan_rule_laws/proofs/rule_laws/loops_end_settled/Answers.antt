@@ -1,5 +1,0 @@
-use Rattle.plan_rule_laws.proofs.Reworked.{settles}
-use Rattle.plan_rule_laws.proofs.rule_laws.loops_end_settled.Goals as goal
-
-pub returns : goal.returns
-returns c = λ kinds r q p d e h w still. settles kinds r q p d e h w still
