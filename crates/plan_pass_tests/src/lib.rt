@@ -5,3 +5,6 @@
 #[cfg(test)]
 mod loops;
 mod once;
+mod true_side;
+#[cfg(test)]
+mod true_side_loops;

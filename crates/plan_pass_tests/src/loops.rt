@@ -28,7 +28,7 @@ const FILTER: &str =
     r#"{"exprs":[{"op":"Literal","type":"Boolean","value":true}],"nodes":[{"input":1,"op":"Filter","predicate":[0,"lit","literal"]},{"columns":null,"hive":null,"kind":"Parquet","op":"Scan","output":null,"path_column":null,"predicate":null,"reader":[["b","Boolean"]],"rechunk":false,"row_index":null,"schema":[["b","Boolean"]],"slice":null,"sources":{"paths":["x"]}}],"root":0}"#;
 
 /// The plan of a document.
-fn read(alloc: Global, text: &str) -> Result<PlanCopy, Fail> {
+pub(crate) fn read(alloc: Global, text: &str) -> Result<PlanCopy, Fail> {
     let document = read_document(alloc, text.as_bytes())?;
     Ok(PlanCopy {
         root: document.root,
@@ -38,7 +38,7 @@ fn read(alloc: Global, text: &str) -> Result<PlanCopy, Fail> {
 }
 
 /// The text of what the root of a plan reaches.
-fn written(alloc: Global, plan: &PlanCopy) -> Result<String, Fail> {
+pub(crate) fn written(alloc: Global, plan: &PlanCopy) -> Result<String, Fail> {
     check_tree(alloc, plan.root, &plan.lp, &plan.ex)?;
     let copy = renumbered(alloc, plan.root, &plan.lp, &plan.ex)?;
     Ok(write_plan(alloc, &copy)?)
