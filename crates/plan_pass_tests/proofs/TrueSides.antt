@@ -121,10 +121,10 @@ at_predicate lp ex n input predicate g plan v entry s yes =
     let grown : List AExpr = slice_set ex m.0 true_entry in
     let below : Plan = plan_at lp ex input in
     let x = becomes_true ex m g s in
-    let or = or_true_is (expr_at ex m) yes in
-    let was : plan_at lp ex n ≡ filter_by predicate.output_name (or_true or.below or.right) below =
+    let side = or_true_is (expr_at ex m) yes in
+    let was : plan_at lp ex n ≡ filter_by predicate.output_name (or_true side.below side.right) below =
     over_one lp ex n input (Filter input predicate) plan.nodes plan.stands.nodes entry refl
-    ∙ ap (λ (y : Expr). filter_by predicate.output_name y below) or.is in
+    ∙ ap (λ (y : Expr). filter_by predicate.output_name y below) side.is in
     let literal_now : expr_at grown m ≡ true_expr = expr_open grown m true_entry (true_tree m, x.stands) x.stands.stands.1 in
     let now : plan_at lp grown n ≡ filter_by predicate.output_name true_expr below =
     over_one lp grown n input (Filter input predicate) plan.nodes plan.stands.nodes entry refl
@@ -135,7 +135,7 @@ at_predicate lp ex n input predicate g plan v entry s yes =
       better =
       subst (λ (q : Plan). IsBetter kinds.Other q (plan_at lp ex n)) (sym now)
       (subst (λ (p : Plan). IsBetter kinds.Other (filter_by predicate.output_name true_expr below) p) (sym was)
-      (true_is_better predicate.output_name or.below or.right below (subst IsValid was v)));
+      (true_is_better predicate.output_name side.below side.right below (subst IsValid was v)));
       foreign = refl;
     }
 

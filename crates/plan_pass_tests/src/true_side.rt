@@ -95,10 +95,13 @@ impl OptimizationRule for TrueSide {
         lp_node: Node,
     ) -> PolarsResult<Option<AExpr>> {
         let _ = alloc;
-        if filters_by(lp.get(lp_node), expr_node) && is_true_or(expr_node, ex) {
-            return Ok(Some(AExpr::Literal(LiteralValue::Boolean(true))));
+        if !filters_by(lp.get(lp_node), expr_node) {
+            return Ok(None);
         }
-        Ok(None)
+        if !is_true_or(expr_node, ex) {
+            return Ok(None);
+        }
+        Ok(Some(AExpr::Literal(LiteralValue::Boolean(true))))
     }
 
     fn kind(&self) -> RuleKind {
