@@ -116,12 +116,12 @@ below_stays lp ex grown n input predicate t e g h entry s keeps =
     ∙ sym (plan_at-of lp ex input o.kids o.inputs)
 
 at_predicate : (lp : List IR) (ex : List AExpr) (n input : Node) (predicate : ExprIR) (g : Trees AExpr) → IsPlan lp ex n → IsValid (plan_at lp ex n) → slice_get lp n.0 ≡ Some (Filter input predicate) → StandsOnce expr_shape ex (predicate.node ∷ []) g → is_true_or (expr_at ex predicate.node) ≡ true → ReplacesExpr kinds.Other false lp ex (slice_set ex predicate.node.0 true_entry) n predicate.node g
-at_predicate lp ex n input predicate g plan v entry s yes =
+at_predicate lp ex n input predicate g plan v entry s holds =
     let m : Node = predicate.node in
     let grown : List AExpr = slice_set ex m.0 true_entry in
     let below : Plan = plan_at lp ex input in
     let x = becomes_true ex m g s in
-    let side = or_true_is (expr_at ex m) yes in
+    let side = or_true_is (expr_at ex m) holds in
     let was : plan_at lp ex n ≡ filter_by predicate.output_name (or_true side.below side.right) below =
     over_one lp ex n input (Filter input predicate) plan.nodes plan.stands.nodes entry refl
     ∙ ap (λ (y : Expr). filter_by predicate.output_name y below) side.is in
@@ -141,10 +141,10 @@ at_predicate lp ex n input predicate g plan v entry s yes =
 
 -- the answer makes the plan better
 pub answers_true : (lp : List IR) (ex : List AExpr) (n m : Node) (p : IR) (g : Trees AExpr) → IsPlan lp ex n → IsValid (plan_at lp ex n) → slice_get lp n.0 ≡ Some p → filters_by p m ≡ true → StandsOnce expr_shape ex (m ∷ []) g → is_true_or (expr_at ex m) ≡ true → ReplacesExpr kinds.Other false lp ex (slice_set ex m.0 true_entry) n m g
-answers_true lp ex n m p g plan v entry by s yes =
+answers_true lp ex n m p g plan v entry by s holds =
     let f = filter_of p m by in
     subst (λ (k : Node). StandsOnce expr_shape ex (k ∷ []) g → is_true_or (expr_at ex k) ≡ true → ReplacesExpr kinds.Other false lp ex (slice_set ex k.0 true_entry) n k g) f.at
-    (at_predicate lp ex n f.input f.predicate g plan v (entry ∙ ap (λ (q : IR). Some q) f.is)) s yes
+    (at_predicate lp ex n f.input f.predicate g plan v (entry ∙ ap (λ (q : IR). Some q) f.is)) s holds
 
 -- a call that does nothing
 pub answers_nothing : (lp : List IR) (ex : List AExpr) (n m : Node) (g : Trees AExpr) → StandsOnce expr_shape ex (m ∷ []) g → LeavesExpr lp ex ex n m g
