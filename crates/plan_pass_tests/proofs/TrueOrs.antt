@@ -19,7 +19,7 @@ use Rattle.plan_frame.specs.Rows.{filtered}
 use Rattle.plan_frame.specs.Values.{Value, is_true, truth}
 use Rattle.plan_frame.proofs.Sound.{val_sound}
 use Rattle.plan_frame.proofs.TurnLemmas.{HaveSchemas}
-use Rattle.plan_ir.specs.Plans.{Op, filter, Plan}
+use Rattle.plan_ir.specs.Plans.{filter, Plan}
 use Rattle.plan_meaning.specs.Contents.{Contents}
 use Rattle.plan_meaning.specs.Relating.{Refines}
 use Rattle.plan_meaning.specs.Steps.{IsValid, Step}
@@ -28,7 +28,7 @@ use Rattle.plan_meaning.proofs.Keeping.{keeps_refl}
 use Rattle.plan_meaning.proofs.Runs.{may_have_all, valid_runs}
 use Rattle.plan_rule_laws.specs.declared.kind.RuleKind.TheVariants as kinds
 use Rattle.plan_rule_laws.specs.Answers.{is_true_literal}
-use Rattle.plan_rule_laws.specs.Weights.{weight, weight_in}
+use Rattle.plan_rule_laws.specs.Weights.{weight_in}
 use Rattle.plan_rule.specs.Calls.{IsBetter}
 use Rattle.plan_pass_tests.specs.TrueSides.{first_is_true, is_or_op, is_true_or}
 

@@ -1,5 +1,5 @@
 -- The literal true in the place of a filter's predicate, in the arena of expressions.
-use Rattle.std.proofs.Common.{◌≡◌, ℕ, ◌<◌, Bool, true, false, List, [], ◌∷◌, ◌++◌, append-nil, length, Option, Some, None, refl, sym, ap, ap₂, ◌∙◌, subst}
+use Rattle.std.proofs.Common.{◌≡◌, true, false, List, [], ◌∷◌, ◌++◌, append-nil, Some, None, refl, sym, ap, ap₂, ◌∙◌, subst}
 use Rattle.std.specs.List.{slice_get, slice_set}
 use Rattle.std.proofs.lemmas.Bool.{eqb-true}
 use Rattle.plan_core.specs.declared.arena.Node.{Node}
@@ -27,7 +27,7 @@ use Rattle.plan_pass_laws.specs.Becoming.{StandApart}
 use Rattle.plan_pass_laws.proofs.KeptPlans.{plans_kept}
 use Rattle.plan_rule_laws.specs.declared.kind.RuleKind.TheVariants as kinds
 use Rattle.plan_rule_laws.specs.Answers.{is_true_literal}
-use Rattle.plan_rule.specs.Calls.{AnswersExpr, IsBetter, LeavesExpr, ListsExpr, ReplacesExpr}
+use Rattle.plan_rule.specs.Calls.{IsBetter, LeavesExpr, ListsExpr, ReplacesExpr}
 use Rattle.plan_rule.proofs.Listed.{listed_roots, stands_at}
 use Rattle.plan_rule.proofs.Placed.{over_one, plan_at-of}
 use Rattle.plan_pass_tests.specs.TrueSides.{filters_by, is_true_or, or_left}
@@ -133,9 +133,9 @@ at_predicate lp ex n input predicate g plan v entry s holds =
       trees = true_tree m;
       places = x;
       better =
-      subst (λ (q : Plan). IsBetter kinds.Other q (plan_at lp ex n)) (sym now)
-      (subst (λ (p : Plan). IsBetter kinds.Other (filter_by predicate.output_name true_expr below) p) (sym was)
-      (true_is_better predicate.output_name side.below side.right below (subst IsValid was v)));
+          subst (λ (q : Plan). IsBetter kinds.Other q (plan_at lp ex n)) (sym now)
+          (subst (λ (p : Plan). IsBetter kinds.Other (filter_by predicate.output_name true_expr below) p) (sym was)
+          (true_is_better predicate.output_name side.below side.right below (subst IsValid was v)));
       foreign = refl;
     }
 
