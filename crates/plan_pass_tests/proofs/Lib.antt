@@ -1,2 +1,4 @@
 -- The lemmas of these rules.
 mod Others
+mod TrueOrs
+mod TrueSides

@@ -6,3 +6,6 @@ mod heard;
 #[cfg(test)]
 mod loops;
 mod once;
+mod true_side;
+#[cfg(test)]
+mod true_side_loops;

@@ -33,7 +33,7 @@ const SUM_FILTER: &str =
     r#"{"root":0,"nodes":[{"op":"Filter","input":1,"predicate":[0,"col","a"]},{"op":"Scan","kind":"Parquet","sources":{"paths":["x"]},"schema":[["a","Int64"]],"reader":[["a","Int64"]],"hive":null,"output":null,"columns":null,"row_index":null,"path_column":null,"rechunk":false,"slice":null,"predicate":null}],"exprs":[{"op":"BinaryExpr","left":1,"operator":"Gt","right":4},{"op":"BinaryExpr","left":2,"operator":"Plus","right":3},{"op":"Column","name":"a"},{"op":"Literal","type":"Int64","value":1},{"op":"Literal","type":"Int64","value":2}],"flags":0,"shared":false,"tables":null}"#;
 
 /// The plan of a document.
-fn read(alloc: Global, text: &str) -> Result<PlanCopy, Fail> {
+pub(crate) fn read(alloc: Global, text: &str) -> Result<PlanCopy, Fail> {
     let document = read_document(alloc, text.as_bytes())?;
     Ok(PlanCopy {
         root: document.root,
@@ -43,7 +43,7 @@ fn read(alloc: Global, text: &str) -> Result<PlanCopy, Fail> {
 }
 
 /// The text of what the root of a plan reaches.
-fn written(alloc: Global, plan: &PlanCopy) -> Result<String, Fail> {
+pub(crate) fn written(alloc: Global, plan: &PlanCopy) -> Result<String, Fail> {
     check_tree(alloc, plan.root, &plan.lp, &plan.ex)?;
     let copy = renumbered(alloc, plan.root, &plan.lp, &plan.ex)?;
     Ok(write_plan(alloc, &copy)?)
