@@ -25,23 +25,25 @@ impl OptimizationRule for Heard {
 
     fn optimize_plan(
         &mut self,
-        _: Global,
-        _: &mut Arena<IR>,
-        _: &mut Arena<AExpr>,
-        _: Node,
+        alloc: Global,
+        lp: &mut Arena<IR>,
+        ex: &mut Arena<AExpr>,
+        node: Node,
     ) -> PolarsResult<Option<IR>> {
+        let _ = (alloc, node);
         self.nodes = self.nodes.saturating_add(1);
         Ok(None)
     }
 
     fn optimize_expr(
         &mut self,
-        _: Global,
-        _: &mut Arena<AExpr>,
-        _: Node,
-        _: &Arena<IR>,
-        _: Node,
+        alloc: Global,
+        ex: &mut Arena<AExpr>,
+        expr_node: Node,
+        lp: &Arena<IR>,
+        lp_node: Node,
     ) -> PolarsResult<Option<AExpr>> {
+        let _ = (alloc, expr_node, lp_node);
         self.exprs = self.exprs.saturating_add(1);
         Ok(None)
     }
