@@ -1,0 +1,23 @@
+use Rattle.std.proofs.Common.{[], refl}
+use Rattle.plan_top.proofs.PrunedPlaces.{pruned_in_place}
+use Rattle.plan_top.proofs.passes.push_down.Goals as goal
+
+pub returns-clause-is_valid : goal.returns-clause-is_valid
+returns-clause-is_valid c = (c.in_ok-optimize.ensures.refines c.requires.valid).valid
+
+pub returns-clause-passed : goal.returns-clause-passed
+returns-clause-passed c = λ flags extra.
+    let e = c.in_ok-optimize.ensures in
+    record {
+      follows = (
+        record {
+          refines = e.refines c.requires.valid;
+          reads = e.reads c.requires.valid;
+          made = e.work c.requires.valid;
+          nodes = e.nodes c.requires.valid;
+          shared = e.cached;
+        },
+        refl,
+      );
+      in_place = pruned_in_place _ [] _ _ _ _ c.args.root c.optimize.ensures.longer e.in_place;
+    }

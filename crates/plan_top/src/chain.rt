@@ -1,0 +1,97 @@
+//! The chain of passes over a checked plan.
+ghost use Rattle.std.specs.Prelude.{◌≡◌, ◌∷◌, [], true, false, IfErr, IfOk, OnErr, OnOk, Ok, length, map};
+ghost use Rattle.plan_core.specs.Columns.{Columns};
+ghost use Rattle.plan_ir.specs.Parts.{IsPlan};
+ghost use Rattle.plan_meaning.specs.Asked.{sites_of};
+ghost use Rattle.plan_meaning.specs.Caches.{AreShared};
+ghost use Rattle.plan_meaning.specs.PlanAt.{plan_at};
+ghost use Rattle.plan_meaning.specs.Relating.{Refines};
+ghost use Rattle.plan_meaning.specs.Scans.{Keeps, scans};
+ghost use Rattle.plan_meaning.specs.Typed.{typed};
+ghost use Rattle.plan_pruned.specs.Reads.{ReadWithin};
+ghost use Rattle.plan_top.specs.Chains.{is_pruning, passes};
+ghost use Rattle.plan_top.specs.Trails.{Chained, RefusedFor, Trailed};
+
+use crate::passes::{keep_step, prune, prune_on_trail, settle, settle_on_trail};
+use crate::trail::{Pass, Trail};
+use plan_check::check_plan;
+use plan_core::{Arena, Node, OptFlags, PolarsResult};
+use plan_expr::AExpr;
+use plan_ir::IR;
+use plan_reshape::{BoxedRule, OptimizationRule};
+use std::alloc::Global;
+
+/// Checks the plan at `root`, changes it by the passes that the flags ask for, and gives `root`.
+///
+/// The plan is pruned with `PROJECTION_PUSHDOWN`, and then rules are called until none finds its pattern: that which collapses
+/// projections with `FAST_PROJECTION`, and without `EAGER` those which delay rechunks and flatten unions. The plan then refines the
+/// given one. Where it was pruned, its scans stand one for one for the given ones and read only what they may for what is asked; else
+/// they are kept. Caches of one number stand over alike plans if they did. What `root` doesn't reach stays, and it reaches only what it
+/// reached, or what was added. `scratch` stays as it is.
+///
+/// Refuses where the plan isn't valid, with its first fault, and then changes nothing; else for want of memory alone, and then nothing
+/// is known of the arenas.
+pub fn optimize(
+    alloc: Global,
+    root: Node,
+    flags: OptFlags,
+    shared: bool,
+    lp: &mut Arena<IR>,
+    ex: &mut Arena<AExpr>,
+    scratch: &mut Vec<Node>,
+) -> PolarsResult<Node>
+    ensures refused { IfErr result (λ e. RefusedFor e lp.old ex.old root ((lp.new ≡ lp.old) × (ex.new ≡ ex.old))) }
+    ensures valid { OnOk result ((schema : Columns) × (typed lp.old ex.old root ≡ Ok schema)) }
+    ensures node { IfOk result (λ r. r ≡ root) }
+    ensures is_plan { OnOk result (IsPlan lp.new ex.new root) }
+    ensures chained { OnOk result (Chained flags [] (passes flags) lp.old lp.new ex.old ex.new root) }
+    ensures refines { OnOk result (Refines (plan_at lp.new ex.new root) (plan_at lp.old ex.old root)) }
+    ensures reads { OnOk result (is_pruning flags ≡ true → ReadWithin (scans (plan_at lp.new ex.new root)) (sites_of (plan_at lp.old ex.old root))) }
+    ensures keeps { OnOk result (is_pruning flags ≡ false → Keeps (plan_at lp.new ex.new root) (plan_at lp.old ex.old root)) }
+    ensures shared { OnOk result (AreShared (plan_at lp.old ex.old root) → AreShared (plan_at lp.new ex.new root)) }
+    ensures scratch { scratch.new ≡ scratch.old }
+{
+    let _ = shared;
+    let _ = check_plan(alloc, root, lp, ex)?;
+    prune(alloc, root, flags, lp, ex)?;
+    let none: &mut [BoxedRule] = &mut [];
+    let _ = settle(alloc, root, flags, lp, ex, none)?;
+    Ok(root)
+}
+
+/// As `optimize`, but that the boxes of `extra` are called too, at each place after the rules, and that the trail gets a step for each
+/// pass that ran, in order: the given plan first, then what each pass left. Caches of one number stand over alike plans if they did and
+/// `extra` is empty. `extra` has the boxes that it had, of the kinds that they had.
+///
+/// Refuses as `optimize`. The trail has more steps than before once an entry changed; where it has as many, nothing changed.
+pub fn optimize_with(
+    alloc: Global,
+    root: Node,
+    flags: OptFlags,
+    shared: bool,
+    lp: &mut Arena<IR>,
+    ex: &mut Arena<AExpr>,
+    scratch: &mut Vec<Node>,
+    extra: &mut Vec<BoxedRule>,
+    trail: &mut Trail,
+) -> PolarsResult<Node>
+    ensures refused { IfErr result (λ e. RefusedFor e lp.old ex.old root (trail.new ≡ trail.old)) }
+    ensures unchanged { OnErr result (length trail.new ≡ length trail.old → (lp.new ≡ lp.old) × (ex.new ≡ ex.old) × (trail.new ≡ trail.old) × (extra.new.items ≡ extra.old.items)) }
+    ensures valid { OnOk result ((schema : Columns) × (typed lp.old ex.old root ≡ Ok schema)) }
+    ensures node { IfOk result (λ r. r ≡ root) }
+    ensures is_plan { OnOk result (IsPlan lp.new ex.new root) }
+    ensures trailed { OnOk result (Trailed flags (map ⟦<BoxedRule as OptimizationRule>⟧.kind_of extra.old.items) (passes flags) lp.old lp.new ex.old ex.new root trail.old trail.new) }
+    ensures refines { OnOk result (Refines (plan_at lp.new ex.new root) (plan_at lp.old ex.old root)) }
+    ensures reads { OnOk result (is_pruning flags ≡ true → ReadWithin (scans (plan_at lp.new ex.new root)) (sites_of (plan_at lp.old ex.old root))) }
+    ensures keeps { OnOk result (is_pruning flags ≡ false → Keeps (plan_at lp.new ex.new root) (plan_at lp.old ex.old root)) }
+    ensures shared { OnOk result (extra.old.items ≡ [] → AreShared (plan_at lp.old ex.old root) → AreShared (plan_at lp.new ex.new root)) }
+    ensures boxes { map ⟦<BoxedRule as OptimizationRule>⟧.kind_of extra.new.items ≡ map ⟦<BoxedRule as OptimizationRule>⟧.kind_of extra.old.items }
+    ensures scratch { scratch.new ≡ scratch.old }
+{
+    let _ = shared;
+    let _ = check_plan(alloc, root, lp, ex)?;
+    keep_step(alloc, Pass::Given, 0, root, lp, ex, trail)?;
+    prune_on_trail(alloc, root, flags, lp, ex, trail)?;
+    settle_on_trail(alloc, root, flags, lp, ex, extra, trail)?;
+    Ok(root)
+}
