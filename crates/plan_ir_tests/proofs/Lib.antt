@@ -1,5 +1,2 @@
 -- The lemmas of these tests.
-mod TestLemmas
-mod TwoColumns
-mod GroupTest
-mod JoinTest
+mod Again

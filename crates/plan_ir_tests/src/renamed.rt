@@ -2,44 +2,40 @@
 ghost use Rattle.std.specs.Prelude.{IfOk, IsTrue};
 ghost use Rattle.plan_expr.specs.Operands.{IsExpr};
 
-use plan_core::{Arena, Items, Node, PlSmallStr};
-use plan_expr::{AExpr, IRAggExpr, LiteralValue, Operator, aexpr_to_leaf_names};
+use crate::read::{Texts, read, texts};
+use plan_core::{Arena, Node};
+use plan_expr::{AExpr, aexpr_to_leaf_names};
+use plan_ir::PlanCopy;
 use plan_pruned::copy_renamed;
+use plan_text::write_plan;
 use plan_tree::depth_of;
 use std::alloc::{AllocError, Global};
 use std::test::Fail;
 
-// Names that are written here.
-type Texts = &'static [&'static str];
+/// `a + b` at 2, and at 8 a choice by a between the total of `a + b` over the rows with the same c, and a literal.
+const EXPRS: &str =
+    r#"{"root":0,"nodes":[],"exprs":[{"op":"Column","name":"a"},{"op":"Column","name":"b"},{"op":"BinaryExpr","operator":"Plus","left":0,"right":1},{"op":"Agg","kind":"Sum","input":2},{"op":"Column","name":"c"},{"op":"Window","function":3,"partition_by":[4]},{"op":"Literal","type":"Int64","value":1},{"op":"Column","name":"a"},{"op":"Ternary","predicate":7,"truthy":5,"falsy":6}],"flags":0,"shared":false,"tables":null}"#;
 
-// The names, in order.
-fn texts(alloc: Global, list: Texts) -> Result<Items<PlSmallStr>, AllocError> {
-    let mut items = Items::new(alloc);
-    for text in list {
-        items.push(PlSmallStr::new(alloc, *text)?)?;
-    }
-    Ok(items)
-}
+/// The column a under its own name as an alias, at 1.
+const ALIAS: &str =
+    r#"{"root":0,"nodes":[],"exprs":[{"op":"Column","name":"a"},{"op":"Alias","input":0,"name":"a"}],"flags":0,"shared":false,"tables":null}"#;
 
-// Adds a column.
-fn column(alloc: Global, name: &str, ex: &mut Arena<AExpr>) -> Result<Node, AllocError> {
-    ex.add(AExpr::Column(PlSmallStr::new(alloc, name)?))
-}
+/// That, and behind it a copy, over b, that keeps its name.
+const ALIASES: &str =
+    r#"{"exprs":[{"name":"a","op":"Column"},{"input":0,"name":"a","op":"Alias"},{"name":"b","op":"Column"},{"input":2,"name":"a","op":"Alias"}],"nodes":[],"root":0}"#;
 
-// Adds the sum of two expressions.
-fn plus(left: Node, right: Node, ex: &mut Arena<AExpr>) -> Result<Node, AllocError> {
-    let op = Operator::Plus;
-    ex.add(AExpr::BinaryExpr { left, op, right })
-}
+/// Renamings of the leaves of an expression: its number, from which names to which, how many entries are copied, and what is told then.
+const RENAMINGS: [(usize, Texts, Texts, usize, &str); 7] = [
+    (2, &["a"], &["b"], 3, "b,b,;a,b,"),
+    (2, &["a", "b"], &["b", "a"], 3, "b,a,;a,b,"),
+    (2, &["a", "a"], &["c", "d"], 3, "c,b,;a,b,"),
+    (2, &["z"], &["a"], 3, "a,b,;a,b,"),
+    (2, &[], &[], 3, "a,b,;a,b,"),
+    (2, &["b"], &["c"], 3, "a,c,;a,b,"),
+    (8, &["a", "c"], &["x", "y"], 9, "x,b,y,x,;a,b,c,a,"),
+];
 
-// Adds `a + b`.
-fn sum(alloc: Global, ex: &mut Arena<AExpr>) -> Result<Node, AllocError> {
-    let left = column(alloc, "a", ex)?;
-    let right = column(alloc, "b", ex)?;
-    plus(left, right, ex)
-}
-
-// Whether an expression stands at a number.
+/// Whether an expression stands at a number.
 fn stands(alloc: Global, node: Node, ex: &Arena<AExpr>) -> Result<bool, AllocError>
     ensures { IfOk result (λ b. IsTrue b → IsExpr ex.now node) }
 {
@@ -49,7 +45,7 @@ fn stands(alloc: Global, node: Node, ex: &Arena<AExpr>) -> Result<bool, AllocErr
     }
 }
 
-// The names of the leaves, in walk order, each with a comma behind it; `none` where no expression stands.
+/// The names of the leaves, in walk order, each with a comma behind it; `none` where no expression stands.
 fn leaves(alloc: Global, node: Node, ex: &Arena<AExpr>) -> Result<String, AllocError> {
     if !stands(alloc, node, ex)? {
         return String::from_str(alloc, "none");
@@ -62,8 +58,8 @@ fn leaves(alloc: Global, node: Node, ex: &Arena<AExpr>) -> Result<String, AllocE
     Ok(told)
 }
 
-// A copy with each name of the first list under that at its place in the second one; none where there is no expression, or
-// the lists differ in length.
+/// A copy with each name of the first list under that at its place in the second one; none where there is no expression, or
+/// the lists differ in length.
 fn copied(
     alloc: Global,
     node: Node,
@@ -80,7 +76,7 @@ fn copied(
     Ok(Some(copy))
 }
 
-// The leaves of the copy, and, behind a semicolon, those of what was copied.
+/// The leaves of the copy, and, behind a semicolon, those of what was copied.
 fn told(
     alloc: Global,
     node: Node,
@@ -97,105 +93,51 @@ fn told(
     Ok(told)
 }
 
-// Renamings of the leaves of `a + b`: from these names to those, and what is told then.
-const SUMS: [(Texts, Texts, &str); 6] = [
-    (&["a"], &["b"], "b,b,;a,b,"),
-    (&["a", "b"], &["b", "a"], "b,a,;a,b,"),
-    (&["a", "a"], &["c", "d"], "c,b,;a,b,"),
-    (&["z"], &["a"], "a,b,;a,b,"),
-    (&[], &[], "a,b,;a,b,"),
-    (&["b"], &["c"], "a,c,;a,b,"),
-];
+/// Whether that is told of an expression, which is copied whole.
+fn is_told(
+    alloc: Global,
+    node: Node,
+    ex: &mut Arena<AExpr>,
+    renaming: (Texts, Texts),
+    count: usize,
+    wanted: &str,
+) -> Result<bool, AllocError> {
+    let end = ex.len().saturating_add(count);
+    let text = told(alloc, node, ex, renaming.0, renaming.1)?;
+    Ok(text.as_str() == wanted && ex.len() == end)
+}
 
-// Whether that is told of the sum, which is copied whole.
-fn sum_is_told(alloc: Global, from: Texts, to: Texts, wanted: &str) -> Result<bool, AllocError> {
-    let mut ex = Arena::new(alloc);
-    let node = sum(alloc, &mut ex)?;
-    let text = told(alloc, node, &mut ex, from, to)?;
-    Ok(text.as_str() == wanted && ex.len() == 6)
+/// Whether all that is told of the expressions.
+fn are_told(alloc: Global, ex: &mut Arena<AExpr>) -> Result<bool, AllocError> {
+    for (number, from, to, count, wanted) in RENAMINGS {
+        if !is_told(alloc, Node(number), ex, (from, to), count, wanted)? {
+            return Ok(false);
+        }
+    }
+    Ok(true)
 }
 
 #[test]
-fn leaves_get_their_names(rt: HostRuntime) -> Result<(), Fail> {
-    for (from, to, wanted) in SUMS {
-        assert!(rt; sum_is_told(rt.alloc(), from, to, wanted)?);
-    }
+fn copies_have_other_leaves(rt: HostRuntime) -> Result<(), Fail> {
+    let mut plan = read(rt.alloc(), EXPRS)?;
+    let is_so = are_told(rt.alloc(), &mut plan.ex)?;
+    drop(plan);
+    assert!(rt; is_so);
     Ok(())
 }
 
-// Adds the total of `a + b` over the rows with the same `c`.
-fn window(alloc: Global, ex: &mut Arena<AExpr>) -> Result<Node, AllocError> {
-    let total = sum(alloc, ex)?;
-    let function = ex.add(AExpr::Agg(IRAggExpr::Sum(total)))?;
-    let key = column(alloc, "c", ex)?;
-    let mut partition_by = Items::new(alloc);
-    partition_by.push(key)?;
-    ex.add(AExpr::Window {
-        function,
-        partition_by,
-    })
-}
-
-// Adds a choice by `a` between that and a literal.
-fn choice(alloc: Global, ex: &mut Arena<AExpr>) -> Result<Node, AllocError> {
-    let truthy = window(alloc, ex)?;
-    let falsy = ex.add(AExpr::Literal(LiteralValue::Int64(1)))?;
-    let predicate = column(alloc, "a", ex)?;
-    ex.add(AExpr::Ternary {
-        predicate,
-        truthy,
-        falsy,
-    })
-}
-
-// Whether operands of each kind get their names.
-fn choice_is_told(alloc: Global) -> Result<bool, AllocError> {
-    let mut ex = Arena::new(alloc);
-    let node = choice(alloc, &mut ex)?;
-    let text = told(alloc, node, &mut ex, &["a", "c"], &["x", "y"])?;
-    Ok(text.as_str() == "x,b,y,x,;a,b,c,a,")
-}
-
-// Adds `a` under its own name as an alias.
-fn alias(alloc: Global, ex: &mut Arena<AExpr>) -> Result<Node, AllocError> {
-    let input = column(alloc, "a", ex)?;
-    ex.add(AExpr::Alias(input, PlSmallStr::new(alloc, "a")?))
-}
-
-// Whether a column of this name stands at a number.
-fn is_column(ex: &Arena<AExpr>, number: usize, wanted: &str) -> bool {
-    number < ex.len()
-        && match ex.get(Node(number)) {
-            AExpr::Column(name) => name.as_str() == wanted,
-            _ => false,
-        }
-}
-
-// Whether an alias of this name for another expression stands at a number.
-fn is_alias(ex: &Arena<AExpr>, number: usize, input: Node, wanted: &str) -> bool {
-    number < ex.len()
-        && match ex.get(Node(number)) {
-            AExpr::Alias(of, name) => *of == input && name.as_str() == wanted,
-            _ => false,
-        }
-}
-
-// Whether a copied alias keeps its name, over a column with another.
-fn alias_is_kept(alloc: Global) -> Result<bool, AllocError> {
-    let mut ex = Arena::new(alloc);
-    let node = alias(alloc, &mut ex)?;
-    let copy = copied(alloc, node, &mut ex, &["a"], &["b"])?;
-    Ok(
-        copy == Some(Node(3))
-            && is_column(&ex, 0, "a")
-            && is_column(&ex, 2, "b")
-            && is_alias(&ex, 3, Node(2), "a"),
-    )
+/// Whether the copy of the alias stands at 3, and nothing else is new.
+fn is_kept(alloc: Global, plan: &mut PlanCopy) -> Result<bool, AllocError> {
+    let copy = copied(alloc, Node(1), &mut plan.ex, &["a"], &["b"])?;
+    let text = write_plan(alloc, plan)?;
+    Ok(copy == Some(Node(3)) && text.as_str() == ALIASES)
 }
 
 #[test]
-fn copies_have_other_names(rt: HostRuntime) -> Result<(), Fail> {
-    assert!(rt; choice_is_told(rt.alloc())?);
-    assert!(rt; alias_is_kept(rt.alloc())?);
+fn an_alias_keeps_its_name(rt: HostRuntime) -> Result<(), Fail> {
+    let mut plan = read(rt.alloc(), ALIAS)?;
+    let is_so = is_kept(rt.alloc(), &mut plan)?;
+    drop(plan);
+    assert!(rt; is_so);
     Ok(())
 }
