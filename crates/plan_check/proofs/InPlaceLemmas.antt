@@ -1,6 +1,6 @@
 -- Columns that functions change in place.
-use Rattle.std.proofs.Common.{◌≡◌, ◌≤◌, ◌+◌, Bool, true, false, not, cond, ◌&&◌, ◌||◌, ℕ, zero, suc, List, [], ◌∷◌, length, Option, Some, None, is_some, unwrap_or, take, map, refl, sym, ap, ap₂, ◌∙◌, subst, arith, add-one}
-use Rattle.std.specs.List.{AllByRecursion, IsDistinct, insert, list_all, list_any, slice_get}
+use Rattle.std.proofs.Common.{◌≡◌, ◌≤◌, ◌+◌, Bool, true, false, cond, ◌||◌, ℕ, zero, suc, List, [], ◌∷◌, length, Option, Some, None, is_some, unwrap_or, take, map, refl, sym, ap, ap₂, ◌∙◌, subst, arith, add-one}
+use Rattle.std.specs.List.{AllByRecursion, IsDistinct, list_all, slice_get}
 use Rattle.std.specs.Str.{bytes_eq}
 use Rattle.std.proofs.lemmas.Bool.{and_parts}
 use Rattle.std.proofs.Math.Path.{fun_ext}
@@ -13,11 +13,10 @@ use Rattle.plan_core.specs.Columns.{Columns, HasDistinctNames, names_of, type_of
 use Rattle.plan_core.specs.Names.{has}
 use Rattle.plan_core.proofs.ColumnLemmas.{flip_false}
 use Rattle.plan_expr.specs.Leaves.{Name}
-use Rattle.plan_frame.specs.Reshaped.{exploded_columns, item_type, renamed_columns}
-use Rattle.plan_frame.proofs.NameSets.{named, same_named, has_first, has_later, some-type_of}
+use Rattle.plan_frame.specs.Reshaped.{exploded_columns, item_type}
+use Rattle.plan_frame.proofs.NameSets.{named, same_named, some-type_of}
 use Rattle.plan_meaning.specs.Checks.{Check, each, is_known}
-use Rattle.plan_meaning.specs.Functions.{become_one, renamed, stay_apart}
-use Rattle.plan_meaning.specs.Typing.{AllHold, explode_checks, first_fault, is_list_type, rename_checks, row_index_checks}
+use Rattle.plan_meaning.specs.Typing.{AllHold, explode_checks, first_fault, is_list_type, row_index_checks}
 use Rattle.plan_meaning.proofs.CheckParts.{hold_join, pass_each}
 
 -- a name without a type is none of the columns
@@ -39,89 +38,16 @@ pub number-holds : (name : Name) (s : Columns) → type_of s name ≡ None → A
 unfolding row_index_checks
 number-holds name s e = (rw (has_none s name e) refl, tt)
 
--- a renaming of one column to a name that is new
-
-apart : (now : Name → Name) (names : List Name) → ((a b : Name) → has names a ≡ true → has names b ≡ true → become_one now a b ≡ false) → stay_apart now names ≡ true
-apart now [] h = refl
-apart now (a ∷ names) h = ap₂ (λ (x y : Bool). not x && y) (none names (λ b i. h a b (has_first a names) (has_later a names b i))) (apart now names (λ b c i j. h b c (has_later a names b i) (has_later a names c j)))
-  where
-    none : (bs : List Name) → ((b : Name) → has bs b ≡ true → become_one now a b ≡ false) → list_any (become_one now a) bs ≡ false
-    none [] k = refl
-    none (b ∷ bs) k = ap₂ (λ (x y : Bool). x || y) (k b (has_first b bs)) (none bs (λ d i. k d (has_later b bs d i)))
-
-rename_apart : (old new : Name) (s : Columns) → type_of s new ≡ None → stay_apart (renamed (old ∷ []) (new ∷ [])) (names_of s) ≡ true
-rename_apart old new s h = apart (renamed (old ∷ []) (new ∷ [])) (names_of s) (λ a b i j. at a b (bytes_eq a old) (bytes_eq b old) refl refl i j)
-  where
-    absent : has (names_of s) new ≡ false
-    absent = has_none s new h
-
-    is_new : (a : Name) → has (names_of s) a ≡ true → bytes_eq new a ≡ false
-    is_new a i = go (bytes_eq new a) refl
-      where
-        go : (t : Bool) → bytes_eq new a ≡ t → t ≡ false
-        go false q = refl
-        go true q =
-            let there : has (names_of s) new ≡ true = ap (has (names_of s)) (named new a q) ∙ i in
-            let not_there : has (names_of s) new ≡ false = absent in
-            cc
-
-    is_not_new : (a : Name) → has (names_of s) a ≡ true → bytes_eq a new ≡ false
-    is_not_new a i = flip_false new a (is_new a i)
-
-    never : (x : Bool) → (x && not x) ≡ false
-    never true = refl
-    never false = refl
-
-    goal : Name → Name → Bool → Bool → Type 0
-    goal a b t u = (bytes_eq (unwrap_or (cond t (Some new) None) a) (unwrap_or (cond u (Some new) None) b) && not (bytes_eq a b)) ≡ false
-
-    at : (a b : Name) (t u : Bool) → bytes_eq a old ≡ t → bytes_eq b old ≡ u → has (names_of s) a ≡ true → has (names_of s) b ≡ true → goal a b t u
-    at a b true true p q i j =
-        let same : a ≡ b = named a old p ∙ sym (named b old q) in
-        let one : bytes_eq a b ≡ true = ap (bytes_eq a) (sym same) ∙ same_named a in
-        rw (one, same_named new) refl
-    at a b true false p q i j = rw (is_new b j) refl
-    at a b false true p q i j = rw (is_not_new a i) refl
-    at a b false false p q i j = never (bytes_eq a b)
-
-pub rename-holds : (old new : Name) (s : Columns) → type_of s new ≡ None → AllHold (rename_checks (old ∷ []) (new ∷ []) s)
-unfolding rename_checks
-rename-holds old new s h = (refl, (refl, (refl, (rename_apart old new s h, tt))))
-
--- columns of which none has the old name
-pub renamed-none : (old new : Name) (s : Columns) → type_of s old ≡ None → renamed_columns (renamed (old ∷ []) (new ∷ [])) s ≡ s
-renamed-none old new [] h = refl
-renamed-none old new (c ∷ s) h = at (bytes_eq old c.0) refl (λ k. renamed-none old new s k) h
-  where
-    at : (t : Bool) → bytes_eq old c.0 ≡ t → (type_of s old ≡ None → renamed_columns (renamed (old ∷ []) (new ∷ [])) s ≡ s) → cond t (Some c.1) (type_of s old) ≡ None → renamed_columns (renamed (old ∷ []) (new ∷ [])) (c ∷ s) ≡ c ∷ s
-    at true e rest k = cc
-    at false e rest k = rw (flip_false old c.0 e) (ap (λ (l : Columns). c ∷ l) (rest k))
-
 -- a name that differs from all has no type
-differs : (a : Name) (s : Columns) → AllByRecursion (λ (y : Name). bytes_eq a y ≡ false) (names_of s) → type_of s a ≡ None
+pub differs : (a : Name) (s : Columns) → AllByRecursion (λ (y : Name). bytes_eq a y ≡ false) (names_of s) → type_of s a ≡ None
 differs a [] h = refl
 differs a (c ∷ s) h = rw h.0 (differs a s h.1)
 
 -- and so it is at each place
-differs_at : (a : Name) (s : Columns) (i : ℕ) (b : Name) (d : DataType) → AllByRecursion (λ (y : Name). bytes_eq a y ≡ false) (names_of s) → slice_get s i ≡ Some (b, d) → bytes_eq a b ≡ false
+pub differs_at : (a : Name) (s : Columns) (i : ℕ) (b : Name) (d : DataType) → AllByRecursion (λ (y : Name). bytes_eq a y ≡ false) (names_of s) → slice_get s i ≡ Some (b, d) → bytes_eq a b ≡ false
 differs_at a [] i b d h e = cc
 differs_at a (c ∷ s) zero b d h e = let same : c.0 ≡ b = ap (λ (o : Option (Name × DataType)). (unwrap_or o c).0) e in ap (bytes_eq a) (sym same) ∙ h.0
 differs_at a (c ∷ s) (suc i) b d h e = differs_at a s i b d h.1 e
-
--- the column with the old name, taken out and put back under the new one
-pub renamed-there : (old new : Name) (s : Columns) (i : ℕ) (d : DataType) → HasDistinctNames s → slice_get s i ≡ Some (old, d) → insert (without s old) i (new, d) ≡ renamed_columns (renamed (old ∷ []) (new ∷ [])) s
-unfolding IsDistinct
-renamed-there old new [] i d u e = cc
-renamed-there old new (c ∷ s) zero d u e =
-    let is : c ≡ (old, d) = ap (λ (o : Option (Name × DataType)). unwrap_or o c) e in
-    let name : c.0 ≡ old = ap (λ (x : Name × DataType). x.0) is in
-    let mine : bytes_eq old c.0 ≡ true = ap (bytes_eq old) name ∙ same_named old in
-    let hit : bytes_eq c.0 old ≡ true = ap (bytes_eq c.0) (sym name) ∙ same_named c.0 in
-    let gone : type_of s old ≡ None = ap (type_of s) (sym name) ∙ differs c.0 s u.0 in
-    rw (mine, hit) (ap₂ (λ (t : DataType) (l : Columns). (new, t) ∷ l) (sym (ap (λ (x : Name × DataType). x.1) is)) (sym (renamed-none old new s gone)))
-renamed-there old new (c ∷ s) (suc i) d u e =
-    let miss : bytes_eq c.0 old ≡ false = differs_at c.0 s i old d u.0 e in
-    rw (flip_false c.0 old miss, miss) (ap (λ (l : Columns). c ∷ l) (renamed-there old new s i d u.1 e))
 
 -- the place is still within the columns without the old name
 pub still_within : (old : Name) (s : Columns) (i : ℕ) (d : DataType) → HasDistinctNames s → slice_get s i ≡ Some (old, d) → i ≤ length (without s old)
@@ -131,16 +57,6 @@ still_within old (c ∷ s) zero d u e = omega arith
 still_within old (c ∷ s) (suc i) d u e =
     let miss : bytes_eq old c.0 ≡ false = flip_false c.0 old (differs_at c.0 s i old d u.0 e) in
     rw miss (let h = still_within old s i d u.1 e in omega (arith, h))
-
--- a name that none has none has once a column is gone
-pub still_new : (old new : Name) (s : Columns) → type_of s new ≡ None → type_of (without s old) new ≡ None
-still_new old new [] h = refl
-still_new old new (c ∷ s) h = at (bytes_eq old c.0) (bytes_eq new c.0) refl (λ k. still_new old new s k) h
-  where
-    at : (t u : Bool) → bytes_eq new c.0 ≡ u → (type_of s new ≡ None → type_of (without s old) new ≡ None) → cond u (Some c.1) (type_of s new) ≡ None → type_of (cond t s (c ∷ without s old)) new ≡ None
-    at t true e rest k = cc
-    at true false e rest k = k
-    at false false e rest k = rw e (rest k)
 
 -- columns whose lists are taken apart
 

@@ -8,3 +8,4 @@ mod TypedLemmas
 mod InputLemmas
 mod UnionFaults
 mod InPlaceLemmas
+mod RenamedLemmas

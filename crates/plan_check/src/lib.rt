@@ -1,5 +1,4 @@
-//! The checks on the columns and on the expressions of a node, each over all of them in order, and the columns that expressions
-//! make.
+//! The checks of a plan: its numbers, then its nodes in order; its columns, or its first fault.
 #![tactic(auto)]
 
 mod distinct;
@@ -11,6 +10,7 @@ mod made;
 mod mapped;
 mod plan;
 mod projection;
+mod renamed;
 mod scan;
 mod scan_columns;
 mod scan_types;

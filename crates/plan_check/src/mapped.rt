@@ -1,16 +1,16 @@
-//! Functions of whole frames over columns that are handed on: a numbering of the rows, a renaming of one column, and lists taken
-//! apart change these in place, so that a function takes no copy of all of them.
-ghost use Rattle.std.specs.Prelude.{◌≡◌, Bool, Option, ℕ, None, [], ◌∷◌, IfOk, OnOk};
+//! Functions of whole frames over columns that are handed on: a numbering of the rows, a renaming, and lists taken apart change
+//! these in place, so that a function takes no copy of all of them; a renaming of many columns makes them anew.
+ghost use Rattle.std.specs.Prelude.{◌≡◌, Option, ℕ, [], ◌∷◌, IfOk, OnOk};
 ghost use Rattle.std.specs.List.{list_all};
-ghost use Rattle.plan_core.specs.Columns.{StandsAt, type_of};
-ghost use Rattle.plan_ir.specs.declared.functions.FunctionIR.TheVariants.{Explode, Rename, RowIndex};
+ghost use Rattle.plan_core.specs.Columns.{type_of};
+ghost use Rattle.plan_ir.specs.declared.functions.FunctionIR.TheVariants.{Explode, RowIndex};
 ghost use Rattle.plan_ir.specs.Plans.{map_function};
-ghost use Rattle.plan_frame.specs.Reshaped.{exploded_columns, item_type as type_of_items, renamed_columns};
-ghost use Rattle.plan_meaning.specs.Functions.{renamed};
+ghost use Rattle.plan_frame.specs.Reshaped.{exploded_columns, item_type as type_of_items};
 ghost use Rattle.plan_meaning.specs.Typing.{is_list_type};
 ghost use Rattle.plan_meaning.specs.Typed.{IsNodeTyped};
 ghost use Rattle.plan_check.specs.InPlace.{IsChanged};
 
+use crate::renamed::rename;
 use plan_core::{DataType, Node, PlSmallStr, PolarsResult, Schema, TryClone};
 use plan_ir::FunctionIR;
 use plan_schema::function_schema;
@@ -26,67 +26,6 @@ fn number(alloc: Global, name: &PlSmallStr, columns: &mut Schema) -> Result<bool
     }
     columns.insert_at_index(0, name.try_clone(alloc)?, DataType::Int64)?;
     Ok(true)
-}
-
-/// Gives the column at a place a name that none has. Refuses for want of memory alone, and then nothing is known of the columns.
-fn rename_at(
-    alloc: Global,
-    index: usize,
-    old: &str,
-    new: &str,
-    columns: &mut Schema,
-) -> Result<(), AllocError>
-    requires stands { StandsAt columns.old old.now index }
-    requires fresh { type_of columns.old new.now ≡ None }
-    ensures { OnOk result (columns.new ≡ renamed_columns (renamed (old.now ∷ []) (new.now ∷ [])) columns.old) }
-{
-    // The length is what says that no name comes twice.
-    let _len = columns.len();
-    let name = PlSmallStr::new(alloc, new)?;
-    let Some(dtype) = columns.shift_remove(old) else {
-        unreachable!();
-    };
-    columns.insert_at_index(index, name, dtype)?;
-    Ok(())
-}
-
-/// Gives a column, if it is there, a name that none has. Refuses for want of memory alone, and then nothing is known of the columns.
-fn rename_there(alloc: Global, old: &str, new: &str, columns: &mut Schema) -> Result<(), AllocError>
-    requires { type_of columns.old new.now ≡ None }
-    ensures { OnOk result (columns.new ≡ renamed_columns (renamed (old.now ∷ []) (new.now ∷ [])) columns.old) }
-{
-    match columns.index_of(old) {
-        None => Ok(()),
-        Some(index) => rename_at(alloc, index, old, new, columns),
-    }
-}
-
-/// Gives a column a name. Says whether none has it; if not, the columns stay. Refuses for want of memory alone, and then nothing is
-/// known of the columns.
-fn rename_one(alloc: Global, old: &str, new: &str, columns: &mut Schema) -> Result<bool, AllocError>
-    ensures { IfOk result (λ fits. (swapping : Bool) → IsChanged fits (Rename (old.now ∷ []) (new.now ∷ []) swapping) columns.old columns.new) }
-{
-    if columns.get(new).is_some() {
-        return Ok(false);
-    }
-    rename_there(alloc, old, new, columns)?;
-    Ok(true)
-}
-
-/// Gives a column another name. Says whether it does: where one column gets a name that none has. If not, the columns stay. Refuses
-/// for want of memory alone, and then nothing is known of the columns.
-fn rename(
-    alloc: Global,
-    existing: &[PlSmallStr],
-    new: &[PlSmallStr],
-    columns: &mut Schema,
-) -> Result<bool, AllocError>
-    ensures { IfOk result (λ fits. (swapping : Bool) → IsChanged fits (Rename existing.now new.now swapping) columns.old columns.new) }
-{
-    match (existing, new) {
-        ([old], [new]) => rename_one(alloc, old.as_str(), new.as_str(), columns),
-        _ => Ok(false),
-    }
 }
 
 /// Whether a column is there, and has lists.

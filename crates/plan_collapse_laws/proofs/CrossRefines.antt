@@ -31,7 +31,7 @@ use Rattle.plan_meaning.proofs.JoinLemmas.{JoinGood, differ_distinct, join_good}
 use Rattle.plan_meaning.proofs.Refining.{refines_refl}
 use Rattle.plan_collapse_laws.specs.FilteredPairs.{GivesPairs, more_by}
 use Rattle.plan_collapse_laws.specs.FilteredFrames.{holds, PutsOutAll, all_hold}
-use Rattle.plan_elementwise.specs.Minterms.{is_and, minterms}
+use Rattle.plan_meaning.specs.Minterms.{is_and, minterms}
 use Rattle.plan_collapse_laws.specs.CrossKeys.{Crossed, KeyPair, all_minterms, equality_keys, inequality_keys, equal_at, meets_at}
 use Rattle.plan_collapse_laws.specs.TakenKeys.{and_all, and_expr, operators_of, self_named, taken, told_now, untaken, exprs_of, left_keys, right_keys, some_expr}
 use Rattle.plan_collapse_laws.specs.Collapsed.{by_condition, collapsed_by, collapsed_cross, filtered_by, free_join, keeping, on_keys, under}

@@ -14,8 +14,8 @@ use Rattle.plan_join.specs.declared.pairs.RowPair.{RowPair}
 use Rattle.plan_join.specs.Joined.{call, joined, side_column, side_value}
 use Rattle.plan_join.specs.Sides.{filler, left_out, name_sources}
 use Rattle.plan_meaning.specs.JoinChecks.{is_elementwise}
-use Rattle.plan_elementwise.specs.CellRows.{IsEven}
-use Rattle.plan_elementwise.proofs.RowWise.{elementwise_rows, value_of_rows}
+use Rattle.plan_meaning.specs.CellRows.{IsEven}
+use Rattle.plan_meaning.proofs.RowWise.{elementwise_rows, value_of_rows}
 use Rattle.plan_collapse_laws.specs.FilteredFrames.{holds}
 
 module _ {X V : Type 0} (d : X) (keep : X → Bool) (value : X → V) where

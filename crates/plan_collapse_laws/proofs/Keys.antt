@@ -24,8 +24,8 @@ use Rattle.plan_join.specs.Pairs.{both}
 use Rattle.plan_join.specs.Joined.{side_value}
 use Rattle.plan_join.specs.Matching.{key_matches}
 use Rattle.plan_meaning.specs.JoinChecks.{is_elementwise}
-use Rattle.plan_elementwise.specs.CellRows.{IsEven}
-use Rattle.plan_elementwise.proofs.RowWise.{elementwise_rows, value_of_rows}
+use Rattle.plan_meaning.specs.CellRows.{IsEven}
+use Rattle.plan_meaning.proofs.RowWise.{elementwise_rows, value_of_rows}
 
 text_same : (xs ys : List ℕ) (o : Ordering) → o ≡ slice_cmp nat_cmp xs ys → is_eq o ≡ bytes_eq xs ys
 text_same = same_from_slice_cmp nat_cmp is_eq bytes_eq refl (λ _ _. refl) (λ _ _. refl) (λ x y xs ys o h. grind (arith, nat_tests))

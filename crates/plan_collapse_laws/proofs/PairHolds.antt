@@ -26,8 +26,8 @@ use Rattle.plan_join.specs.Joined.{joined}
 use Rattle.plan_join.specs.Sides.{filler, partner}
 use Rattle.plan_join.proofs.JoinedLemmas.{joined-has}
 use Rattle.plan_meaning.specs.JoinChecks.{is_elementwise}
-use Rattle.plan_elementwise.specs.CellRows.{IsEven, IsWide}
-use Rattle.plan_elementwise.proofs.RowWise.{elementwise_rows}
+use Rattle.plan_meaning.specs.CellRows.{IsEven, IsWide}
+use Rattle.plan_meaning.proofs.RowWise.{elementwise_rows}
 use Rattle.plan_collapse_laws.proofs.FilteredJoins.{even-joined}
 use Rattle.plan_collapse_laws.specs.FilteredFrames.{holds, PutsOutAll}
 use Rattle.plan_collapse_laws.proofs.Keys.{key-value}

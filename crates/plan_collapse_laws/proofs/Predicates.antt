@@ -20,7 +20,7 @@ use Rattle.plan_frame.proofs.NameSets.{same_named}
 use Rattle.plan_meaning.specs.JoinChecks.{is_elementwise}
 use Rattle.plan_meaning.specs.Typing.{AllHold, filter_checks}
 use Rattle.plan_meaning.proofs.KeptExprs.{all_append}
-use Rattle.plan_elementwise.specs.Minterms.{is_and, minterms}
+use Rattle.plan_meaning.specs.Minterms.{is_and, minterms}
 use Rattle.plan_collapse_laws.specs.CrossKeys.{all_minterms}
 use Rattle.plan_collapse_laws.specs.TakenKeys.{and_expr, self_named}
 use Rattle.plan_collapse_laws.specs.Predicates.{IsPredicate}

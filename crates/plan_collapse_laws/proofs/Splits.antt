@@ -15,9 +15,9 @@ use Rattle.plan_frame.specs.Meaning.{operated, val, value_at}
 use Rattle.plan_frame.specs.Orders.{key_cells}
 use Rattle.plan_join.specs.Matching.{keys_match, keys_meet, operator_of}
 use Rattle.plan_meaning.specs.JoinChecks.{is_elementwise}
-use Rattle.plan_elementwise.specs.Minterms.{holds_at, minterms}
-use Rattle.plan_elementwise.proofs.Minterms.{true-minterms}
-use Rattle.plan_elementwise.specs.CellRows.{IsEven}
+use Rattle.plan_meaning.specs.Minterms.{holds_at, minterms}
+use Rattle.plan_meaning.proofs.Minterms.{true-minterms}
+use Rattle.plan_meaning.specs.CellRows.{IsEven}
 use Rattle.plan_collapse_laws.specs.CrossKeys.{KeyPair, all_minterms, inequality_of, equal_at, meets_at}
 use Rattle.plan_collapse_laws.specs.TakenKeys.{and_all, and_expr, operators_of, taken, untaken, left_keys, right_keys, some_expr}
 use Rattle.plan_collapse_laws.proofs.Predicates.{both_hold}

@@ -17,7 +17,7 @@ use Rattle.plan_join.specs.declared.origin.Side.{Side}
 use Rattle.plan_join.specs.declared.origin.Side.TheVariants as sides
 use Rattle.plan_join.specs.Naming.{origin}
 use Rattle.plan_meaning.specs.Checks.{is_empty}
-use Rattle.plan_elementwise.specs.Minterms.{minterms}
+use Rattle.plan_meaning.specs.Minterms.{minterms}
 use Rattle.plan_pruned.specs.JoinPruned.{renamed_expr}
 use Rattle.plan_frame.specs.Values.{is_true}
 use Rattle.plan_frame.specs.Frames.{Frame}

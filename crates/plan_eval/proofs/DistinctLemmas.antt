@@ -22,10 +22,10 @@ use Rattle.plan_value.specs.declared.exprs.Values.{Values}
 use Rattle.plan_value.specs.Cells.{cells_of}
 use Rattle.plan_value.specs.Groups.{AreNumbered, rows_numbered}
 use Rattle.plan_value.proofs.WindowLemmas.{places-same}
-use Rattle.plan_choices.specs.Choices.{AreChosen, first_same, settled}
+use Rattle.plan_meaning.specs.Choices.{AreChosen, first_same, settled}
 use Rattle.plan_eval.specs.Distinct.{kept, kept_of, only}
-use Rattle.plan_choices.proofs.FarApart.{near-sorted}
-use Rattle.plan_choices.proofs.FirstPassing.{NoneWithin, Passes, first-passes, first-there, later-number, neither}
+use Rattle.plan_meaning.proofs.FarApart.{near-sorted}
+use Rattle.plan_meaning.proofs.FirstPassing.{NoneWithin, Passes, first-passes, first-there, later-number, neither}
 use Rattle.plan_eval.proofs.PartLemmas.{last-passes, last-there, only-passes, only-there}
 
 -- What is chosen of each of so many parts

@@ -15,7 +15,7 @@ use Rattle.plan_table.specs.declared.source_key.SourceKey.{SourceKey}
 use Rattle.plan_table.specs.declared.table.Table.{Table}
 use Rattle.plan_value.specs.Shown.{frame_of, schema_of}
 use Rattle.plan_fit.specs.Sources.{contents_of}
-use Rattle.plan_choices.specs.Choices.{ChooseAll}
+use Rattle.plan_meaning.specs.Choices.{ChooseAll}
 use Rattle.plan_function_tables.specs.Given.{GiveAll}
 
 -- The plans of two lists, side by side

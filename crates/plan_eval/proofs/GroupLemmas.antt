@@ -21,7 +21,7 @@ use Rattle.plan_value.specs.Groups.{AreNumbered, rows_numbered}
 use Rattle.plan_eval.specs.Distinct.{kept, kept_of}
 use Rattle.plan_eval.specs.Groups.{columns_in, group_column}
 use Rattle.plan_eval.proofs.DistinctLemmas.{alike-part, first-before, gathered, gathered-apart, groups-kept, is-kept, kept-parts, one-kept, part, parts-are}
-use Rattle.plan_choices.proofs.FarApart.{near-sorted}
+use Rattle.plan_meaning.proofs.FarApart.{near-sorted}
 
 -- Rows that are picked of columns that are put
 

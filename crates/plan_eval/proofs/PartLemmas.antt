@@ -4,7 +4,7 @@ use Rattle.std.specs.Prelude.{nat_eq}
 use Rattle.std.specs.List.{slice_get}
 use Rattle.std.proofs.lemmas.Option.{same_Some, slice_get-get_or}
 use Rattle.plan_frame.specs.Meaning.{places_from}
-use Rattle.plan_choices.proofs.FirstPassing.{NoneWithin, Passes, from-next, here-passes, later-number, later-passes, no-places, none-there, some-there}
+use Rattle.plan_meaning.proofs.FirstPassing.{NoneWithin, Passes, from-next, here-passes, later-number, later-passes, no-places, none-there, some-there}
 use Rattle.plan_eval.specs.Distinct.{only}
 
 last-of-two : (a b : ℕ) (xs : List ℕ) → slice_get (a ∷ b ∷ xs) (length (a ∷ b ∷ xs) - 1) ≡ slice_get (b ∷ xs) (length (b ∷ xs) - 1)

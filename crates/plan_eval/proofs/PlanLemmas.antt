@@ -22,12 +22,12 @@ use Rattle.plan_meaning.proofs.Validity.{bare-valid, one_stands, schemas-bare, v
 use Rattle.plan_table.specs.declared.source_key.SourceKey.{SourceKey}
 use Rattle.plan_table.specs.declared.table.Table.{Table}
 use Rattle.plan_table.specs.Tables.{HasRows}
-use Rattle.plan_choices.specs.Choices.{ChooseAll, Chooses}
+use Rattle.plan_meaning.specs.Choices.{ChooseAll, Chooses}
 use Rattle.plan_function_tables.specs.Given.{GiveAll, Gives}
 use Rattle.plan_value.specs.Shown.{frame_of, schema_of}
 use Rattle.plan_fit.specs.Sources.{contents_of}
 use Rattle.plan_fit.proofs.FormedLemmas.{have-columns}
-use Rattle.plan_choices.proofs.ChosenMay.{all-may, chosen-may}
+use Rattle.plan_meaning.proofs.ChosenMay.{all-may, chosen-may}
 use Rattle.plan_eval.proofs.TurnLemmas.{have-rows}
 
 -- what holds of each item of two lists in turn holds of each of the first, and of the second

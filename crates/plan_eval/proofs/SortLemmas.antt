@@ -24,7 +24,7 @@ use Rattle.plan_table.specs.declared.source_key.SourceKey.{SourceKey}
 use Rattle.plan_table.specs.declared.table.Table.{Table}
 use Rattle.plan_table.specs.Tables.{HasRows}
 use Rattle.plan_value.specs.Shown.{columns_shown, frame_of, schema_of}
-use Rattle.plan_choices.proofs.ChosenRows.{ranked_exists}
+use Rattle.plan_meaning.proofs.ChosenRows.{ranked_exists}
 use Rattle.plan_function_tables.specs.Given.{Gives}
 use Rattle.plan_fit.proofs.FormedLemmas.{columns-have}
 

@@ -6,7 +6,7 @@ ghost use Rattle.std.specs.List.Sorted.{IsPermutation, IsSorted};
 ghost use Rattle.std.specs.Ordering.{nat_cmp};
 ghost use Rattle.plan_ir.specs.Plans.{distinct as distinct_op};
 ghost use Rattle.plan_frame.specs.Frames.{column_names};
-ghost use Rattle.plan_choices.specs.Choices.{AreChosen};
+ghost use Rattle.plan_meaning.specs.Choices.{AreChosen};
 ghost use Rattle.plan_frame.specs.Meaning.{are_alike};
 ghost use Rattle.plan_frame.specs.Orders.{told_columns};
 ghost use Rattle.plan_table.specs.declared.source_key.SourceKey.{SourceKey};

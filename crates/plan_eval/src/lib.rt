@@ -22,4 +22,4 @@ mod unchanged;
 mod union;
 
 pub use plan::evaluate;
-pub use plan_choices::laws;
+pub use plan_meaning::choice_laws;

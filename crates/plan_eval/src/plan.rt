@@ -13,7 +13,7 @@ ghost use Rattle.plan_meaning.specs.Typing.{AllHold, AllValid, checks, schema};
 ghost use Rattle.plan_table.specs.declared.source_key.SourceKey.{SourceKey};
 ghost use Rattle.plan_table.specs.declared.table.Table.{Table as TableType};
 ghost use Rattle.plan_table.specs.Tables.{HasRows};
-ghost use Rattle.plan_choices.specs.Choices.{Chooses};
+ghost use Rattle.plan_meaning.specs.Choices.{Chooses};
 ghost use Rattle.plan_function_tables.specs.Given.{GiveAll, Gives, makes_new, names_many, stands_over_sides};
 ghost use Rattle.plan_value.specs.Shown.{frame_of, schema_of};
 ghost use Rattle.plan_fit.specs.Sources.{contents_of};

@@ -11,7 +11,7 @@ ghost use Rattle.plan_meaning.specs.Typing.{AllHold, key_checks};
 ghost use Rattle.plan_table.specs.declared.source_key.SourceKey.{SourceKey};
 ghost use Rattle.plan_table.specs.declared.table.Table.{Table as TableType};
 ghost use Rattle.plan_table.specs.Tables.{HasRows};
-ghost use Rattle.plan_choices.specs.Choices.{AreRanked, by_place};
+ghost use Rattle.plan_meaning.specs.Choices.{AreRanked, by_place};
 ghost use Rattle.plan_function_tables.specs.Given.{Gives};
 ghost use Rattle.plan_value.specs.Cells.{cells_of};
 ghost use Rattle.plan_value.specs.Shown.{schema_of};

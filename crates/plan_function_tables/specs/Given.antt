@@ -14,7 +14,7 @@ use Rattle.plan_table.specs.declared.source_key.SourceKey.{SourceKey}
 use Rattle.plan_table.specs.declared.table.Table.{Table}
 use Rattle.plan_value.specs.Shown.{frame_of, schema_of}
 use Rattle.plan_fit.specs.Sources.{contents_of}
-use Rattle.plan_choices.specs.Choices.{Chosen, ChooseAll}
+use Rattle.plan_meaning.specs.Choices.{Chosen, ChooseAll}
 
 -- the column of an expression, with the type that its name has among stored columns
 abbrev pub stored_column : Columns → ExprIR → List ℕ × DataType

@@ -20,8 +20,8 @@ use Rattle.plan_frame.specs.Values.{Value, is_true}
 use Rattle.plan_frame.proofs.Depends.{val_depends}
 use Rattle.plan_frame.proofs.FrameLemmas.{length-map}
 use Rattle.plan_frame.proofs.NameSets.{has-once, named}
-use Rattle.plan_elementwise.specs.CellRows.{IsEven}
-use Rattle.plan_elementwise.proofs.RowWise.{elementwise_rows, value_of_rows}
+use Rattle.plan_meaning.specs.CellRows.{IsEven}
+use Rattle.plan_meaning.proofs.RowWise.{elementwise_rows, value_of_rows}
 use Rattle.plan_join.proofs.ColumnLemmas.{is_new}
 use Rattle.plan_join.specs.declared.origin.Side.{Side}
 use Rattle.plan_join.specs.declared.origin.Side.TheVariants as sides

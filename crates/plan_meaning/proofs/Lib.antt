@@ -21,3 +21,16 @@ pub mod JoinFairness
 pub mod Fairness
 pub mod Keeping
 pub mod ReadNames
+pub mod CacheLists
+pub mod RowWise
+pub mod Minterms
+pub mod MintermTrees
+pub mod FarApart
+pub mod FirstPassing
+pub mod OneOrder
+pub mod OneChoice
+pub mod ChosenMay
+pub mod OneFrame
+pub mod ChosenRows
+pub mod ValidChoose
+pub mod SharedRunLemmas

@@ -17,3 +17,9 @@ pub mod Work
 pub mod Scans
 pub mod Marks
 pub mod Caches
+pub mod CellRows
+pub mod Minterms
+pub mod MintermTrees
+pub mod Worked
+pub mod Choices
+pub mod SharedRuns

@@ -11,7 +11,7 @@ use Rattle.plan_pruned.proofs.CachesPruned.{alone, first_of as front_in, rest_of
 use Rattle.plan_order_laws.specs.CacheSites.{CacheSite, cache_sites, own_site}
 use Rattle.plan_order_laws.specs.Handled.{dropped_if, is_cache, is_near, is_passing, is_place, pruned_if, removed, removed_in, starts}
 use Rattle.plan_order_laws.specs.CacheStates.{IsFlat, Free}
-use Rattle.plan_pass_laws.proofs.CacheLists.{split_cache}
+use Rattle.plan_meaning.proofs.CacheLists.{split_cache}
 use Rattle.plan_order_laws.proofs.FreePlans.{FlatIn, all_free, closed_flat, flat_below, none_sites, nothing, own_same, removed_free}
 use Rattle.plan_order_laws.proofs.SharedRemoved.{dropped_caches, pruned_if_caches, removed_from}
 

@@ -9,7 +9,7 @@ use Rattle.plan_pruned.proofs.CachesPruned.{rest_of as back_in}
 use Rattle.plan_order_laws.specs.CacheSites.{renewed}
 use Rattle.plan_order_laws.specs.Handled.{handled, narrowed, narrowed_in, removed}
 use Rattle.plan_order_laws.specs.CacheStates.{IsFlat, below_narrowed}
-use Rattle.plan_pass_laws.proofs.CacheLists.{split_cache}
+use Rattle.plan_meaning.proofs.CacheLists.{split_cache}
 use Rattle.plan_order_laws.proofs.FreePlans.{FlatIn, nothing}
 use Rattle.plan_order_laws.proofs.SharedNarrowed.{narrowed_from, narrowed_from_in, one_left, renewed_caches}
 use Rattle.plan_order_laws.proofs.SharedRemoved.{removed_from}

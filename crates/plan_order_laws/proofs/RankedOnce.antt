@@ -11,7 +11,7 @@ use Rattle.plan_pruned.proofs.CachesPruned.{first_of as front_in}
 use Rattle.plan_order_laws.specs.CacheSites.{CacheSite, cache_sites}
 use Rattle.plan_order_laws.specs.SideBySide.{hold_cache}
 use Rattle.plan_order_laws.specs.CacheStates.{IsFlat, Missing, Once, cache_states, each_once, in_rank, own_rank, rank_cmp, ranked, ranked_in, ranks, sites_left, without}
-use Rattle.plan_pass_laws.proofs.CacheLists.{split_cache}
+use Rattle.plan_meaning.proofs.CacheLists.{split_cache}
 use Rattle.plan_order_laws.proofs.States.{states_idle, states_sites}
 
 abbrev Plans : Type 0

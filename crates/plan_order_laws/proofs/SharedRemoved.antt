@@ -9,7 +9,7 @@ use Rattle.plan_pruned.proofs.AlikePruned.{one_before, pruned_same}
 use Rattle.plan_pruned.proofs.CachesPruned.{pruned_caches}
 use Rattle.plan_order_laws.specs.Handled.{dropped_if, is_cache, is_near, is_passing, is_place, pruned_if, removed, removed_in, starts}
 use Rattle.plan_pass_laws.specs.CachesLeft.{CacheMade}
-use Rattle.plan_pass_laws.proofs.CacheLists.{back_cache, front_cache}
+use Rattle.plan_meaning.proofs.CacheLists.{back_cache, front_cache}
 use Rattle.plan_pass_laws.proofs.CachesLeft.{back_made, either_made, stay_shared}
 use Rattle.plan_order_laws.specs.CacheStates.{below_removed}
 

@@ -13,7 +13,7 @@ use Rattle.plan_pass_laws.specs.declared.kind.RuleKind.TheVariants as kinds
 use Rattle.plan_pass_laws.specs.Answers.{all_taken_up, answer_of, as_projection, has_unflattened, is_true_literal, is_unflattened, joined_cache, joined_node, joined_projection, or_answer, selects_columns, taken_up}
 use Rattle.plan_pass_laws.specs.Patterns.{is_needless, is_needless_on, shows}
 use Rattle.plan_pass_laws.specs.Weights.{bulk, bulk_in, expr_nodes, weight, weight_in}
-use Rattle.plan_pass_laws.proofs.CacheLists.{front_cache}
+use Rattle.plan_meaning.proofs.CacheLists.{front_cache}
 use Rattle.plan_pass_laws.specs.AnswerCases.{Answered, projected, on_projection, left_out, on_cache, flattened, unfiltered}
 use Rattle.plan_pass_laws.proofs.CollapseRefines.{left_out_refines, on_cache_refines, on_projection_refines, projected_refines}
 use Rattle.plan_pass_laws.proofs.FilterRefines.{unfiltered_refines}

@@ -4,7 +4,7 @@ use Rattle.plan_ir.specs.Plans.{Plan}
 use Rattle.plan_meaning.specs.Caches.{AreShared, CacheOf, IsCacheOf, caches}
 use Rattle.plan_meaning.specs.Marks.{unmarked}
 use Rattle.plan_pass_laws.specs.CachesLeft.{CacheLeft, CacheMade}
-use Rattle.plan_pass_laws.proofs.CacheLists.{back_cache, front_cache, split_cache}
+use Rattle.plan_meaning.proofs.CacheLists.{back_cache, front_cache, split_cache}
 
 module _ (became : ℕ → Plan → Plan → Type 0) where
   -- what is left of some is left of more

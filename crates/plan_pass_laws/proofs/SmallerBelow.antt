@@ -7,7 +7,7 @@ use Rattle.plan_meaning.specs.Marks.{unmarked, unmarked_all}
 use Rattle.plan_meaning.specs.Scans.{nodes}
 use Rattle.plan_meaning.specs.Steps.{IsValid}
 use Rattle.plan_meaning.specs.Typing.{AllHold, AllValid, checks, schemas}
-use Rattle.plan_pass_laws.proofs.CacheLists.{split_cache}
+use Rattle.plan_meaning.proofs.CacheLists.{split_cache}
 
 abbrev Plans : Type 0
 Plans = Roses (Unit {0}) Op

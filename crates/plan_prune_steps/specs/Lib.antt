@@ -1,6 +1,3 @@
 -- The definitions that contracts cite.
-pub mod Among
-pub mod Places
-pub mod Renaming
 pub mod Scans
 pub mod Steps

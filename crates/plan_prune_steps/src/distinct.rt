@@ -14,33 +14,13 @@ ghost use Rattle.plan_pruned.specs.Pruned.{asked_with};
 ghost use Rattle.plan_prune_parts.specs.declared.step.Step.TheVariants.{Over};
 ghost use Rattle.plan_prune_parts.specs.Said.{columns_at};
 
-use crate::among::are_among;
 use plan_core::{Arena, Items, Names, Node, PlSmallStr};
 use plan_ir::IR;
 use plan_options::DistinctOptionsIR;
+use plan_prune_names::add_columns_at;
 use plan_prune_parts::Step;
-use plan_pruned::{add_columns, add_listed};
-use plan_schema::stored_schema;
+use plan_pruned::add_listed;
 use std::alloc::{AllocError, Global};
-
-/// Adds the names of the columns that the plan at a number says it has. Refuses for want of memory alone, and then nothing is known
-/// of the names.
-fn add_columns_at(
-    alloc: Global,
-    names: &mut Names,
-    input: Node,
-    lp: &Arena<IR>,
-) -> Result<(), AllocError>
-    requires { (t : Trees IR) × StandsOnce plan_shape lp.now (input ∷ []) t }
-    ensures { OnOk result ((ex : List AExpr) → names.new ≡ with_names names.old (names_of (columns_at lp.now ex input))) }
-{
-    if are_among(alloc, names, input, lp)? {
-        return Ok(());
-    }
-    let stored = stored_schema(alloc, input, lp)?;
-    add_columns(names, stored.columns())?;
-    Ok(())
-}
 
 /// Adds the names by which rows are told apart: all of the input's where none are told. Refuses for want of memory alone, and then
 /// nothing is known of the names.

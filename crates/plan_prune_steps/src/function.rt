@@ -1,6 +1,6 @@
 //! A function of the whole frame stays as it is.
 //! Asked something, it asks its input the names that it needs for that. Asked nothing, it asks nothing.
-ghost use Rattle.std.specs.Prelude.{◌≡◌, List, [], ◌∷◌, IfOk, IfSome};
+ghost use Rattle.std.specs.Prelude.{◌≡◌, List, [], ◌∷◌, IfOk};
 ghost use Rattle.plan_tree.specs.Stands.{Trees, StandsOnce};
 ghost use Rattle.plan_expr.specs.declared.aexpr.AExpr.{AExpr};
 ghost use Rattle.plan_ir.specs.declared.ir.IR.{IR};
@@ -11,82 +11,12 @@ ghost use Rattle.plan_pruned.specs.Pruned.{mapped_names};
 ghost use Rattle.plan_prune_parts.specs.declared.step.Step.TheVariants.{Over};
 ghost use Rattle.plan_prune_parts.specs.Said.{columns_at};
 
-use crate::known::known_at;
-use crate::renaming::renamed_at;
 use plan_core::{Arena, Names, Node, Schema};
 use plan_ir::{FunctionIR, IR};
+use plan_prune_names::{known_at, renamed_names};
 use plan_prune_parts::Step;
 use plan_pruned::needed_names;
-use plan_schema::stored_schema;
 use std::alloc::{AllocError, Global};
-
-/// What a function asks its input for these names, of which there are some, where that hangs on the columns of the input.
-fn needed_at(
-    alloc: Global,
-    asked: &Names,
-    function: &FunctionIR,
-    input: Node,
-    lp: &Arena<IR>,
-) -> Result<Names, AllocError>
-    requires { (t : Trees IR) × StandsOnce plan_shape lp.now (input ∷ []) t }
-    ensures { IfOk result (λ names. (ex : List AExpr) → names ≡ function_names function.now asked.now (columns_at lp.now ex input)) }
-{
-    let stored = stored_schema(alloc, input, lp)?;
-    Ok(needed_names(alloc, function, asked, stored.columns())?)
-}
-
-/// What a renaming asks its input for these names: what is told, else what the columns of the input say.
-fn renamed_or(
-    alloc: Global,
-    told: Option<Names>,
-    asked: &Names,
-    function: &FunctionIR,
-    input: Node,
-    lp: &Arena<IR>,
-) -> Result<Names, AllocError>
-    requires told { IfSome told (λ names. (ex : List AExpr) → names ≡ function_names function.now asked.now (columns_at lp.now ex input)) }
-    requires input { (t : Trees IR) × StandsOnce plan_shape lp.now (input ∷ []) t }
-    ensures { IfOk result (λ names. (ex : List AExpr) → names ≡ function_names function.now asked.now (columns_at lp.now ex input)) }
-{
-    match told {
-        Some(names) => Ok(names),
-        None => needed_at(alloc, asked, function, input, lp),
-    }
-}
-
-/// What a renaming asks its input for these names, if it gives one column a name that none there has.
-fn told_by_names(
-    alloc: Global,
-    asked: &Names,
-    function: &FunctionIR,
-    input: Node,
-    lp: &Arena<IR>,
-) -> Result<Option<Names>, AllocError>
-    requires { (t : Trees IR) × StandsOnce plan_shape lp.now (input ∷ []) t }
-    ensures { IfOk result (λ told. IfSome told (λ names. (ex : List AExpr) → names ≡ function_names function.now asked.now (columns_at lp.now ex input))) }
-{
-    match function {
-        FunctionIR::Rename { existing, new, .. } => {
-            renamed_at(alloc, asked, existing.as_slice(), new.as_slice(), input, lp)
-        }
-        _ => Ok(None),
-    }
-}
-
-/// What a renaming asks its input for these names, of which there are some.
-fn needed_of_renaming(
-    alloc: Global,
-    asked: &Names,
-    function: &FunctionIR,
-    input: Node,
-    lp: &Arena<IR>,
-) -> Result<Names, AllocError>
-    requires { (t : Trees IR) × StandsOnce plan_shape lp.now (input ∷ []) t }
-    ensures { IfOk result (λ names. (ex : List AExpr) → names ≡ function_names function.now asked.now (columns_at lp.now ex input)) }
-{
-    let told = told_by_names(alloc, asked, function, input, lp)?;
-    renamed_or(alloc, told, asked, function, input, lp)
-}
 
 /// What a function asks its input for these names, of which there are some. Only a numbering of the rows and a renaming look at the
 /// columns of the input.
@@ -102,7 +32,7 @@ fn needed(
 {
     match function {
         FunctionIR::RowIndex { .. } => known_at(alloc, asked, input, lp),
-        FunctionIR::Rename { .. } => needed_of_renaming(alloc, asked, function, input, lp),
+        FunctionIR::Rename { .. } => renamed_names(alloc, asked, function, input, lp),
         FunctionIR::Unpivot { .. } => needed_names(alloc, function, asked, &Schema::new(alloc)),
         FunctionIR::Explode { .. } => needed_names(alloc, function, asked, &Schema::new(alloc)),
         FunctionIR::FastCount { .. } => needed_names(alloc, function, asked, &Schema::new(alloc)),

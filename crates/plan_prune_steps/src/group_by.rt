@@ -13,10 +13,10 @@ ghost use Rattle.plan_prune_parts.specs.Places.{StandExprs};
 ghost use Rattle.plan_prune_parts.specs.Said.{columns_at};
 ghost use Rattle.plan_prune_steps.specs.Steps.{step_of};
 
-use crate::known::known_at;
 use plan_core::{Arena, Names, Node, Schema};
 use plan_expr::{AExpr, ExprIR};
 use plan_ir::IR;
+use plan_prune_names::known_at;
 use plan_prune_parts::Step;
 use plan_prune_parts::exprs::{add_all_names, kept_exprs, with_typed};
 use std::alloc::{AllocError, Global};

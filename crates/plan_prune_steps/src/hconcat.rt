@@ -12,11 +12,10 @@ ghost use Rattle.plan_prune_parts.specs.Kept.{beside_after};
 ghost use Rattle.plan_prune_parts.specs.Said.{columns_at};
 ghost use Rattle.plan_prune_steps.specs.Steps.{held_at, is_hconcat, step_of};
 
-use crate::held::known_with;
-use crate::places::Places;
 use plan_core::{Arena, Items, Names, Node, PlSmallStr, Schema, TryClone};
 use plan_ir::IR;
 use plan_options::HConcatOptions;
+use plan_prune_names::{Places, known_with};
 use plan_prune_parts::Step;
 use plan_schema::stored_schema;
 use std::alloc::{AllocError, Global};

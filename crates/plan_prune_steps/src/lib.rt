@@ -1,7 +1,6 @@
 //! What pruning does at a node of each kind: before its inputs are pruned, and after.
 #![tactic(auto)]
 
-mod among;
 mod cache;
 mod distinct;
 mod filter;
@@ -9,12 +8,8 @@ mod frame_scan;
 mod function;
 mod group_by;
 mod hconcat;
-mod held;
 mod hstack;
-mod known;
-mod places;
 mod projection;
-mod renaming;
 mod scan;
 pub mod select;
 mod sink;

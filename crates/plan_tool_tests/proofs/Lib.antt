@@ -1,0 +1,3 @@
+mod Others
+mod TrueOrs
+mod TrueSides

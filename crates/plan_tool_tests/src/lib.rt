@@ -1,9 +1,17 @@
-//! The tests of plan_tool. They stand apart from it, so that it is proved once, and not with its tests again. What documents are answered is
-//! told by those of cases; here are words, bytes, sources and sinks that no file of documents has.
+//! The tests of plan_tool, plan_rule and plan_reshape. They stand apart from these, so that each is proved once, and not with its tests
+//! again. What documents are answered is told by those of cases; here are words, bytes, sources and sinks that no file of documents has,
+//! what the loop over rules makes of plans of documents, and rules of types that no crate has.
 #![tactic(auto)]
 
 #[cfg(test)]
 mod deep;
 mod fakes;
+mod heard;
+#[cfg(test)]
+mod loops;
+mod once;
 #[cfg(test)]
 mod streams;
+mod true_side;
+#[cfg(test)]
+mod true_side_loops;

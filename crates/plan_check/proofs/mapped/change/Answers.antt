@@ -14,4 +14,4 @@ pub returns-in-Rename : goal.returns-in-Rename
 returns-in-Rename c = IfOk-weaker c.rename.result _ _ (λ fits is.
     subst (λ (f : FunctionIR). IsChanged fits f c.args.columns.now c.rename.new.columns)
     (ap₂ (λ (x y : List Name). Rename x y c.in-Rename.swapping) c.as_slice-in-Rename.ensures c.as_slice-in-Rename-2.ensures ∙ sym c.in-Rename.is)
-    (is c.in-Rename.swapping)) c.rename.ensures
+    (is c.in-Rename.swapping)) c.rename.ensures.changed

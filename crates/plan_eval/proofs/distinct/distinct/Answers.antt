@@ -1,5 +1,5 @@
 use Rattle.std.proofs.Common.{◌∙◌, ℕ, List, ap, subst}
-use Rattle.plan_choices.specs.Choices.{AreChosen}
+use Rattle.plan_meaning.specs.Choices.{AreChosen}
 use Rattle.plan_frame.specs.Frames.{rows_at}
 use Rattle.plan_frame.specs.Meaning.{Cell, are_alike}
 use Rattle.plan_value.specs.Cells.{cells_of}

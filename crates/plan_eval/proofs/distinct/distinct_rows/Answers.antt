@@ -1,6 +1,6 @@
 use Rattle.std.proofs.Common.{[], ℕ, List, subst, sym}
 use Rattle.std.proofs.lemmas.Result.{IfOk-weaker}
-use Rattle.plan_choices.specs.Choices.{AreChosen}
+use Rattle.plan_meaning.specs.Choices.{AreChosen}
 use Rattle.plan_frame.specs.Meaning.{Cell, are_alike}
 use Rattle.plan_eval.proofs.DistinctLemmas.{alike-chosen, no-cells}
 use Rattle.plan_eval.proofs.distinct.distinct_rows.Goals as goal

@@ -6,7 +6,7 @@ use Rattle.plan_frame.specs.Meaning.{Cell}
 use Rattle.plan_frame.specs.Orders.{rows_cmp}
 use Rattle.plan_value.specs.Cells.{cells_of}
 use Rattle.plan_value.specs.Shown.{frame_of}
-use Rattle.plan_choices.specs.Choices.{AreRanked}
+use Rattle.plan_meaning.specs.Choices.{AreRanked}
 use Rattle.plan_eval.proofs.SortLemmas.{keys-total}
 use Rattle.plan_eval.proofs.sort.in_order.Goals as goal
 

@@ -4,8 +4,8 @@ use Rattle.std.specs.declared.cmp.Ordering.{Ordering}
 use Rattle.plan_frame.specs.Orders.{rows_cmp}
 use Rattle.plan_frame.proofs.OrderLemmas.{ties_total}
 use Rattle.plan_value.specs.Cells.{cells_of}
-use Rattle.plan_choices.specs.Choices.{by_place}
-use Rattle.plan_choices.proofs.FarApart.{far-apart}
+use Rattle.plan_meaning.specs.Choices.{by_place}
+use Rattle.plan_meaning.proofs.FarApart.{far-apart}
 use Rattle.plan_eval.proofs.SortLemmas.{sorted-by}
 use Rattle.plan_eval.proofs.sort.sorted_rows.Goals as goal
 

@@ -5,7 +5,7 @@ use Rattle.plan_tree.proofs.TreeLemmas.{nth, StandsOnce-nth}
 use Rattle.plan_ir.specs.Parts.{plan_shape}
 use Rattle.plan_expr.specs.Leaves.{Name}
 use Rattle.plan_prune_steps.proofs.ConcatParts.{held-next}
-use Rattle.plan_prune_steps.proofs.PlaceSteps.{take-all}
+use Rattle.plan_prune_names.proofs.PlaceSteps.{take-all}
 use Rattle.plan_prune_steps.specs.Steps.{held_at}
 use Rattle.plan_prune_steps.proofs.hconcat.asks.Goals as goal
 

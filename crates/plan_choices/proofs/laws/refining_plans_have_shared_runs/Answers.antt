@@ -1,5 +1,0 @@
-use Rattle.plan_choices.proofs.SharedRunLemmas.{shared_run}
-use Rattle.plan_choices.proofs.laws.refining_plans_have_shared_runs.Goals as goal
-
-pub returns : goal.returns
-returns c = λ contents q p refines shared fit. shared_run contents q p refines shared fit

@@ -1,4 +1,0 @@
--- The lemmas of these rules.
-mod Others
-mod TrueOrs
-mod TrueSides

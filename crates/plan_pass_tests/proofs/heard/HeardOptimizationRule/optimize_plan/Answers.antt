@@ -1,5 +1,0 @@
-use Rattle.plan_pass_tests.proofs.Others.{nothing}
-use Rattle.plan_pass_tests.proofs.heard.HeardOptimizationRule.optimize_plan.Goals as goal
-
-pub returns-clause-answers : goal.returns-clause-answers
-returns-clause-answers c = nothing c.args.lp.now c.args.ex.now c.args.node

@@ -1,0 +1,17 @@
+use Rattle.std.proofs.Common.{◌≡◌, ◌∙◌, ap, cond, sym, Option, Some}
+use Rattle.std.specs.List.{slice_get}
+use Rattle.std.specs.Str.{bytes_eq}
+use Rattle.plan_core.specs.declared.data_type.DataType.{DataType}
+use Rattle.plan_expr.specs.Leaves.{Name}
+use Rattle.plan_frame.proofs.ScalarExprs.{item_here}
+use Rattle.plan_prune_names.specs.Overlays.{item_in, type_in}
+use Rattle.plan_prune_names.proofs.FunctionLemmas.{items-next}
+use Rattle.plan_prune_names.proofs.functions.take_apart.Goals as goal
+
+pub loop-name-preserved : goal.loop-name-preserved
+loop-name-preserved c =
+    let name : Name = c.as_str.result.now in
+    let here : slice_get c.args.names.now c.loop-name.name-index ≡ Some name = item_here c.args.names.now c.loop-name.name-index c.name-item.result c.loop-name-test.true c.name-item.is ∙ ap (λ (a : Name). Some a) (sym c.as_str.ensures) in
+    items-next c.args.names.now c.loop-name.name-index name (type_in c.args.overlay.now) (type_in c.loop-name.overlay) (type_in c.set.new.self) c.item_type-dtype.result here c.loop-name.invariant
+    (c.item_type-dtype.ensures ∙ ap (λ (d : Option DataType). item_in d) c.get.ensures)
+    (λ a. c.in_ok-set.ensures.after a ∙ ap (λ (n : Name). cond (bytes_eq a n) c.item_type-dtype.result (type_in c.loop-name.overlay a)) (c.as_str-in-loop-name.ensures ∙ sym c.as_str.ensures))

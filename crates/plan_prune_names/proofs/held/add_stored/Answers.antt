@@ -1,0 +1,19 @@
+use Rattle.std.proofs.Common.{◌∙◌, ◌++◌, ◌∷◌, [], ap, arith, ℕ, List}
+use Rattle.plan_core.specs.declared.data_type.DataType.{DataType}
+use Rattle.plan_expr.specs.Leaves.{Name}
+use Rattle.plan_pruned.proofs.ListSteps.{name_at, not_past}
+use Rattle.plan_prune_names.specs.Places.{places_in}
+use Rattle.plan_prune_names.proofs.PlaceSteps.{places-next}
+use Rattle.plan_prune_names.proofs.held.add_stored.Goals.{in-Some+in_ok-add_place, in_default}
+use Rattle.plan_prune_names.proofs.held.add_stored.Goals as goal
+
+pub loop-i-preserved : goal.loop-i-preserved
+loop-i-preserved c =
+    elim c.match-get_at_index.branch [
+      | in-Some+in_ok-add_place w ↦
+          ap (λ (v : _). v.items) w.found-is
+          ∙ w.in_ok-add_place.ensures
+          ∙ ap (λ (ps : List ℕ). ps ++ places_in c.args.places.now (w.in-Some.name.now ∷ [])) c.loop-i.invariant
+          ∙ places-next (λ (column : Name × DataType). column.0) c.args.places.now c.args.columns.now c.loop-i.i w.in-Some.name.now c.args.found.now.items (name_at c.args.columns.now c.loop-i.i w.in-Some.name.now _ w.in-Some.ensures.found)
+      | in_default w ↦ absurd (not_past c.args.columns.now c.loop-i.i w.in_default.ensures.none (omega (arith, c.loop-i-test.true, c.len-i-end.ensures.value)))
+    ]
