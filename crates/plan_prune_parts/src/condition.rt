@@ -1,15 +1,15 @@
 //! The condition of a join over pruned sides.
 ghost use Rattle.std.specs.Prelude.{◌≡◌, ◌∷◌, [], All, IfOk};
-ghost use Rattle.plan_expr.specs.Exprs.{named_at};
+ghost use Rattle.plan_expr.specs.Exprs.{expr_at, named_at};
 ghost use Rattle.plan_expr.specs.Operands.{IsExpr};
 ghost use Rattle.plan_ir.specs.Parts.{condition_of, list_of};
 ghost use Rattle.plan_join.specs.Told.{told_at};
-ghost use Rattle.plan_pruned.specs.JoinPruned.{narrowed_told, renamed_condition, renamed_output};
+ghost use Rattle.plan_pruned.specs.JoinPruned.{narrowed_told, renamed_condition, renamed_expr, renamed_output};
 ghost use Rattle.plan_prune_parts.specs.Left.{condition_nodes, name_now, StandFor};
 ghost use Rattle.plan_pruned.specs.Renamed.{IsLonger};
 
 use crate::names::JoinNames;
-use plan_core::Arena;
+use plan_core::{Arena, Node};
 use plan_expr::{AExpr, ExprIR, OutputName, aexpr_to_leaf_names};
 use plan_join::{JoinOptions, JoinTypeOptionsIR};
 use plan_pruned::copy_renamed;
@@ -27,6 +27,28 @@ fn output_now(alloc: Global, name: OutputName, names: &JoinNames) -> Result<Outp
     }
 }
 
+/// An expression under the names that columns have now: itself where each is called as it was, else a copy, of new entries. Refuses for
+/// want of memory alone.
+fn node_now(
+    alloc: Global,
+    node: Node,
+    names: &JoinNames,
+    ex: &mut Arena<AExpr>,
+) -> Result<Node, AllocError>
+    requires { IsExpr ex.old node }
+    ensures expr { IfOk result (λ now. expr_at ex.new now ≡ renamed_expr (name_now names.now) (expr_at ex.old node)) }
+    ensures stands { IfOk result (λ now. IsExpr ex.new now) }
+    ensures place { IfOk result (λ now. StandFor ex.old ex.new (now ∷ []) (node ∷ [])) }
+    ensures longer { IsLonger ex.old ex.new }
+{
+    let from = aexpr_to_leaf_names(alloc, node, ex)?;
+    let to = names.all_now(alloc, from.as_slice())?;
+    if from != to {
+        return copy_renamed(alloc, node, ex, from.as_slice(), to.as_slice());
+    }
+    Ok(node)
+}
+
 /// A condition under the names that columns have now: itself where each is called as it was, else a copy, of new entries. Refuses for
 /// want of memory alone.
 fn condition_now(
@@ -41,13 +63,8 @@ fn condition_now(
     ensures place { IfOk result (λ now. StandFor ex.old ex.new (now.node ∷ []) (predicate.node ∷ [])) }
     ensures longer { IsLonger ex.old ex.new }
 {
-    let from = aexpr_to_leaf_names(alloc, predicate.node, ex)?;
-    let to = names.all_now(alloc, from.as_slice())?;
+    let node = node_now(alloc, predicate.node, names, ex)?;
     let output_name = output_now(alloc, predicate.output_name, names)?;
-    let mut node = predicate.node;
-    if from != to {
-        node = copy_renamed(alloc, node, ex, from.as_slice(), to.as_slice())?;
-    }
     Ok(ExprIR { node, output_name })
 }
 

@@ -1,8 +1,10 @@
 //! From which columns of its sides a join takes those that it puts out, by the names under which it does.
-ghost use Rattle.std.specs.Prelude.{◌≡◌, All, IfNone, IfOk, IfSome, None, Some};
+ghost use Rattle.std.specs.Prelude.{◌≡◌, All, IfNone, IfOk, IfSome, None, Some, map};
+ghost use Rattle.plan_core.specs.Columns.{names_of};
 ghost use Rattle.plan_expr.specs.Leaves.{Name};
 ghost use Rattle.plan_expr.specs.Operands.{IsExpr};
-ghost use Rattle.plan_join.specs.Naming.{key_columns, origin};
+ghost use Rattle.plan_join.specs.Naming.{key_columns, origin, right_name as called_right};
+ghost use Rattle.plan_meaning.specs.Functions.{name_in, new_name};
 ghost use Rattle.plan_prune_parts.specs.Origins.{origin_in};
 
 use plan_core::{Arena, Items, PlSmallStr, Schema};
@@ -11,6 +13,47 @@ use plan_join::{Side, left_rest, right_name, right_rest};
 use plan_options::JoinArgs;
 use plan_schema::Renaming;
 use std::alloc::{AllocError, Global};
+
+/// The names of right columns, under which a join puts them out beside left ones. Refuses for want of memory alone.
+fn names_called(
+    alloc: Global,
+    suffix: &str,
+    left: &Schema,
+    right: &Schema,
+) -> Result<Items<PlSmallStr>, AllocError>
+    ensures { IfOk result (λ called. called ≡ map (λ c. called_right suffix.now (names_of left.now) c.0) right.now) }
+{
+    let mut called = Items::new(alloc);
+    for (name, _) in right.iter() {
+        called.push(right_name(alloc, suffix, left, name)?)?;
+    }
+    Ok(called)
+}
+
+/// The names of columns. Refuses for want of memory alone.
+fn own_names(alloc: Global, columns: &Schema) -> Result<Items<PlSmallStr>, AllocError>
+    ensures { IfOk result (λ own. own ≡ names_of columns.now) }
+{
+    let mut own = Items::new(alloc);
+    for (name, _) in columns.iter() {
+        own.push(PlSmallStr::new(alloc, name)?)?;
+    }
+    Ok(own)
+}
+
+/// The names of right columns, by those under which a join puts them out beside left ones. Refuses for want of memory alone.
+fn right_names(
+    alloc: Global,
+    suffix: &str,
+    left: &Schema,
+    right: &Schema,
+) -> Result<Renaming, AllocError>
+    ensures { IfOk result (λ names. (a : Name) → name_in names a ≡ new_name (map (λ c. called_right suffix.now (names_of left.now) c.0) right.now) (names_of right.now) a) }
+{
+    let called = names_called(alloc, suffix, left, right)?;
+    let own = own_names(alloc, right)?;
+    Renaming::new(alloc, called.as_slice(), own.as_slice())
+}
 
 /// The columns of the sides of a join, by the names under which it puts them out.
 #[derive(Drop)]
@@ -38,13 +81,8 @@ impl Origins {
     {
         let rest = left_rest(alloc, args, left_on, left, ex)?;
         let others = right_rest(alloc, args, right_on, right, ex)?;
-        let mut called = Items::new(alloc);
-        let mut own = Items::new(alloc);
-        for (name, _) in others.iter() {
-            called.push(right_name(alloc, args.suffix(), &rest, name)?)?;
-            own.push(PlSmallStr::new(alloc, name)?)?;
-        }
-        let names = Renaming::new(alloc, called.as_slice(), own.as_slice())?;
+        let names = right_names(alloc, args.suffix(), &rest, &others)?;
+        drop(others);
         Ok(Origins {
             left: rest,
             right: names,
