@@ -9,6 +9,8 @@ ghost use Rattle.plan_expr.specs.Leaves.{leaves};
 ghost use Rattle.plan_pruned.specs.Pruned.{asked_with};
 ghost use Rattle.plan_prune_parts.specs.declared.step.Step.TheVariants.{Over};
 
+use crate::over::over;
+use crate::reads::with_added;
 use plan_core::{Arena, Names, Node};
 use plan_expr::{AExpr, ExprIR};
 use plan_ir::IR;
@@ -24,7 +26,8 @@ fn asks(asked: Names, predicate: &ExprIR, ex: &Arena<AExpr>) -> Result<Names, Al
 {
     let mut names = asked;
     if names.len() > 0 {
-        add_names(&mut names, predicate.node, ex)?;
+        let added = add_names(&mut names, predicate.node, ex);
+        return with_added(names, added);
     }
     Ok(names)
 }
@@ -39,10 +42,9 @@ pub fn prepare(
     requires { IsExpr ex.now predicate.node }
     ensures { IfOk result (λ step. step ≡ Over input (asked_with asked (leaves (expr_at ex.now predicate.node))) (Filter input predicate)) }
 {
-    let asked = asks(asked, &predicate, ex)?;
-    Ok(Step::Over {
+    over(
         input,
-        asked,
-        entry: IR::Filter { input, predicate },
-    })
+        asks(asked, &predicate, ex),
+        IR::Filter { input, predicate },
+    )
 }

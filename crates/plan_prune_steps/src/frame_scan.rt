@@ -22,15 +22,20 @@ pub fn prepare(alloc: Global, scan: IR, asked: &Names) -> Result<Step, AllocErro
             schema,
             output_schema,
         } => {
-            let output_schema = pruned_output(alloc, output_schema, &schema, asked)?;
-            Ok(Step::Leaf {
-                columns: None,
-                entry: IR::DataFrameScan {
-                    df,
-                    schema,
-                    output_schema,
-                },
-            })
+            match pruned_output(alloc, output_schema, &schema, asked) {
+                Ok(output_schema) => Ok(Step::Leaf {
+                    columns: None,
+                    entry: IR::DataFrameScan {
+                        df,
+                        schema,
+                        output_schema,
+                    },
+                }),
+                Err(error) => {
+                    drop(schema);
+                    Err(error)
+                }
+            }
         }
         _ => unreachable!(),
     }

@@ -8,18 +8,32 @@ ghost use Rattle.plan_expr.specs.Operands.{IsExpr};
 ghost use Rattle.plan_expr.specs.Exprs.{all_named_at};
 ghost use Rattle.plan_ir.specs.Parts.{inputs_of, is_group_by, plan_shape, roots_of};
 ghost use Rattle.plan_meaning.specs.Asked.{grouping_names};
-ghost use Rattle.plan_prune_parts.specs.Kept.{is_some_name, names_at, stored_after};
+ghost use Rattle.plan_prune_parts.specs.Kept.{is_some_name, names_at, stored_after, with_typed as columns_with};
 ghost use Rattle.plan_prune_parts.specs.Places.{StandExprs};
 ghost use Rattle.plan_prune_parts.specs.Said.{columns_at};
 ghost use Rattle.plan_prune_steps.specs.Steps.{step_of};
 
+use crate::over::over;
+use crate::reads::{held_and_read, with_added};
 use plan_core::{Arena, Names, Node, Schema};
 use plan_expr::{AExpr, ExprIR};
 use plan_ir::IR;
-use plan_prune_names::known_at;
 use plan_prune_parts::Step;
 use plan_prune_parts::exprs::{add_all_names, kept_exprs, with_typed};
 use std::alloc::{AllocError, Global};
+
+/// The columns of these keys and aggregates, with the types that they have in the schema.
+fn typed(
+    alloc: Global,
+    keys: &[ExprIR],
+    aggs: &[ExprIR],
+    schema: &Schema,
+) -> Result<Schema, AllocError>
+    ensures { IfOk result (λ columns. columns ≡ columns_with [] (names_at (keys.now ++ aggs.now)) schema.now) }
+{
+    let of_keys = with_typed(alloc, Schema::new(alloc), keys, schema)?;
+    with_typed(alloc, of_keys, aggs, schema)
+}
 
 /// The columns that a grouping stores that keeps these keys and aggregates.
 fn columns(
@@ -34,8 +48,9 @@ fn columns(
     if asked.len() == 0 {
         return Ok(schema);
     }
-    let of_keys = with_typed(alloc, Schema::new(alloc), keys, &schema)?;
-    Ok(with_typed(alloc, of_keys, aggs, &schema)?)
+    let columns = typed(alloc, keys, aggs, &schema);
+    drop(schema);
+    columns
 }
 
 /// What a grouping asks that keeps these keys and aggregates.
@@ -53,10 +68,9 @@ fn asks(
     requires input { (t : Trees IR) × StandsOnce plan_shape lp.now (input ∷ []) t }
     ensures { IfOk result (λ names. names ≡ grouping_names (all_named_at ex.now keys.now) (all_named_at ex.now aggs.now) asked.now (columns_at lp.now ex.now input)) }
 {
-    let mut names = known_at(alloc, asked, input, lp)?;
-    add_all_names(&mut names, aggs, ex)?;
-    add_all_names(&mut names, keys, ex)?;
-    Ok(names)
+    let mut names = held_and_read(alloc, asked, aggs, input, lp, ex)?;
+    let added = add_all_names(&mut names, keys, ex);
+    with_added(names, added)
 }
 
 /// The step of a grouping.
@@ -82,20 +96,13 @@ pub fn prepare(
             options,
         } => {
             let aggs = kept_exprs(alloc, aggs, asked)?;
-            let schema = columns(alloc, schema, keys.as_slice(), aggs.as_slice(), asked)?;
-            let asked = asks(
-                alloc,
-                asked,
-                keys.as_slice(),
-                aggs.as_slice(),
-                input,
-                lp,
-                ex,
-            )?;
-            Ok(Step::Over {
+            let (of_keys, of_aggs) = (keys.as_slice(), aggs.as_slice());
+            let schema = columns(alloc, schema, of_keys, of_aggs, asked)?;
+            let asked = asks(alloc, asked, of_keys, of_aggs, input, lp, ex);
+            over(
                 input,
                 asked,
-                entry: IR::GroupBy {
+                IR::GroupBy {
                     input,
                     keys,
                     aggs,
@@ -103,7 +110,7 @@ pub fn prepare(
                     maintain_order,
                     options,
                 },
-            })
+            )
         }
         _ => unreachable!(),
     }

@@ -12,17 +12,18 @@ ghost use Rattle.plan_expr.specs.Exprs.{all_named_at};
 ghost use Rattle.plan_ir.specs.Plans.{bare, plans_at};
 ghost use Rattle.plan_meaning.specs.Typing.{first_schema};
 ghost use Rattle.plan_schema.specs.Stored.{stored_all};
-ghost use Rattle.plan_prune_parts.specs.Kept.{asks_after, with_stacked};
+ghost use Rattle.plan_prune_parts.specs.Kept.{asks_after, names_at, with_stacked, with_typed as columns_with};
 ghost use Rattle.plan_prune_parts.specs.Places.{StandExprs};
 ghost use Rattle.plan_prune_parts.specs.Said.{columns_at};
 ghost use Rattle.plan_prune_steps.specs.Steps.{step_of};
 
+use crate::over::over;
+use crate::reads::held_and_read;
 use plan_core::{Arena, Items, Names, Node, ProjectionOptions, Schema};
 use plan_expr::{AExpr, ExprIR};
 use plan_ir::IR;
-use plan_prune_names::known_at;
 use plan_prune_parts::Step;
-use plan_prune_parts::exprs::{add_all_names, kept_exprs, with_typed};
+use plan_prune_parts::exprs::{kept_exprs, with_typed};
 use plan_schema::stored_schema;
 use std::alloc::{AllocError, Global};
 
@@ -45,9 +46,9 @@ fn asks(
     if exprs.len() == 0 {
         return Ok(asked);
     }
-    let mut names = known_at(alloc, &asked, input, lp)?;
-    add_all_names(&mut names, exprs, ex)?;
-    Ok(names)
+    let names = held_and_read(alloc, &asked, exprs, input, lp, ex);
+    drop(asked);
+    names
 }
 
 /// The step of an addition.
@@ -70,21 +71,44 @@ pub fn prepare(
             schema,
             options,
         } => {
-            let exprs = kept_exprs(alloc, exprs, &asked)?;
-            let asked = asks(alloc, asked, exprs.as_slice(), input, lp, ex)?;
-            Ok(Step::Over {
-                input,
-                asked,
-                entry: IR::HStack {
-                    input,
-                    exprs,
-                    schema,
-                    options,
-                },
-            })
+            match kept_exprs(alloc, exprs, &asked) {
+                Ok(exprs) => {
+                    let asked = asks(alloc, asked, exprs.as_slice(), input, lp, ex);
+                    over(
+                        input,
+                        asked,
+                        IR::HStack {
+                            input,
+                            exprs,
+                            schema,
+                            options,
+                        },
+                    )
+                }
+                Err(error) => {
+                    drop(schema);
+                    drop(asked);
+                    Err(error)
+                }
+            }
         }
         _ => unreachable!(),
     }
+}
+
+/// The columns that an addition of these expressions stores over its pruned input.
+fn columns(
+    alloc: Global,
+    schema: &Schema,
+    exprs: &[ExprIR],
+    input: Node,
+    lp: &Arena<IR>,
+) -> Result<Schema, AllocError>
+    requires { (t : Trees IR) × StandsOnce plan_shape lp.now (input ∷ []) t }
+    ensures { IfOk result (λ columns. (ex : List AExpr) → columns ≡ columns_with (columns_at lp.now ex input) (names_at exprs.now) schema.now) }
+{
+    let base = stored_schema(alloc, input, lp)?.into_schema(alloc)?;
+    with_typed(alloc, base, exprs, schema)
 }
 
 /// Puts an addition of these expressions at `node`, over the pruned input; where names are asked, over its columns, and
@@ -118,12 +142,14 @@ pub fn put(
         return Ok(());
     }
     if exprs.len() == 0 {
+        drop(schema);
         let entry = lp.take(input);
         lp.put(node, entry);
         return Ok(());
     }
-    let base = stored_schema(alloc, input, lp)?.into_schema(alloc)?;
-    let schema = with_typed(alloc, base, exprs.as_slice(), &schema)?;
+    let stored = columns(alloc, &schema, exprs.as_slice(), input, lp);
+    drop(schema);
+    let schema = stored?;
     lp.put(
         node,
         IR::HStack {

@@ -7,6 +7,8 @@ ghost use Rattle.plan_ir.specs.declared.ir.IR.TheVariants.{SimpleProjection};
 ghost use Rattle.plan_pruned.specs.Pruned.{kept as kept_of};
 ghost use Rattle.plan_prune_parts.specs.declared.step.Step.TheVariants.{Over};
 
+use crate::over::over;
+use crate::reads::with_added;
 use plan_core::{Names, Node, Schema};
 use plan_ir::IR;
 use plan_prune_parts::Step;
@@ -18,8 +20,8 @@ fn asks(alloc: Global, columns: &Schema) -> Result<Names, AllocError>
     ensures { IfOk result (λ names. names ≡ with_names [] (names_of columns.now)) }
 {
     let mut names = Names::new(alloc);
-    add_columns(&mut names, columns)?;
-    Ok(names)
+    let added = add_columns(&mut names, columns);
+    with_added(names, added)
 }
 
 /// The step of a projection.
@@ -32,10 +34,9 @@ pub fn prepare(
     ensures { IfOk result (λ step. step ≡ Over input (with_names [] (names_of (kept_of asked.now columns))) (SimpleProjection input (kept_of asked.now columns))) }
 {
     let columns = kept_columns(alloc, columns, asked)?;
-    let asked = asks(alloc, &columns)?;
-    Ok(Step::Over {
+    over(
         input,
-        asked,
-        entry: IR::SimpleProjection { input, columns },
-    })
+        asks(alloc, &columns),
+        IR::SimpleProjection { input, columns },
+    )
 }

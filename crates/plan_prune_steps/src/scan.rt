@@ -1,7 +1,9 @@
 //! A scan of files that is asked something reads what the asked names need, and puts these out alone. A projection to the asked names
 //! goes on top where projections go on top. Asked nothing, a scan is unchanged.
 ghost use Rattle.std.specs.Prelude.{◌≡◌, ◌<◌, IfOk, IsTrue, List, Some, length};
+ghost use Rattle.plan_core.specs.Columns.{Columns};
 ghost use Rattle.plan_expr.specs.declared.aexpr.AExpr.{AExpr};
+ghost use Rattle.plan_file_tables.specs.declared.left.LeftScan.{LeftScan as LeftScanType};
 ghost use Rattle.plan_file_scan.specs.Left.{in_file_order, left_options, left_output, left_parts};
 ghost use Rattle.plan_ir.specs.declared.ir.IR.{IR};
 ghost use Rattle.plan_ir.specs.declared.ir.IR.TheVariants.{Scan};
@@ -39,31 +41,38 @@ fn left(
     }
 }
 
-/// The step of a scan that is asked something, by what is left of it.
+/// The step of a scan that is asked something, by what is left of it and the asked columns. Refuses where there was no memory for these.
 fn step_left(
     sources: ScanSources,
     reader_schema: Option<Schema>,
     predicate: Option<ExprIR>,
     scan_type: FileScan,
-    columns: Schema,
-    left: LeftScan,
-) -> Step
-    ensures { result ≡ Leaf (Some columns) (Scan sources (record { schema = left.columns; reader_schema = reader_schema }) left.hive_parts predicate (Some left.output) scan_type left.options) }
+    left: Result<(LeftScan, Schema), AllocError>,
+) -> Result<Step, AllocError>
+    ensures { IfOk result (λ step. (l : LeftScanType × Columns) × (left ≡ Ok l) × (step ≡ Leaf (Some l.1) (Scan sources (record { schema = l.0.columns; reader_schema = reader_schema }) l.0.hive_parts predicate (Some l.0.output) scan_type l.0.options))) }
 {
-    Step::Leaf {
-        columns: Some(columns),
-        entry: IR::Scan {
-            sources,
-            file_info: FileInfo {
-                schema: left.columns,
-                reader_schema,
+    match left {
+        Ok((left, columns)) => Ok(Step::Leaf {
+            columns: Some(columns),
+            entry: IR::Scan {
+                sources,
+                file_info: FileInfo {
+                    schema: left.columns,
+                    reader_schema,
+                },
+                hive_parts: left.hive_parts,
+                predicate,
+                output_schema: Some(left.output),
+                scan_type,
+                file_options: left.options,
             },
-            hive_parts: left.hive_parts,
-            predicate,
-            output_schema: Some(left.output),
-            scan_type,
-            file_options: left.options,
-        },
+        }),
+        Err(error) => {
+            drop(sources);
+            drop(reader_schema);
+            drop(predicate);
+            Err(error)
+        }
     }
 }
 
@@ -83,8 +92,13 @@ fn left_and_asked(
     ensures asked { IfOk result (λ l. l.1 ≡ typed_names l.0.columns asked.now) }
 {
     let left = left(alloc, kind, asked, info, hive_parts, options)?;
-    let columns = typed_columns(alloc, asked, &left.columns)?;
-    Ok((left, columns))
+    match typed_columns(alloc, asked, &left.columns) {
+        Ok(columns) => Ok((left, columns)),
+        Err(error) => {
+            drop(left);
+            Err(error)
+        }
+    }
 }
 
 /// The step of a scan of files that is asked something.
@@ -99,26 +113,21 @@ fn prune(alloc: Global, scan: IR, asked: &Names) -> Result<Step, AllocError>
             file_info,
             hive_parts,
             predicate,
-            output_schema: _,
+            output_schema,
             scan_type,
             file_options,
         } => {
-            let (left, columns) = left_and_asked(
+            drop(output_schema);
+            let left = left_and_asked(
                 alloc,
                 scan_type,
                 asked,
                 &file_info,
                 hive_parts,
                 file_options,
-            )?;
-            Ok(step_left(
-                sources,
-                file_info.reader_schema,
-                predicate,
-                scan_type,
-                columns,
-                left,
-            ))
+            );
+            drop(file_info.schema);
+            step_left(sources, file_info.reader_schema, predicate, scan_type, left)
         }
         _ => unreachable!(),
     }

@@ -11,6 +11,8 @@ ghost use Rattle.plan_pruned.specs.Pruned.{asked_with};
 ghost use Rattle.plan_prune_parts.specs.Places.{StandExprs};
 ghost use Rattle.plan_prune_steps.specs.Steps.{step_of};
 
+use crate::over::over;
+use crate::reads::with_added;
 use plan_core::{Arena, Names};
 use plan_expr::{AExpr, ExprIR};
 use plan_ir::IR;
@@ -26,7 +28,8 @@ fn asks(asked: Names, keys: &[ExprIR], ex: &Arena<AExpr>) -> Result<Names, Alloc
 {
     let mut names = asked;
     if names.len() > 0 {
-        add_all_names(&mut names, keys, ex)?;
+        let added = add_all_names(&mut names, keys, ex);
+        return with_added(names, added);
     }
     Ok(names)
 }
@@ -44,17 +47,17 @@ pub fn prepare(sort: IR, asked: Names, ex: &Arena<AExpr>) -> Result<Step, AllocE
             slice,
             sort_options,
         } => {
-            let asked = asks(asked, by_column.as_slice(), ex)?;
-            Ok(Step::Over {
+            let asked = asks(asked, by_column.as_slice(), ex);
+            over(
                 input,
                 asked,
-                entry: IR::Sort {
+                IR::Sort {
                     input,
                     by_column,
                     slice,
                     sort_options,
                 },
-            })
+            )
         }
         _ => unreachable!(),
     }

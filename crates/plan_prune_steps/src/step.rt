@@ -66,12 +66,18 @@ fn prepare_over_one(
     match entry {
         IR::Slice { input, offset, len } => Ok(slice::prepare(input, offset, len, asked)),
         IR::SimpleProjection { input, columns } => {
-            projection::prepare(alloc, input, columns, &asked)
+            let step = projection::prepare(alloc, input, columns, &asked);
+            drop(asked);
+            step
         }
         IR::Distinct { input, options } => distinct::prepare(alloc, input, options, asked, lp),
         IR::MapFunction { input, function } => function::prepare(alloc, input, function, asked, lp),
         IR::Sink { input, payload } => Ok(sink::prepare(input, payload, asked)),
-        cache @ IR::Cache { .. } => cache::prepare(alloc, cache, &asked, lp),
+        cache @ IR::Cache { .. } => {
+            let step = cache::prepare(alloc, cache, &asked, lp);
+            drop(asked);
+            step
+        }
         _ => unreachable!(),
     }
 }
@@ -94,11 +100,23 @@ fn prepare_exprs(
 {
     match entry {
         IR::Filter { input, predicate } => filter::prepare(input, predicate, asked, ex),
-        selection @ IR::Select { .. } => select::prepare(alloc, selection, &asked, lp, ex),
+        selection @ IR::Select { .. } => {
+            let step = select::prepare(alloc, selection, &asked, lp, ex);
+            drop(asked);
+            step
+        }
         addition @ IR::HStack { .. } => hstack::prepare(alloc, addition, asked, lp, ex),
         sort @ IR::Sort { .. } => sort::prepare(sort, asked, ex),
-        grouping @ IR::GroupBy { .. } => group_by::prepare(alloc, grouping, &asked, lp, ex),
-        join @ IR::Join { .. } => join::prepare(alloc, join, &asked, kept, lp, ex),
+        grouping @ IR::GroupBy { .. } => {
+            let step = group_by::prepare(alloc, grouping, &asked, lp, ex);
+            drop(asked);
+            step
+        }
+        join @ IR::Join { .. } => {
+            let step = join::prepare(alloc, join, &asked, kept, lp, ex);
+            drop(asked);
+            step
+        }
         _ => unreachable!(),
     }
 }
@@ -111,14 +129,29 @@ fn prepare_other(alloc: Global, entry: IR, asked: Names, lp: &Arena<IR>) -> Resu
     ensures { IfOk result (λ step. (ex : List AExpr) → step ≡ step_of lp.now ex asked entry) }
 {
     match entry {
-        scan @ IR::Scan { .. } => scan::prepare(alloc, scan, &asked),
-        scan @ IR::DataFrameScan { .. } => frame_scan::prepare(alloc, scan, &asked),
+        scan @ IR::Scan { .. } => {
+            let step = scan::prepare(alloc, scan, &asked);
+            drop(asked);
+            step
+        }
+        scan @ IR::DataFrameScan { .. } => {
+            let step = frame_scan::prepare(alloc, scan, &asked);
+            drop(asked);
+            step
+        }
         IR::Union { inputs, options } => union::prepare(alloc, inputs, options, asked),
-        concatenation @ IR::HConcat { .. } => hconcat::prepare(alloc, concatenation, &asked, lp),
-        IR::Invalid => Ok(Step::Leaf {
-            columns: None,
-            entry: IR::Invalid,
-        }),
+        concatenation @ IR::HConcat { .. } => {
+            let step = hconcat::prepare(alloc, concatenation, &asked, lp);
+            drop(asked);
+            step
+        }
+        IR::Invalid => {
+            drop(asked);
+            Ok(Step::Leaf {
+                columns: None,
+                entry: IR::Invalid,
+            })
+        }
         _ => unreachable!(),
     }
 }

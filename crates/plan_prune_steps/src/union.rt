@@ -6,6 +6,7 @@ ghost use Rattle.plan_pruned.specs.Pruned.{names_alike};
 ghost use Rattle.plan_prune_parts.specs.declared.step.Step.TheVariants.{Each};
 ghost use Rattle.plan_prune_steps.specs.Steps.{covering};
 
+use crate::over::each;
 use plan_core::{Items, Names, Node, TryClone};
 use plan_ir::IR;
 use plan_options::UnionOptions;
@@ -40,11 +41,8 @@ pub fn prepare(
 ) -> Result<Step, AllocError>
     ensures { IfOk result (λ step. step ≡ Each inputs (names_alike asked inputs) (covering inputs asked) None (Union inputs options)) }
 {
-    Ok(Step::Each {
-        inputs: inputs.try_clone(alloc)?,
-        asked: asks(alloc, inputs.as_slice(), &asked)?,
-        covered: covered(inputs.as_slice(), asked),
-        kept: None,
-        entry: IR::Union { inputs, options },
-    })
+    let copy = inputs.try_clone(alloc);
+    let lists = asks(alloc, inputs.as_slice(), &asked);
+    let covered = covered(inputs.as_slice(), asked);
+    each(copy, lists, covered, IR::Union { inputs, options })
 }

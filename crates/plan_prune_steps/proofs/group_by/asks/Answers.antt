@@ -1,4 +1,5 @@
-use Rattle.std.proofs.Common.{◌∙◌, ap, List}
+use Rattle.std.proofs.Common.{◌≡◌, ◌∙◌, ap, List}
+use Rattle.std.proofs.lemmas.Result.{IfOk-at_ok, IfOk-weaker}
 use Rattle.plan_core.specs.Names.{with_names}
 use Rattle.plan_expr.specs.Exprs.{Named, all_named_at}
 use Rattle.plan_expr.specs.Leaves.{Name}
@@ -12,6 +13,10 @@ pub returns : goal.returns
 returns c =
     let keys : List Named = all_named_at c.args.ex.now c.args.keys.now in
     let aggs : List Named = all_named_at c.args.ex.now c.args.aggs.now in
-    c.in_ok-add_all_names-2.ensures
-    ∙ ap (λ (l : List Name). with_names l (all_leaves keys)) (c.in_ok-add_all_names.ensures ∙ ap (λ (l : List Name). with_names l (all_leaves aggs)) (c.in_ok-names.ensures c.args.ex.now))
-    ∙ grouped-names (held_names c.args.asked.now (columns_at c.args.lp.now c.args.ex.now c.args.input)) keys aggs
+    IfOk-weaker c.with_added.result _ _
+    (λ names is.
+    is.0
+    ∙ IfOk-at_ok (λ _. c.add_all_names-added.new.names ≡ with_names c.in_ok-names.names (all_leaves keys)) is.1 c.add_all_names-added.ensures
+    ∙ ap (λ (l : List Name). with_names l (all_leaves keys)) c.in_ok-names.ensures
+    ∙ grouped-names (held_names c.args.asked.now (columns_at c.args.lp.now c.args.ex.now c.args.input)) keys aggs)
+    c.with_added.ensures

@@ -1,15 +1,16 @@
-use Rattle.std.proofs.Common.{◌∙◌, List, get_or, ap₂, fold}
+use Rattle.std.proofs.Common.{◌∙◌, List, get_or, ap, fold}
 use Rattle.std.proofs.lemmas.Option.{slice_get-get_or}
 use Rattle.plan_core.specs.declared.arena.Node.{Node}
 use Rattle.plan_core.specs.Columns.{Columns}
 use Rattle.plan_tree.proofs.TreeLemmas.{nth, StandsOnce-nth}
 use Rattle.plan_ir.specs.Parts.{plan_shape}
 use Rattle.plan_frame.specs.Beside.{with_new}
+use Rattle.plan_prune_parts.specs.Said.{columns_at}
 use Rattle.plan_prune_steps.proofs.ConcatParts.{beside-next}
 use Rattle.plan_prune_steps.proofs.hconcat.beside.Goals as goal
 
-pub stored_schema-requires : goal.stored_schema-requires
-stored_schema-requires c =
+pub add_stored-requires : goal.add_stored-requires
+add_stored-requires c =
     let d : Node = record { 0 = 0 } in
     let i = c.loop-input.input-index in
     let ns : List Node = c.args.inputs.now in
@@ -22,6 +23,6 @@ loop-input-preserved c = λ ex.
     let i = c.loop-input.input-index in
     let ns : List Node = c.args.inputs.now in
     let here = slice_get-get_or ns i d c.loop-input-test.true in
-    c.in_ok-add_new.ensures
-    ∙ ap₂ (λ (t s : Columns). fold with_new t s) (c.loop-input.invariant ex) (c.columns-in-loop-input.ensures ∙ c.in_ok-stored.ensures.stored ex)
+    c.in_ok-add_stored.ensures ex
+    ∙ ap (λ (t : Columns). fold with_new t (columns_at c.args.lp.now ex (get_or ns i d))) (c.loop-input.invariant ex)
     ∙ beside-next c.args.lp.now ex ns i (get_or ns i d) here

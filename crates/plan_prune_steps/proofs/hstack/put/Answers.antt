@@ -1,18 +1,13 @@
-use Rattle.std.proofs.Common.{◌∙◌, ap, arith, List, [], ◌∷◌}
-use Rattle.plan_core.specs.Columns.{Columns}
+use Rattle.std.proofs.Common.{◌∙◌, ap, arith, List}
 use Rattle.plan_expr.specs.declared.expr_ir.ExprIR.{ExprIR}
-use Rattle.plan_ir.specs.Plans.{bare, plans_at}
-use Rattle.plan_meaning.specs.Typing.{first_schema}
-use Rattle.plan_schema.specs.Stored.{stored_all}
 use Rattle.plan_prune_parts.specs.Kept.{names_at, with_typed}
+use Rattle.plan_prune_parts.specs.Said.{columns_at}
 use Rattle.plan_prune_parts.proofs.KeptLemmas.{stacked_put}
 use Rattle.plan_prune_steps.proofs.hstack.put.Goals as goal
 
 pub returns-clause-placed : goal.returns-clause-placed
 returns-clause-placed c = λ ex.
-    let s : Columns = first_schema (stored_all (bare (plans_at c.args.lp.now ex (c.args.input ∷ [])))) in
     c.put-2.ensures
-    ∙ stacked_put c.args.is_asked c.args.lp.now c.args.node c.args.input c.args.exprs c.args.schema c.in_ok-schema.schema s c.args.options c.if-not-is_asked.false (λ z. omega (arith, z, c.len.ensures, c.if-len-eq0.false))
-    (c.in_ok-schema.ensures
-    ∙ ap (λ (t : Columns). with_typed t (names_at c.as_slice.result.now) c.args.schema) (c.in_ok-base.ensures ∙ c.in_ok-stored_schema.ensures.stored ex)
-    ∙ ap (λ (l : List ExprIR). with_typed s (names_at l) c.args.schema) c.as_slice.ensures)
+    ∙ stacked_put c.args.is_asked c.args.lp.now c.args.node c.args.input c.args.exprs c.args.schema c.in_ok-schema.schema (columns_at c.args.lp.now ex c.args.input) c.args.options c.if-not-is_asked.false (λ z. omega (arith, z, c.len.ensures, c.if-len-eq0.false))
+    (c.in_ok-schema.ensures ex
+    ∙ ap (λ (l : List ExprIR). with_typed (columns_at c.args.lp.now ex c.args.input) (names_at l) c.args.schema) c.as_slice.ensures)

@@ -5,10 +5,10 @@ use Rattle.plan_prune_parts.specs.Kept.{asked_exprs}
 use Rattle.plan_prune_parts.proofs.KeptLemmas.{asked_stand}
 use Rattle.plan_prune_steps.proofs.select.keep.Goals as goal
 
-pub all_scalar-requires : goal.all_scalar-requires
-all_scalar-requires c =
-    let is : c.as_slice-2.result.now ≡ asked_exprs c.args.asked.now c.args.exprs = c.as_slice-2.ensures ∙ c.in_ok-kept.ensures ∙ ap (asked_exprs c.args.asked.now) c.as_slice.ensures in
+pub add_many-requires-clause-kept : goal.add_many-requires-clause-kept
+add_many-requires-clause-kept c =
+    let is : c.in_ok-kept.kept ≡ asked_exprs c.args.asked.now c.args.exprs = c.in_ok-kept.ensures ∙ ap (asked_exprs c.args.asked.now) c.as_slice.ensures in
     subst (λ (l : List ExprIR). All (λ (e : ExprIR). IsExpr c.args.ex.now e.node) l) (sym is) (asked_stand c.args.ex.now (λ (e : ExprIR). IsExpr c.args.ex.now e.node) c.args.asked.now c.args.exprs c.requires)
 
-pub first_many-requires : goal.first_many-requires
-first_many-requires c = subst (λ (l : List ExprIR). All (λ (e : ExprIR). IsExpr c.args.ex.now e.node) l) (sym c.as_slice-then-all_scalar.ensures) c.requires
+pub add_many-requires-clause-exprs : goal.add_many-requires-clause-exprs
+add_many-requires-clause-exprs c = subst (λ (l : List ExprIR). All (λ (e : ExprIR). IsExpr c.args.ex.now e.node) l) (sym c.as_slice-2.ensures) c.requires

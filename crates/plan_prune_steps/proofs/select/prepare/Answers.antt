@@ -11,13 +11,13 @@ use Rattle.plan_prune_steps.proofs.select.prepare.Goals as goal
 pub keep-requires : goal.keep-requires
 keep-requires c = each_stands c.args.ex.now c.in-Select.expr (subst (λ (p : IR). StandExprs c.args.ex.now (roots_of p)) c.in-Select.is c.requires.exprs)
 
-pub asks-requires-clause-exprs : goal.asks-requires-clause-exprs
-asks-requires-clause-exprs c =
+pub asks-asked-requires-clause-exprs : goal.asks-asked-requires-clause-exprs
+asks-asked-requires-clause-exprs c =
     subst (λ (l : List ExprIR). All (λ (x : ExprIR). IsExpr c.args.ex.now x.node) l) (sym c.as_slice-in-Select-2.ensures)
     (selected_stand c.args.ex.now c.args.asked.now c.in-Select.expr c.in_ok-expr-in-Select.expr c.in_ok-expr-in-Select.ensures (subst (λ (p : IR). StandExprs c.args.ex.now (roots_of p)) c.in-Select.is c.requires.exprs))
 
-pub asks-requires-clause-input : goal.asks-requires-clause-input
-asks-requires-clause-input c = c.requires.inputs 0 c.in-Select.input (ap (λ (p : IR). slice_get (inputs_of p) 0) c.in-Select.is)
+pub asks-asked-requires-clause-input : goal.asks-asked-requires-clause-input
+asks-asked-requires-clause-input c = c.requires.inputs 0 c.in-Select.input (ap (λ (p : IR). slice_get (inputs_of p) 0) c.in-Select.is)
 
 pub counts_rows-is_count-requires : goal.counts_rows-is_count-requires
 counts_rows-is_count-requires c =

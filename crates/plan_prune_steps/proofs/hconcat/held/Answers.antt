@@ -7,7 +7,7 @@ use Rattle.plan_expr.specs.Leaves.{Name}
 use Rattle.plan_prune_steps.proofs.ConcatParts.{held-next}
 use Rattle.plan_prune_names.proofs.PlaceSteps.{take-all}
 use Rattle.plan_prune_steps.specs.Steps.{held_at}
-use Rattle.plan_prune_steps.proofs.hconcat.asks.Goals as goal
+use Rattle.plan_prune_steps.proofs.hconcat.held.Goals as goal
 
 pub known_with-requires-clause-input : goal.known_with-requires-clause-input
 known_with-requires-clause-input c =
@@ -15,7 +15,7 @@ known_with-requires-clause-input c =
     let i = c.loop-input.input-index in
     let ns : List Node = c.args.inputs.now in
     let here = slice_get-get_or ns i d c.loop-input-test.true in
-    (nth plan_shape c.requires.0 i, StandsOnce-nth plan_shape c.args.lp.now ns c.requires.0 i (get_or ns i d) c.requires.1 here)
+    (nth plan_shape c.requires.inputs.0 i, StandsOnce-nth plan_shape c.args.lp.now ns c.requires.inputs.0 i (get_or ns i d) c.requires.inputs.1 here)
 
 pub loop-input-preserved : goal.loop-input-preserved
 loop-input-preserved c = λ ex.

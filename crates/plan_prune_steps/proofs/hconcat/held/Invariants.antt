@@ -1,7 +1,7 @@
 use Rattle.std.proofs.Common.{◌≡◌, List, take}
 use Rattle.plan_expr.specs.declared.aexpr.AExpr.{AExpr}
 use Rattle.plan_prune_steps.specs.Steps.{held_at}
-use Rattle.plan_prune_steps.proofs.hconcat.asks.Given as goal
+use Rattle.plan_prune_steps.proofs.hconcat.held.Given as goal
 
 -- each input up to here is asked the names that it has
 abbrev pub invariant-loop-input : goal.invariant-loop-input
