@@ -8,6 +8,7 @@ mod GroupPruned
 mod ConcatPruned
 mod ClosedPruned
 mod JoinPruned
+mod KnownSteps
 mod TakenSteps
 mod StepLemmas
 pub mod PlanPruned

@@ -1,7 +1,7 @@
 //! The pass that prunes a plan to the columns that it needs.
 //! Each node is told the names that are asked of it, and asks its inputs the names that it needs;
 //! no names stand for every column. The rule of a node kind is in a file of its own of plan_prune_steps, and its `step` finds it.
-ghost use Rattle.std.specs.Prelude.{◌≡◌, ◌<◌, ◌≤◌, ◌+◌, List, [], ◌∷◌, Err, IfOk, IsTrue, OnOk, Some, ◌||◌, false, length, not, slice_set, true};
+ghost use Rattle.std.specs.Prelude.{◌≡◌, ◌<◌, ◌≤◌, ◌+◌, List, [], ◌∷◌, Err, IfOk, IsTrue, OnOk, Some, ◌||◌, false, length, not, slice_get, slice_set, true};
 ghost use Rattle.plan_tree.specs.Stands.{Trees, StandsOnce};
 ghost use Rattle.plan_ir.specs.declared.ir.IR.{IR as IRType};
 ghost use Rattle.plan_ir.specs.Parts.{IsPlan, inputs_of, is_join, plan_shape, roots_of};
@@ -20,6 +20,7 @@ ghost use Rattle.plan_pruned.specs.Renamed.{IsLonger};
 ghost use Rattle.plan_prune_parts.specs.declared.kept.Kept.{Kept as KeptType};
 ghost use Rattle.plan_prune_parts.specs.Places.{StandExprs};
 ghost use Rattle.plan_prune_parts.specs.Tops.{with_columns_on};
+ghost use Rattle.plan_prune_names.specs.Known.{KnowsAt};
 ghost use Rattle.plan_prune_steps.specs.Steps.{IsPutBack, put_back};
 ghost use Rattle.plan_expr.specs.declared.aexpr.AExpr.{AExpr as AExprType};
 ghost use Rattle.plan_prune.specs.Taken.{IsTaken, step_told, top_columns};
@@ -30,6 +31,7 @@ use plan_core::{Arena, Names, Node, Schema};
 use plan_expr::AExpr;
 use plan_ir::IR;
 use plan_prune_joins::join;
+use plan_prune_names::{KnownColumns, descend};
 use plan_prune_parts::cover;
 use plan_prune_parts::cover::cover;
 use plan_prune_steps::{select, step};
@@ -199,12 +201,13 @@ impl ProjectionPushDown {
         ensures stays { self.old.is_count_star ≡ true → self.new.is_count_star ≡ true }
     {
         let asked = Names::new(alloc);
-        self.push_down(alloc, root, asked, lp, ex)?;
+        let mut columns = KnownColumns::new(alloc);
+        self.push_down(alloc, root, asked, lp, ex, &mut columns)?;
         Ok(())
     }
 
-    /// Takes what stands at `node` and is asked these names, and marks whether it counts rows: what is to be done at it. Refuses for
-    /// want of memory alone.
+    /// Takes what stands at `node` and is asked these names, and marks whether it counts rows: what is to be done at it. What is known
+    /// of its columns becomes what is known of those of its first input. Refuses for want of memory alone.
     #[inline(never)]
     fn take(
         &mut self,
@@ -213,22 +216,27 @@ impl ProjectionPushDown {
         asked: Names,
         lp: &mut Arena<IR>,
         ex: &Arena<AExpr>,
+        columns: &mut KnownColumns,
     ) -> Result<Taken, AllocError>
-        requires { IsPlan lp.old ex.now node }
+        requires plan { IsPlan lp.old ex.now node }
+        requires known { KnowsAt columns.old lp.old (node ∷ []) }
+        ensures known { OnOk result ((p : IRType) → slice_get lp.old node.0 ≡ Some p → KnowsAt columns.new lp.new (inputs_of p)) }
         ensures taken { IfOk result (λ taken. IsTaken self.old.is_count_star self.new.is_count_star lp.old lp.new ex.now asked node (step_told taken)) }
         ensures stays { self.old.is_count_star ≡ true → self.new.is_count_star ≡ true }
         ensures grows { length lp.old ≤ length lp.new }
     {
+        descend(lp.get(node), columns)?;
         let entry = lp.take(node);
         if select::is_count(&entry, ex) {
             self.is_count_star = true;
         }
         let kept = join::keep(alloc, &entry, &asked, lp, ex)?;
-        let step = step::prepare(alloc, entry, asked, &kept, lp, ex)?;
+        let step = step::prepare(alloc, entry, asked, &kept, lp, ex, columns)?;
         boxed(alloc, step.keeping(kept))
     }
 
-    /// Prunes the plan at `node` to the asked names, and marks whether it counts rows; no names stand for every column.
+    /// Prunes the plan at `node` to the asked names, by what is known of its columns, and marks whether it counts rows; no names stand
+    /// for every column. Then nothing is known of the columns.
     #[cycle(push)]
     fn push_down(
         &mut self,
@@ -237,8 +245,10 @@ impl ProjectionPushDown {
         asked: Names,
         lp: &mut Arena<IR>,
         ex: &mut Arena<AExpr>,
+        columns: &mut KnownColumns,
     ) -> Result<(), AllocError>
-        requires { IsPlan lp.old ex.old node }
+        requires plan { IsPlan lp.old ex.old node }
+        requires known { KnowsAt columns.old lp.old (node ∷ []) }
         ensures prunes { OnOk result (PrunesAt (not self.old.is_count_star) asked lp.old lp.new ex.old ex.new node) }
         ensures marks { OnOk result (MarksAt self.old.is_count_star self.new.is_count_star lp.old ex.old node) }
         ensures stays { self.old.is_count_star ≡ true → self.new.is_count_star ≡ true }
@@ -247,14 +257,14 @@ impl ProjectionPushDown {
     {
         let is_asked = asked.len() > 0;
         let on_top = !self.is_count_star;
-        match self.take(alloc, node, asked, lp, ex)? {
+        match self.take(alloc, node, asked, lp, ex, columns)? {
             Taken::Leaf { columns, entry } => put_leaf(node, entry, on_top, columns, lp),
             Taken::Over {
                 input,
                 asked,
                 entry,
             } => {
-                match self.push_down(alloc, input, asked, lp, ex) {
+                match self.push_down(alloc, input, asked, lp, ex, columns) {
                     Ok(()) => put(alloc, node, entry, is_asked, lp),
                     Err(refused) => given_back(node, entry, refused, lp),
                 }
@@ -267,7 +277,7 @@ impl ProjectionPushDown {
                 rest,
             } => {
                 let (own, lists) = (inputs.as_slice(), asked.as_slice());
-                match self.push_inputs(alloc, own, lists, &covered, lp, ex) {
+                match self.push_inputs(alloc, own, lists, &covered, lp, ex, columns) {
                     Ok(()) => put_over(alloc, node, rest, is_asked, lp, ex),
                     Err(refused) => rest_given_back(node, rest, refused, lp),
                 }
@@ -275,8 +285,9 @@ impl ProjectionPushDown {
         }
     }
 
-    /// Prunes the plans at `inputs`, each to a list of names of its own, and marks whether they count rows; no names stand for every
-    /// column. A projection to the names that cover them goes on top of each, where there are such.
+    /// Prunes the plans at `inputs`, each to a list of names of its own, the first by what is known of its columns, and marks whether
+    /// they count rows; no names stand for every column. A projection to the names that cover them goes on top of each, where there
+    /// are such.
     #[cycle(push)]
     #[inline(never)]
     fn push_inputs(
@@ -287,22 +298,25 @@ impl ProjectionPushDown {
         covered: &Option<Names>,
         lp: &mut Arena<IR>,
         ex: &mut Arena<AExpr>,
+        columns: &mut KnownColumns,
     ) -> Result<(), AllocError>
         requires inputs { AreInputs lp.old ex.old inputs.now }
         requires lists { length lists.now ≡ length inputs.now }
+        requires known { KnowsAt columns.old lp.old inputs.now }
         ensures pruned { OnOk result (InputsPruned self.old.is_count_star self.new.is_count_star covered.now lists.now lp.old lp.new ex.old ex.new inputs.now) }
         ensures stays { self.old.is_count_star ≡ true → self.new.is_count_star ≡ true }
         ensures grows { length lp.old ≤ length lp.new }
         ensures longer { IsLonger ex.old ex.new }
     {
         for (input, names) in inputs.iter().zip(lists) {
-            self.push_input(alloc, *input, names, covered, lp, ex)?;
+            self.push_input(alloc, *input, names, covered, lp, ex, columns)?;
+            columns.forget();
         }
         Ok(())
     }
 
-    /// Prunes the plan at `input` to the asked names, and marks whether it counts rows; no names stand for every column. Then a
-    /// projection to the names that cover it goes on top, where there are such.
+    /// Prunes the plan at `input` to the asked names, by what is known of its columns, and marks whether it counts rows; no names stand
+    /// for every column. Then a projection to the names that cover it goes on top, where there are such.
     #[cycle(push)]
     #[inline(never)]
     fn push_input(
@@ -313,15 +327,17 @@ impl ProjectionPushDown {
         covered: &Option<Names>,
         lp: &mut Arena<IR>,
         ex: &mut Arena<AExpr>,
+        columns: &mut KnownColumns,
     ) -> Result<(), AllocError>
-        requires { IsPlan lp.old ex.old input }
+        requires plan { IsPlan lp.old ex.old input }
+        requires known { KnowsAt columns.old lp.old (input ∷ []) }
         ensures prunes { OnOk result (PrunesUnder (not self.old.is_count_star) covered.now asked.now lp.old lp.new ex.old ex.new input) }
         ensures marks { OnOk result (MarksAt self.old.is_count_star self.new.is_count_star lp.old ex.old input) }
         ensures stays { self.old.is_count_star ≡ true → self.new.is_count_star ≡ true }
         ensures grows { length lp.old ≤ length lp.new }
         ensures longer { IsLonger ex.old ex.new }
     {
-        self.push_down(alloc, input, copied_names(alloc, asked)?, lp, ex)?;
+        self.push_down(alloc, input, copied_names(alloc, asked)?, lp, ex, columns)?;
         match covered {
             Some(names) => cover(alloc, input, names, lp),
             None => Ok(()),

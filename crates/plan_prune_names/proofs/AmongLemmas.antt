@@ -6,11 +6,11 @@ use Rattle.plan_core.specs.Columns.{Columns, names_of}
 use Rattle.plan_core.specs.Names.{has, with_name, with_names}
 use Rattle.plan_core.specs.declared.data_type.DataType.{DataType}
 use Rattle.plan_expr.specs.Leaves.{Name}
-use Rattle.plan_frame.proofs.NameSets.{has_back, has_either, has_first, has_front, has_later, only, some-type_of}
+use Rattle.plan_frame.proofs.NameSets.{has_either, has_first, has_later, only, some-type_of}
 use Rattle.plan_pruned.proofs.ListSteps.{take-next}
-use Rattle.plan_prune_names.specs.declared.overlay.Overlay.{Overlay}
-use Rattle.plan_prune_names.specs.Overlays.{Shows, names_told, type_in}
-use Rattle.plan_prune_names.proofs.NameLemmas.{told-if-there}
+use Rattle.plan_prune_names.specs.declared.known_columns.KnownColumns.{KnownColumns}
+use Rattle.plan_prune_names.specs.Known.{Shows, names_in, type_in}
+use Rattle.plan_prune_names.proofs.TypeLemmas.{told-if-there}
 use Rattle.plan_prune_names.specs.Among.{AreAmong}
 
 -- one name more
@@ -43,16 +43,6 @@ is-gone names types a h b e there =
 pub is-lacking : (names : List Name) (types : Name → Option DataType) (a : Name) → has names a ≡ false → is_some (types a) ≡ true → AreAmong names types (a ∷ []) → ⊥
 is-lacking names types a absent there h = let good : has names a ≡ true = h a (has_first a []) there in cc
 
--- names of two lists
-pub among-both : (names : List Name) (types : Name → Option DataType) (xs ys : List Name) → AreAmong names types xs → AreAmong names types ys → AreAmong names types (xs ++ ys)
-among-both names types xs ys h k a e = ⊎_elim (h a) (k a) (has_either xs ys a e)
-
-pub among-front : (names : List Name) (types : Name → Option DataType) (xs ys : List Name) → AreAmong names types (xs ++ ys) → AreAmong names types xs
-among-front names types xs ys h a e = h a (has_front xs ys a e)
-
-pub among-back : (names : List Name) (types : Name → Option DataType) (xs ys : List Name) → AreAmong names types (xs ++ ys) → AreAmong names types ys
-among-back names types xs ys h a e = h a (has_back xs ys a e)
-
 -- names with others that are among them
 with-there : (names : List Name) (a : Name) → has names a ≡ true → with_name names a ≡ names
 with-there names a h = ap (λ (t : Bool). cond t names (names ++ a ∷ [])) h
@@ -64,9 +54,9 @@ all-there names (x ∷ xs) h =
     ∙ all-there names xs (λ a e. h a (has_later x xs a e))
 
 -- where all names that a column has are among names, so are the columns
-pub columns-among : (names : List Name) (o : Overlay) (s : Columns) → Shows o s → AreAmong names (type_in o) (names_told o) → with_names names (names_of s) ≡ names
+pub columns-among : (names : List Name) (o : KnownColumns) (s : Columns) → Shows o s → AreAmong names (type_in o) (names_in o.types) → with_names names (names_of s) ≡ names
 columns-among names o s shows h =
     all-there names (names_of s)
     (λ a e.
     let there : is_some (type_in o a) ≡ true = ap (λ (d : Option DataType). is_some d) (shows a) ∙ some-type_of s a ∙ e in
-    h a (told-if-there o a there) there)
+    h a (told-if-there o.types a there) there)

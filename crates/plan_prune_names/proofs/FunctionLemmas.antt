@@ -14,26 +14,31 @@ use Rattle.plan_ir.specs.declared.functions.FunctionIR.TheVariants.{Explode, Row
 use Rattle.plan_frame.specs.Reshaped.{exploded_columns, item_type}
 use Rattle.plan_frame.proofs.NameSets.{named, some-type_of}
 use Rattle.plan_meaning.specs.Checks.{Check, each, is_known}
-use Rattle.plan_meaning.specs.Typing.{AllHold, explode_checks, is_list_type, row_index_checks}
+use Rattle.plan_meaning.specs.Typing.{AllHold, explode_checks, function_checks, is_list_type, row_index_checks}
 use Rattle.plan_meaning.proofs.CheckParts.{hold_join, pass_each}
-use Rattle.plan_schema.specs.Stored.{all_hold, given_by}
-use Rattle.plan_prune_names.specs.declared.overlay.Overlay.{Overlay}
-use Rattle.plan_prune_names.specs.Overlays.{Shows, item_in, type_in, with_items}
+use Rattle.plan_schema.specs.Stored.{all_hold}
+use Rattle.plan_prune_names.specs.declared.known_columns.KnownColumns.{KnownColumns}
+use Rattle.plan_prune_names.specs.ByName.{item_in, with_items}
+use Rattle.plan_prune_names.specs.Known.{IsMade, Shows, type_in}
 
 -- a name without a type is none of the columns
 has_none : (s : Columns) (a : Name) → type_of s a ≡ None → has (names_of s) a ≡ false
 has_none s a e = sym (some-type_of s a) ∙ ap (λ (o : Option DataType). is_some o) e
 
 -- a numbering of rows whose name is new
-number-given : (name : Name) (offset : Option ℕ) (s : Columns) → type_of s name ≡ None → given_by (RowIndex name offset) s ≡ (name, Int64) ∷ s
+number-holds : (name : Name) (offset : Option ℕ) (s : Columns) → type_of s name ≡ None → all_hold (function_checks (RowIndex name offset) s) ≡ true
 unfolding row_index_checks
-number-given name offset s e = rw (has_none s name e) refl
+number-holds name offset s e = rw (has_none s name e) refl
 
-pub number-shows : (o p : Overlay) (name : Name) (offset : Option ℕ) (s : Columns) → type_in o name ≡ None → ((a : Name) → type_in p a ≡ cond (bytes_eq a name) (Some Int64) (type_in o a)) → Shows o s → Shows p (given_by (RowIndex name offset) s)
-number-shows o p name offset s new put shows a =
-    put a
-    ∙ ap (λ (d : Option DataType). cond (bytes_eq a name) (Some Int64) d) (shows a)
-    ∙ ap (λ (t : Columns). type_of t a) (sym (number-given name offset s (sym (shows name) ∙ new)))
+pub number-made : (o p : KnownColumns) (name : Name) (offset : Option ℕ) → type_in o name ≡ None → ((a : Name) → type_in p a ≡ cond (bytes_eq a name) (Some Int64) (type_in o a)) → IsMade (RowIndex name offset) o p
+number-made o p name offset new put s shows =
+    let holds = number-holds name offset s (sym (shows name) ∙ new) in (
+      holds,
+      λ a.
+          put a
+          ∙ ap (λ (d : Option DataType). cond (bytes_eq a name) (Some Int64) d) (shows a)
+          ∙ ap (λ (t : Columns). type_of t a) (sym (ap (λ (b : Bool). cond b ((name, Int64) ∷ s) []) holds)),
+    )
 
 -- checks that hold, all of them
 pub held : (cs : List Check) → AllHold cs → all_hold cs ≡ true
@@ -57,14 +62,13 @@ lists_hold s (a ∷ names) h =
     let p = and_parts (is_list_type (type_of s a)) (list_all (λ (b : Name). is_list_type (type_of s b)) names) h in
     (p.0, lists_hold s names p.1)
 
-explode-given : (names : List Name) (s : Columns) → list_all (λ (a : Name). is_list_type (type_of s a)) names ≡ true → given_by (Explode names) s ≡ exploded_columns names s
+explode-holds : (names : List Name) (s : Columns) → list_all (λ (a : Name). is_list_type (type_of s a)) names ≡ true → all_hold (function_checks (Explode names) s) ≡ true
 unfolding explode_checks
-explode-given names s h =
-    ap (λ (b : Bool). cond b (exploded_columns names s) [])
-    (held (each SchemaFieldNotFound 1 (is_known s) names ++ each SchemaMismatch 1 (λ (a : Name). is_list_type (type_of s a)) names)
+explode-holds names s h =
+    held (each SchemaFieldNotFound 1 (is_known s) names ++ each SchemaMismatch 1 (λ (a : Name). is_list_type (type_of s a)) names)
     (hold_join (each SchemaFieldNotFound 1 (is_known s) names) (each SchemaMismatch 1 (λ (a : Name). is_list_type (type_of s a)) names)
     (pass_each SchemaFieldNotFound 1 (is_known s) names (lists_known s names h))
-    (pass_each SchemaMismatch 1 (λ (a : Name). is_list_type (type_of s a)) names (lists_hold s names h))))
+    (pass_each SchemaMismatch 1 (λ (a : Name). is_list_type (type_of s a)) names (lists_hold s names h)))
 
 -- the types of columns whose lists are taken apart
 exploded_at : (t u : Bool) (d : DataType) (o : Option DataType) (left : Option DataType) → left ≡ cond u (item_in o) o → cond t (Some (cond u (item_type d) d)) left ≡ cond u (item_in (cond t (Some d) o)) (cond t (Some d) o)
@@ -91,16 +95,20 @@ type_of-exploded names (c ∷ s) a = at (bytes_eq a c.0) refl (type_of-exploded 
     at false e r = r
 
 -- the same test, and the same types
-pub lists-shown : (o : Overlay) (s : Columns) (names : List Name) → Shows o s → list_all (λ (a : Name). is_list_type (type_in o a)) names ≡ list_all (λ (a : Name). is_list_type (type_of s a)) names
+pub lists-shown : (o : KnownColumns) (s : Columns) (names : List Name) → Shows o s → list_all (λ (a : Name). is_list_type (type_in o a)) names ≡ list_all (λ (a : Name). is_list_type (type_of s a)) names
 lists-shown o s [] h = refl
 lists-shown o s (a ∷ names) h = ap₂ (λ (x y : Bool). x && y) (ap (λ (d : Option DataType). is_list_type d) (h a)) (lists-shown o s names h)
 
-pub explode-shows : (o p : Overlay) (names : List Name) (s : Columns) → list_all (λ (a : Name). is_list_type (type_in o a)) names ≡ true → ((a : Name) → type_in p a ≡ with_items names (type_in o) a) → Shows o s → Shows p (given_by (Explode names) s)
-explode-shows o p names s good put shows a =
-    put a
-    ∙ ap (λ (d : Option DataType). cond (has names a) (item_in d) d) (shows a)
-    ∙ sym (type_of-exploded names s a)
-    ∙ ap (λ (t : Columns). type_of t a) (sym (explode-given names s (sym (lists-shown o s names shows) ∙ good)))
+pub explode-made : (o p : KnownColumns) (names : List Name) → list_all (λ (a : Name). is_list_type (type_in o a)) names ≡ true → ((a : Name) → type_in p a ≡ with_items names (type_in o) a) → IsMade (Explode names) o p
+explode-made o p names good put s shows =
+    let holds = explode-holds names s (sym (lists-shown o s names shows) ∙ good) in (
+      holds,
+      λ a.
+          put a
+          ∙ ap (λ (d : Option DataType). cond (has names a) (item_in d) d) (shows a)
+          ∙ sym (type_of-exploded names s a)
+          ∙ ap (λ (t : Columns). type_of t a) (sym (ap (λ (b : Bool). cond b (exploded_columns names s) []) holds)),
+    )
 
 -- lists that are taken apart twice
 pub item-twice : (d : Option DataType) → item_in (item_in d) ≡ item_in d

@@ -1,9 +1,9 @@
 -- The lemmas of this crate.
 mod AmongLemmas
+pub mod FunctionLemmas
+pub mod KnownLemmas
+pub mod MoveLemmas
 pub mod PlaceSteps
 mod RenamingParts
-pub mod ChangeLemmas
-pub mod FunctionLemmas
-pub mod MoveLemmas
-mod WalkLemmas
-pub mod NameLemmas
+mod ReplaceLemmas
+pub mod TypeLemmas

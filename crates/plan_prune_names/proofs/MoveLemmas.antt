@@ -16,10 +16,11 @@ use Rattle.plan_meaning.specs.Checks.{each_new}
 use Rattle.plan_meaning.specs.Functions.{new_name, renamed, stay_apart}
 use Rattle.plan_meaning.specs.Typing.{AllHold, rename_checks}
 use Rattle.plan_meaning.proofs.CheckParts.{hold_join}
-use Rattle.plan_schema.specs.Stored.{given_by}
+use Rattle.plan_schema.specs.Stored.{all_hold}
 use Rattle.plan_schema.proofs.RenameLemmas.{names-renamed, one_apart}
-use Rattle.plan_prune_names.specs.declared.overlay.Overlay.{Overlay}
-use Rattle.plan_prune_names.specs.Overlays.{Shows, at_name, left_of, put_on, type_in}
+use Rattle.plan_prune_names.specs.declared.known_columns.KnownColumns.{KnownColumns}
+use Rattle.plan_prune_names.specs.ByName.{at_name, left_of, put_on}
+use Rattle.plan_prune_names.specs.Known.{IsMade, type_in}
 use Rattle.plan_prune_names.proofs.FunctionLemmas.{has-next, held}
 
 -- a list of names that is as long as its set
@@ -445,13 +446,16 @@ module _ (old new : List Name) (same : length old ≡ length new) (once_old : Ar
       ∙ moved-all old new same once_old.0 once_new.0 (names_of s) types a (subst (AreFree old new same once_old.0 once_new.0) is free)
       ∙ ap (λ (f : Name → Option DataType). moved old new same once_old.0 once_new.0 f a) (sym is)
 
-  pub rename-shows : (o p : Overlay) (swapping : Bool) (s : Columns) (types : List (Option DataType)) → types ≡ map (type_in o) old → ((a : Name) (d : DataType) → at_name new types a ≡ Some (Some d) → left_of old (type_in o) a ≡ None) → ((a : Name) → type_in p a ≡ put_on new types (left_of old (type_in o)) a) → Shows o s → Shows p (given_by (Rename old new swapping) s)
-  rename-shows o p swapping s types are fresh put shows a =
-      put a
-      ∙ ap (λ (x : Option (Option DataType)). option_or (unwrap_or x None) (left_of old (type_in o) a)) (at_types a)
-      ∙ moved-same old new same once_old.0 once_new.0 (type_in o) (type_of s) a (λ e k. shows e) (λ k. shows a)
-      ∙ sym (type_moved s a free)
-      ∙ ap (λ (t : Columns). type_of t a) (sym (ap (λ (b : Bool). cond b (renamed_columns (renamed old new) s) []) (held (rename_checks old new s) (rename-hold s free))))
+  pub rename-made : (o p : KnownColumns) (swapping : Bool) (types : List (Option DataType)) → types ≡ map (type_in o) old → ((a : Name) (d : DataType) → at_name new types a ≡ Some (Some d) → left_of old (type_in o) a ≡ None) → ((a : Name) → type_in p a ≡ put_on new types (left_of old (type_in o)) a) → IsMade (Rename old new swapping) o p
+  rename-made o p swapping types are fresh put s shows = (
+    holds,
+    λ a.
+        put a
+        ∙ ap (λ (x : Option (Option DataType)). option_or (unwrap_or x None) (left_of old (type_in o) a)) (at_types a)
+        ∙ moved-same old new same once_old.0 once_new.0 (type_in o) (type_of s) a (λ e k. shows e) (λ k. shows a)
+        ∙ sym (type_moved s a free)
+        ∙ ap (λ (t : Columns). type_of t a) (sym (ap (λ (b : Bool). cond b (renamed_columns (renamed old new) s) []) holds)),
+  )
     where
       at_types : (b : Name) → at_name new types b ≡ option_map (type_in o) (at_name new old b)
       at_types b = ap (λ (ts : List (Option DataType)). at_name new ts b) are ∙ at-mapped (type_in o) new old b
@@ -465,3 +469,6 @@ module _ (old new : List Name) (same : length old ≡ length new) (once_old : Ar
               sym (shows b)
               ∙ sym (ap (λ (t : Bool). cond t None (type_in o b)) absent)
               ∙ fresh b d (at_types b ∙ ap (option_map (type_in o)) at_b ∙ ap (λ (x : Option DataType). Some x) (shows e ∙ q))
+
+      holds : all_hold (rename_checks old new s) ≡ true
+      holds = held (rename_checks old new s) (rename-hold s free)

@@ -9,16 +9,14 @@ use Rattle.std.proofs.lemmas.Bool.{false_from_ne_true, ltb-true, ltb-false}
 use Rattle.std.proofs.lemmas.List.{take-map}
 use Rattle.std.proofs.lemmas.List.Elements.{filter_map-append}
 use Rattle.std.proofs.lemmas.List.Sorted.{Contains-permutation}
-use Rattle.plan_core.specs.Columns.{names_of}
 use Rattle.plan_core.specs.Names.{AreDistinct, has, with_name}
 use Rattle.plan_expr.specs.Leaves.{Name}
 use Rattle.plan_frame.proofs.NameSets.{adds_name, has_cons, same_named}
 use Rattle.plan_pruned.proofs.ListSteps.{Differs, before_differ, take-next}
 use Rattle.plan_pruned.proofs.NameSteps.{where-next, where-skip}
-use Rattle.plan_schema.specs.Stored.{columns_told}
-use Rattle.plan_prune_names.specs.declared.overlay.Overlay.{Overlay}
-use Rattle.plan_prune_names.specs.Overlays.{names_in, names_told, type_in}
-use Rattle.plan_prune_names.proofs.NameLemmas.{told-if-there}
+use Rattle.plan_prune_names.specs.declared.known_columns.KnownColumns.{KnownColumns}
+use Rattle.plan_prune_names.specs.Known.{names_in, type_in}
+use Rattle.plan_prune_names.proofs.TypeLemmas.{told-if-there}
 use Rattle.plan_prune_names.specs.Places.{places_in}
 
 -- what a set with text keys says of places
@@ -74,9 +72,9 @@ found-place list (b ∷ bs) a j h e =
     later (Some i) c = (suc c.0, omega (arith, c.1), c.2)
 
 -- each column that is one of the names stands at one of the places
-pub all-found : (names : List Name) (o : Overlay) (found : List ℕ) → AreDistinct names → IsPermutation (places_in names (names_told o)) found → (j : ℕ) (a : Name) → slice_get names j ≡ Some a → is_some (type_in o a) ≡ true → Contains found j
+pub all-found : (names : List Name) (o : KnownColumns) (found : List ℕ) → AreDistinct names → IsPermutation (places_in names (names_in o.types)) found → (j : ℕ) (a : Name) → slice_get names j ≡ Some a → is_some (type_in o a) ≡ true → Contains found j
 all-found names o found once same j a e there =
-    Contains-permutation (places_in names (names_told o)) found j same (found-place names (names_told o) a j (told-if-there o a there) (place-is names j a once e))
+    Contains-permutation (places_in names (names_in o.types)) found j same (found-place names (names_in o.types) a j (told-if-there o.types a there) (place-is names j a once e))
 
 -- the places of names, one after another
 pub places-next : {A : Type 0} (f : A → Name) (list : List Name) (xs : List A) (i : ℕ) (a : Name) (before : List ℕ) → slice_get (map f xs) i ≡ Some a → (before ++ places_in list (map f (take i xs))) ++ places_in list (a ∷ []) ≡ before ++ places_in list (map f (take (i + 1) xs))
@@ -90,10 +88,6 @@ pub named_past : {A : Type 0} (f : A → Name) (xs : List A) (i : ℕ) → slice
 named_past f [] i e l = omega arith
 named_past f (x ∷ xs) zero e l = cc
 named_past f (x ∷ xs) (suc i) e l = named_past f xs i e (omega (arith, l))
-
--- the places of columns, and of the other names of which something is known
-pub places-both : (list : List Name) (o : Overlay) → ([] ++ places_in list (names_of (columns_told o.stored))) ++ places_in list (names_in o.changes) ≡ places_in list (names_told o)
-places-both list o = sym (filter_map-append (λ (b : Name). position (bytes_eq b) list) (names_of (columns_told o.stored)) (names_in o.changes))
 
 -- the items before a place past the end, and before the next one
 past-end : {A : Type 0} (xs : List A) (i : ℕ) → slice_get xs i ≡ None → take (i + 1) xs ≡ take i xs

@@ -11,8 +11,9 @@ use Rattle.plan_core.specs.Names.{AreDistinct, has}
 use Rattle.plan_expr.specs.Leaves.{Name}
 use Rattle.plan_frame.proofs.NameSets.{named, some-type_of}
 use Rattle.plan_meaning.specs.Functions.{former, renamed}
-use Rattle.plan_prune_names.specs.declared.overlay.Overlay.{Overlay}
-use Rattle.plan_prune_names.specs.Overlays.{Shows, at_name, type_in}
+use Rattle.plan_prune_names.specs.declared.known_columns.KnownColumns.{KnownColumns}
+use Rattle.plan_prune_names.specs.ByName.{at_name}
+use Rattle.plan_prune_names.specs.Known.{Shows, type_in}
 use Rattle.plan_prune_names.specs.Renaming.{AreFree, old_in, own_in}
 use Rattle.plan_prune_names.proofs.MoveLemmas.{at-next, moved, moved-all, new-at}
 
@@ -26,7 +27,7 @@ self-at (n ∷ names) a = at (bytes_eq a n) refl (self-at names a)
     at false q h = h
 
 -- the columns by themselves, by an overlay that shows them
-own-shown : (o : Overlay) (s : Columns) (b : Name) → Shows o s → at_name (names_of s) (names_of s) b ≡ own_in (type_in o) b
+own-shown : (o : KnownColumns) (s : Columns) (b : Name) → Shows o s → at_name (names_of s) (names_of s) b ≡ own_in (type_in o) b
 own-shown o s b shows =
     self-at (names_of s) b
     ∙ ap (λ (t : Bool). cond t (Some b) None) (sym (ap (λ (d : Option DataType). is_some d) (shows b) ∙ some-type_of s b))
@@ -42,7 +43,7 @@ own_none : (types : Name → Option DataType) (a : Name) → types a ≡ None �
 own_none types a h = ap (λ (d : Option DataType). cond (is_some d) (Some a) None) h
 
 -- the column that becomes one of a name, by an overlay that shows the columns
-pub former-shown : (old new : List Name) → length old ≡ length new → AreDistinct old → AreDistinct new → (o : Overlay) (s : Columns) (a : Name) → AreFree old new (type_in o) → Shows o s → former (renamed old new) (names_of s) a ≡ old_in old new (type_in o) a
+pub former-shown : (old new : List Name) → length old ≡ length new → AreDistinct old → AreDistinct new → (o : KnownColumns) (s : Columns) (a : Name) → AreFree old new (type_in o) → Shows o s → former (renamed old new) (names_of s) a ≡ old_in old new (type_in o) a
 former-shown old new same once_old once_new o s a free shows =
     new-at (map (renamed old new) (names_of s)) (names_of s) a
     ∙ ap (λ (now : Name → Name). at_name (map now (names_of s)) (names_of s) a) (fun_ext (λ (b : Name). ap (λ (x : Option Name). unwrap_or x b) (new-at old new b)))

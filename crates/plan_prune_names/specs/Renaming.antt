@@ -4,7 +4,7 @@ use Rattle.std.specs.Option.{option_or}
 use Rattle.plan_core.specs.declared.data_type.DataType.{DataType}
 use Rattle.plan_core.specs.Names.{has}
 use Rattle.plan_expr.specs.Leaves.{Name}
-use Rattle.plan_prune_names.specs.Overlays.{at_name}
+use Rattle.plan_prune_names.specs.ByName.{at_name}
 
 -- the name, if a column has it
 abbrev pub own_in : (Name → Option DataType) → Name → Option Name

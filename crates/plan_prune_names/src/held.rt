@@ -2,22 +2,21 @@
 ghost use Rattle.std.specs.Prelude.{◌≡◌, ◌++◌, ℕ, List, [], ◌∷◌, Contains, IfOk, OnOk, Some, true, filter, is_some, slice_get};
 ghost use Rattle.std.specs.List.Sorted.{IsPermutation, IsSorted};
 ghost use Rattle.std.specs.Ordering.{nat_cmp};
-ghost use Rattle.plan_core.specs.Columns.{names_of};
 ghost use Rattle.plan_core.specs.Names.{AreDistinct};
 ghost use Rattle.plan_tree.specs.Stands.{Trees, StandsOnce};
 ghost use Rattle.plan_expr.specs.declared.aexpr.AExpr.{AExpr};
 ghost use Rattle.plan_expr.specs.Leaves.{Name};
 ghost use Rattle.plan_ir.specs.Parts.{plan_shape};
 ghost use Rattle.plan_pruned.specs.Pruned.{held_names};
-ghost use Rattle.plan_prune_names.specs.Overlays.{names_in, names_told, type_in};
+ghost use Rattle.plan_prune_names.specs.Known.{names_in, type_in};
 ghost use Rattle.plan_prune_parts.specs.Said.{columns_at};
 ghost use Rattle.plan_prune_names.specs.Places.{places_in};
 
 use crate::known::known;
-use crate::overlay::Overlay;
+use crate::known_columns::KnownColumns;
 use crate::places::Places;
-use crate::walk::overlay_at;
-use plan_core::{Arena, Names, Node, Schema};
+use crate::walk::know;
+use plan_core::{Arena, Names, Node};
 use plan_ir::IR;
 use std::alloc::{AllocError, Global};
 
@@ -31,46 +30,33 @@ fn add_place(found: &mut Vec<usize>, places: &Places, name: &str) -> Result<(), 
     Ok(())
 }
 
-/// Adds the places of columns. Refuses for want of memory alone.
-fn add_stored(found: &mut Vec<usize>, places: &Places, columns: &Schema) -> Result<(), AllocError>
-    ensures { OnOk result (found.new.items ≡ found.old.items ++ places_in places.now (names_of columns.now)) }
-{
-    for i in 0..columns.len() {
-        if let Some((name, _)) = columns.get_at_index(i) {
-            add_place(found, places, name)?;
-        }
-    }
-    Ok(())
-}
-
-/// Adds the places of the names that functions change. Refuses for want of memory alone.
-fn add_changed(
+/// Adds the places of the names that are told. Refuses for want of memory alone.
+fn add_told(
     found: &mut Vec<usize>,
     places: &Places,
-    columns: &Overlay<'_>,
+    columns: &KnownColumns,
 ) -> Result<(), AllocError>
-    ensures { OnOk result (found.new.items ≡ found.old.items ++ places_in places.now (names_in columns.now.changes)) }
+    ensures { OnOk result (found.new.items ≡ found.old.items ++ places_in places.now (names_in columns.now.types)) }
 {
-    for i in 0..columns.changed_len() {
-        if let Some(name) = columns.changed_at(i) {
+    for i in 0..columns.len() {
+        if let Some(name) = columns.name_at(i) {
             add_place(found, places, name)?;
         }
     }
     Ok(())
 }
 
-/// The places of the names of which something is known, rising. Refuses for want of memory alone.
+/// The places of the names that are told, rising. Refuses for want of memory alone.
 fn places_told(
     alloc: Global,
     places: &Places,
-    columns: &Overlay<'_>,
+    columns: &KnownColumns,
 ) -> Result<Vec<usize>, AllocError>
-    ensures told { IfOk result (λ found. IsPermutation (places_in places.now (names_told columns.now)) found.items) }
+    ensures told { IfOk result (λ found. IsPermutation (places_in places.now (names_in columns.now.types)) found.items) }
     ensures rising { IfOk result (λ found. IsSorted nat_cmp found.items) }
 {
     let mut found = Vec::new(alloc);
-    add_stored(&mut found, places, columns.stored())?;
-    add_changed(&mut found, places, columns)?;
+    add_told(&mut found, places, columns)?;
     found.sort_unstable();
     Ok(found)
 }
@@ -80,7 +66,7 @@ fn known_at_places(
     alloc: Global,
     names: &Names,
     found: &[usize],
-    columns: &Overlay<'_>,
+    columns: &KnownColumns,
 ) -> Result<Names, AllocError>
     requires distinct { AreDistinct names.now }
     requires rising { IsSorted nat_cmp found.now }
@@ -103,7 +89,7 @@ fn known_by_columns(
     alloc: Global,
     names: &Names,
     places: &Places,
-    columns: &Overlay<'_>,
+    columns: &KnownColumns,
 ) -> Result<Names, AllocError>
     requires distinct { AreDistinct names.now }
     requires places { places.now ≡ names.now }
@@ -118,12 +104,12 @@ fn known_by_fewer(
     alloc: Global,
     names: &Names,
     places: &Places,
-    columns: &Overlay<'_>,
+    columns: &KnownColumns,
 ) -> Result<Names, AllocError>
     requires places { places.now ≡ names.now }
     ensures { IfOk result (λ known. known ≡ filter (λ a. is_some (type_in columns.now a)) names.now) }
 {
-    if names.len() <= columns.stored().len().saturating_add(columns.changed_len()) {
+    if names.len() <= columns.len() {
         return known(alloc, names, columns);
     }
     known_by_columns(alloc, names, places, columns)
@@ -145,6 +131,7 @@ pub fn known_with(
     if asked.len() == 0 {
         return Ok(Names::new(alloc));
     }
-    let columns = overlay_at(alloc, input, lp)?;
+    let mut columns = KnownColumns::new(alloc);
+    know(alloc, input, lp, &mut columns)?;
     Ok(known_by_fewer(alloc, asked, places, &columns)?)
 }

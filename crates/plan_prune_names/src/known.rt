@@ -1,20 +1,20 @@
 //! The asked names that an input has.
-ghost use Rattle.std.specs.Prelude.{◌≡◌, List, [], ◌∷◌, IfOk, filter, is_some};
+ghost use Rattle.std.specs.Prelude.{◌≡◌, List, [], ◌∷◌, IfOk, OnOk, filter, is_some};
 ghost use Rattle.plan_tree.specs.Stands.{Trees, StandsOnce};
 ghost use Rattle.plan_expr.specs.declared.aexpr.AExpr.{AExpr};
 ghost use Rattle.plan_ir.specs.Parts.{plan_shape};
 ghost use Rattle.plan_pruned.specs.Pruned.{held_names};
-ghost use Rattle.plan_prune_names.specs.Overlays.{type_in};
+ghost use Rattle.plan_prune_names.specs.Known.{KnowsAt, type_in};
 ghost use Rattle.plan_prune_parts.specs.Said.{columns_at};
 
-use crate::overlay::Overlay;
-use crate::walk::overlay_at;
+use crate::known_columns::KnownColumns;
+use crate::walk::know;
 use plan_core::{Arena, Names, Node};
 use plan_ir::IR;
 use std::alloc::{AllocError, Global};
 
 /// The names that are columns, in their order. Refuses for want of memory alone.
-pub fn known(alloc: Global, names: &Names, columns: &Overlay<'_>) -> Result<Names, AllocError>
+pub fn known(alloc: Global, names: &Names, columns: &KnownColumns) -> Result<Names, AllocError>
     ensures { IfOk result (λ known. known ≡ filter (λ a. is_some (type_in columns.now a)) names.now) }
 {
     let mut known = Names::new(alloc);
@@ -26,6 +26,24 @@ pub fn known(alloc: Global, names: &Names, columns: &Overlay<'_>) -> Result<Name
         }
     }
     Ok(known)
+}
+
+/// The names that the plan at a number says it has, of those that are asked, in the asked order, by what is known of its columns.
+/// Refuses for want of memory alone.
+pub fn known_by(
+    alloc: Global,
+    asked: &Names,
+    input: Node,
+    lp: &Arena<IR>,
+    columns: &mut KnownColumns,
+) -> Result<Names, AllocError>
+    requires stands { (t : Trees IR) × StandsOnce plan_shape lp.now (input ∷ []) t }
+    requires known { KnowsAt columns.old lp.now (input ∷ []) }
+    ensures names { IfOk result (λ names. (ex : List AExpr) → names ≡ held_names asked.now (columns_at lp.now ex input)) }
+    ensures known { OnOk result (KnowsAt columns.new lp.now (input ∷ [])) }
+{
+    know(alloc, input, lp, columns)?;
+    known(alloc, asked, columns)
 }
 
 /// The names that the plan at a number says it has, of those that are asked, in the asked order; asked nothing, none. Refuses for
@@ -42,6 +60,6 @@ pub fn known_at(
     if asked.len() == 0 {
         return Ok(Names::new(alloc));
     }
-    let columns = overlay_at(alloc, input, lp)?;
-    Ok(known(alloc, asked, &columns)?)
+    let mut columns = KnownColumns::new(alloc);
+    known_by(alloc, asked, input, lp, &mut columns)
 }

@@ -1,5 +1,5 @@
 //! What a renaming asks its input.
-ghost use Rattle.std.specs.Prelude.{◌≡◌, List, [], ◌∷◌, IfNone, IfOk, IfSome, IsFalse, IsTrue, None, Some, false, length};
+ghost use Rattle.std.specs.Prelude.{◌≡◌, List, [], ◌∷◌, IfNone, IfOk, IfSome, IsFalse, IsTrue, None, OnOk, Some, false, length};
 ghost use Rattle.std.specs.List.{filter_map};
 ghost use Rattle.plan_core.specs.Columns.{Columns, names_of};
 ghost use Rattle.plan_core.specs.Names.{AreDistinct, has};
@@ -8,13 +8,13 @@ ghost use Rattle.plan_expr.specs.declared.aexpr.AExpr.{AExpr};
 ghost use Rattle.plan_ir.specs.Parts.{plan_shape};
 ghost use Rattle.plan_meaning.specs.Asked.{function_names};
 ghost use Rattle.plan_meaning.specs.Functions.{former, renamed};
-ghost use Rattle.plan_prune_names.specs.Overlays.{Shows, type_in};
+ghost use Rattle.plan_prune_names.specs.Known.{KnowsAt, Shows, type_in};
 ghost use Rattle.plan_prune_parts.specs.Said.{columns_at};
 ghost use Rattle.plan_prune_names.specs.Renaming.{AreFree, old_in, own_at, own_in};
 
-use crate::overlay::Overlay;
+use crate::known_columns::KnownColumns;
 use crate::places::Places;
-use crate::walk::overlay_at;
+use crate::walk::know;
 use plan_core::{Arena, Names, Node, PlSmallStr};
 use plan_ir::{FunctionIR, IR};
 use plan_pruned::needed_names;
@@ -22,7 +22,7 @@ use plan_schema::{set_of, stored_schema};
 use std::alloc::{AllocError, Global};
 
 /// The name, if a column has it.
-fn own<'a>(name: &'a str, columns: &Overlay<'_>) -> Option<&'a str>
+fn own<'a>(name: &'a str, columns: &KnownColumns) -> Option<&'a str>
     ensures some { IfSome result (λ a. own_in (type_in columns.now) name.now ≡ Some a.now) }
     ensures none { IfNone result (own_in (type_in columns.now) name.now ≡ None) }
 {
@@ -37,7 +37,7 @@ fn moved_from<'a>(
     name: &str,
     existing: &'a [PlSmallStr],
     new: &Places,
-    columns: &Overlay<'_>,
+    columns: &KnownColumns,
 ) -> Option<&'a str>
     requires { length existing.now ≡ length new.now }
     ensures some { IfSome result (λ a. own_at existing.now new.now (type_in columns.now) name.now ≡ Some a.now) }
@@ -55,7 +55,7 @@ fn old_name<'a>(
     existing: &'a [PlSmallStr],
     old: &Places,
     new: &Places,
-    columns: &Overlay<'_>,
+    columns: &KnownColumns,
 ) -> Option<&'a str>
     requires same { length existing.now ≡ length new.now }
     requires old { old.now ≡ existing.now }
@@ -78,7 +78,7 @@ fn old_names(
     existing: &[PlSmallStr],
     old: &Places,
     new: &Places,
-    columns: &Overlay<'_>,
+    columns: &KnownColumns,
 ) -> Result<Names, AllocError>
     requires same { length existing.now ≡ length new.now }
     requires old { old.now ≡ existing.now }
@@ -98,7 +98,7 @@ fn old_names(
 }
 
 /// Whether a column may get a name: none has it that stays.
-fn is_free(name: &str, old: &Places, columns: &Overlay<'_>) -> bool
+fn is_free(name: &str, old: &Places, columns: &KnownColumns) -> bool
     ensures free { IsTrue result → has old.now name.now ≡ false → type_in columns.now name.now ≡ None }
     ensures taken { IsFalse result → has old.now name.now ≡ false }
 {
@@ -110,7 +110,7 @@ fn are_free(
     existing: &[PlSmallStr],
     new: &[PlSmallStr],
     old: &Places,
-    columns: &Overlay<'_>,
+    columns: &KnownColumns,
 ) -> bool
     requires same { length existing.now ≡ length new.now }
     requires old { old.now ≡ existing.now }
@@ -145,7 +145,7 @@ fn asked_of(
     new: &[PlSmallStr],
     old: &Places,
     moved: &Places,
-    columns: &Overlay<'_>,
+    columns: &KnownColumns,
 ) -> Result<Option<Names>, AllocError>
     requires same { length existing.now ≡ length new.now }
     requires old { (old.now ≡ existing.now) × AreDistinct existing.now }
@@ -158,18 +158,16 @@ fn asked_of(
     Ok(Some(old_names(alloc, asked, existing, old, moved, columns)?))
 }
 
-/// What a renaming asks the plan at a number for these names, where it moves columns from distinct names to distinct names that no
-/// column which stays has. Refuses for want of memory alone.
+/// What a renaming asks for these names over some columns, where it moves columns from distinct names to distinct names that no column
+/// which stays has. Refuses for want of memory alone.
 fn told_by_places(
     alloc: Global,
     asked: &Names,
     existing: &[PlSmallStr],
     new: &[PlSmallStr],
-    input: Node,
-    lp: &Arena<IR>,
+    columns: &KnownColumns,
 ) -> Result<Option<Names>, AllocError>
-    requires { (t : Trees IR) × StandsOnce plan_shape lp.now (input ∷ []) t }
-    ensures { IfOk result (λ made. IfSome made (λ names. (ex : List AExpr) → names ≡ filter_map (former (renamed existing.now new.now) (names_of (columns_at lp.now ex input))) asked.now)) }
+    ensures { IfOk result (λ made. IfSome made (λ names. (s : Columns) → Shows columns.now s → names ≡ filter_map (former (renamed existing.now new.now) (names_of s)) asked.now)) }
 {
     if existing.len() != new.len() {
         return Ok(None);
@@ -180,8 +178,7 @@ fn told_by_places(
     let Some(moved) = distinct_places(alloc, new)? else {
         return Ok(None);
     };
-    let columns = overlay_at(alloc, input, lp)?;
-    asked_of(alloc, asked, existing, new, &old, &moved, &columns)
+    asked_of(alloc, asked, existing, new, &old, &moved, columns)
 }
 
 /// What a function asks its input for these names, by all columns of the input. Refuses for want of memory alone.
@@ -218,37 +215,39 @@ fn told_or(
     }
 }
 
-/// What a renaming asks its input for these names, where that is told name by name. Refuses for want of memory alone.
+/// What a renaming asks for these names over some columns, where that is told name by name. Refuses for want of memory alone.
 fn told_by_names(
     alloc: Global,
     asked: &Names,
     function: &FunctionIR,
-    input: Node,
-    lp: &Arena<IR>,
+    columns: &KnownColumns,
 ) -> Result<Option<Names>, AllocError>
-    requires { (t : Trees IR) × StandsOnce plan_shape lp.now (input ∷ []) t }
-    ensures { IfOk result (λ told. IfSome told (λ names. (ex : List AExpr) → names ≡ function_names function.now asked.now (columns_at lp.now ex input))) }
+    ensures { IfOk result (λ told. IfSome told (λ names. (s : Columns) → Shows columns.now s → names ≡ function_names function.now asked.now s)) }
 {
     match function {
         FunctionIR::Rename { existing, new, .. } => {
-            told_by_places(alloc, asked, existing.as_slice(), new.as_slice(), input, lp)
+            told_by_places(alloc, asked, existing.as_slice(), new.as_slice(), columns)
         }
         _ => Ok(None),
     }
 }
 
-/// What a renaming asks the plan at a number for these names: the columns that get them, in the order of the names. Refuses for want of
-/// memory alone.
+/// What a renaming asks the plan at a number for these names: the columns that get them, in the order of the names, by what is known
+/// of its columns. Refuses for want of memory alone.
 pub fn renamed_names(
     alloc: Global,
     asked: &Names,
     function: &FunctionIR,
     input: Node,
     lp: &Arena<IR>,
+    columns: &mut KnownColumns,
 ) -> Result<Names, AllocError>
-    requires { (t : Trees IR) × StandsOnce plan_shape lp.now (input ∷ []) t }
-    ensures { IfOk result (λ names. (ex : List AExpr) → names ≡ function_names function.now asked.now (columns_at lp.now ex input)) }
+    requires stands { (t : Trees IR) × StandsOnce plan_shape lp.now (input ∷ []) t }
+    requires known { KnowsAt columns.old lp.now (input ∷ []) }
+    ensures names { IfOk result (λ names. (ex : List AExpr) → names ≡ function_names function.now asked.now (columns_at lp.now ex input)) }
+    ensures known { OnOk result (KnowsAt columns.new lp.now (input ∷ [])) }
 {
-    let told = told_by_names(alloc, asked, function, input, lp)?;
+    know(alloc, input, lp, columns)?;
+    let told = told_by_names(alloc, asked, function, columns)?;
     told_or(alloc, told, asked, function, input, lp)
 }

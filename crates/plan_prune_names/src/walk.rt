@@ -1,23 +1,26 @@
 //! The columns that the plan at a number says it has, by name.
 ghost use Rattle.std.specs.Prelude.{◌≡◌, List, [], ◌∷◌, IfOk, IsTrue, OnOk};
+ghost use Rattle.plan_tree.specs.Rose.{Roses, rose, no_roses, more};
 ghost use Rattle.plan_tree.specs.Stands.{Trees, StandsOnce};
 ghost use Rattle.plan_expr.specs.declared.aexpr.AExpr.{AExpr};
-ghost use Rattle.plan_ir.specs.declared.ir.IR.{IR};
-ghost use Rattle.plan_ir.specs.Parts.{plan_shape};
-ghost use Rattle.plan_ir.specs.Plans.{bare, plans_at};
+ghost use Rattle.plan_ir.specs.declared.ir.IR.{IR as IRType};
+ghost use Rattle.plan_ir.specs.Parts.{inputs_of, plan_shape};
+ghost use Rattle.plan_ir.specs.Plans.{Op, bare, map_function, plans_at};
 ghost use Rattle.plan_meaning.specs.Typing.{first_schema};
 ghost use Rattle.plan_schema.specs.Stored.{stored_all};
-ghost use Rattle.plan_prune_names.specs.Overlays.{Shows, input_shown as shown_by};
+ghost use Rattle.plan_prune_parts.specs.Said.{columns_at};
+ghost use Rattle.plan_prune_names.specs.ByName.{input_shown as shown_by};
+ghost use Rattle.plan_prune_names.specs.Known.{KnowsAt, KnowsOver, Lays, Shows};
 
-use crate::functions::{change, changes_names};
-use crate::overlay::Overlay;
-use plan_core::{Arena, Node, Schema};
-use plan_ir::IR;
-use plan_schema::{StoredSchema, stored_schema};
+use crate::functions::change;
+use crate::known_columns::KnownColumns;
+use plan_core::{Arena, Node};
+use plan_ir::{FunctionIR, IR};
+use plan_schema::stored_schema;
 use std::alloc::{AllocError, Global};
 
 /// The input whose columns a node has, if it has those of one.
-fn input_shown(entry: &IR) -> Option<Node>
+pub fn input_shown(entry: &IR) -> Option<Node>
     ensures { result ≡ shown_by entry.now }
 {
     match entry {
@@ -32,66 +35,79 @@ fn input_shown(entry: &IR) -> Option<Node>
     }
 }
 
-/// Makes the overlay that of the plan at a number, if the functions there change columns name by name. Says whether they do; if not,
-/// nothing is known of the overlay. It is told how many functions stand above, and makes room for one change of each. Refuses for want
-/// of memory alone.
-fn laid<'a>(
+/// Puts what a function changes on top of the columns of its input. Says whether it does; if not, nothing is known of the columns.
+/// Refuses for want of memory alone.
+fn rise(
     alloc: Global,
     node: Node,
-    lp: &'a Arena<IR>,
-    above: usize,
-    overlay: &mut Overlay<'a>,
+    function: &FunctionIR,
+    columns: &mut KnownColumns,
 ) -> Result<bool, AllocError>
-    requires { (t : Trees IR) × StandsOnce plan_shape lp.now (node ∷ []) t }
-    ensures { IfOk result (λ fits. IsTrue fits → (ex : List AExpr) → Shows overlay.new (first_schema (stored_all (bare (plans_at lp.now ex (node ∷ [])))))) }
+    ensures { IfOk result (λ fits. IsTrue fits → (ts : Roses (Unit {0}) Op) → Lays columns.old ts → Lays columns.new (more (rose tt (map_function function.now) ts) no_roses)) }
 {
-    let entry = lp.get(node);
-    if let Some(input) = input_shown(entry) {
-        return laid(alloc, input, lp, above, overlay);
+    let below = columns.change_count();
+    if !change(alloc, node, function, columns)? {
+        return Ok(false);
     }
-    if let IR::MapFunction { input, function } = entry {
-        if changes_names(function) {
-            let fits = laid(alloc, *input, lp, above.saturating_add(1), overlay)?;
-            if !fits {
-                return Ok(false);
-            }
-            return change(alloc, function, overlay);
-        }
-    }
-    let stored = stored_schema(alloc, node, lp)?;
-    *overlay = Overlay::with_capacity(alloc, stored, above)?;
+    columns.mark(below)?;
     Ok(true)
 }
 
-/// Makes the overlay that of the plan at a number. Refuses for want of memory alone.
-fn lay<'a>(
+/// Makes the columns those of the plan at a number. Refuses for want of memory alone.
+fn lay(
     alloc: Global,
     node: Node,
-    lp: &'a Arena<IR>,
-    overlay: &mut Overlay<'a>,
+    lp: &Arena<IR>,
+    columns: &mut KnownColumns,
 ) -> Result<(), AllocError>
-    requires { (t : Trees IR) × StandsOnce plan_shape lp.now (node ∷ []) t }
-    ensures { OnOk result ((ex : List AExpr) → Shows overlay.new (first_schema (stored_all (bare (plans_at lp.now ex (node ∷ [])))))) }
+    requires { (t : Trees IRType) × StandsOnce plan_shape lp.now (node ∷ []) t }
+    ensures { OnOk result ((ex : List AExpr) → Lays columns.new (bare (plans_at lp.now ex (node ∷ [])))) }
 {
-    let fits = laid(alloc, node, lp, 0, overlay)?;
-    if fits {
+    let entry = lp.get(node);
+    if let Some(input) = input_shown(entry) {
+        return lay(alloc, input, lp, columns);
+    }
+    if let IR::MapFunction { input, function } = entry {
+        lay(alloc, *input, lp, columns)?;
+        if rise(alloc, node, function, columns)? {
+            return Ok(());
+        }
+    }
+    let stored = stored_schema(alloc, node, lp)?;
+    columns.restart(alloc, stored.columns())
+}
+
+/// Makes the columns known of the plan at a number, unless they are. Refuses for want of memory alone.
+pub fn know(
+    alloc: Global,
+    node: Node,
+    lp: &Arena<IR>,
+    columns: &mut KnownColumns,
+) -> Result<(), AllocError>
+    requires stands { (t : Trees IRType) × StandsOnce plan_shape lp.now (node ∷ []) t }
+    requires known { KnowsAt columns.old lp.now (node ∷ []) }
+    ensures known { OnOk result (KnowsAt columns.new lp.now (node ∷ [])) }
+    ensures is_known { OnOk result (IsTrue columns.new.is_known) }
+    ensures shows { OnOk result ((ex : List AExpr) → Shows columns.new (columns_at lp.now ex node)) }
+{
+    if columns.is_known() {
         return Ok(());
     }
-    *overlay = Overlay::new(alloc, stored_schema(alloc, node, lp)?);
+    lay(alloc, node, lp, columns)?;
+    columns.settle();
     Ok(())
 }
 
-/// The columns that the plan at a number says it has, by name: what functions change of them, over what a node stores. Refuses for
-/// want of memory alone.
-pub fn overlay_at<'a>(
-    alloc: Global,
-    node: Node,
-    lp: &'a Arena<IR>,
-) -> Result<Overlay<'a>, AllocError>
-    requires { (t : Trees IR) × StandsOnce plan_shape lp.now (node ∷ []) t }
-    ensures { IfOk result (λ o. (ex : List AExpr) → Shows o (first_schema (stored_all (bare (plans_at lp.now ex (node ∷ [])))))) }
+/// What is known of the columns of a node is known of its first input where the node has the columns of that, or those that a function
+/// makes of them; else nothing is known any more. Refuses for want of memory alone.
+pub fn descend(entry: &IR, columns: &mut KnownColumns) -> Result<(), AllocError>
+    ensures { OnOk result ((lp : List IRType) → KnowsOver columns.old lp entry.now → KnowsAt columns.new lp (inputs_of entry.now)) }
 {
-    let mut overlay = Overlay::new(alloc, StoredSchema::Given(Schema::new(alloc)));
-    lay(alloc, node, lp, &mut overlay)?;
-    Ok(overlay)
+    if let IR::MapFunction { .. } = entry {
+        return columns.descend();
+    }
+    if input_shown(entry).is_none() {
+        columns.forget();
+    }
+    Ok(())
 }

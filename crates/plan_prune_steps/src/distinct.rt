@@ -13,11 +13,12 @@ ghost use Rattle.plan_frame.specs.Frames.{names_or};
 ghost use Rattle.plan_pruned.specs.Pruned.{asked_with};
 ghost use Rattle.plan_prune_parts.specs.declared.step.Step.TheVariants.{Over};
 ghost use Rattle.plan_prune_parts.specs.Said.{columns_at};
+ghost use Rattle.plan_prune_names.specs.Known.{KnowsAt};
 
 use plan_core::{Arena, Items, Names, Node, PlSmallStr};
 use plan_ir::IR;
 use plan_options::DistinctOptionsIR;
-use plan_prune_names::add_columns_at;
+use plan_prune_names::{KnownColumns, add_columns_at};
 use plan_prune_parts::Step;
 use plan_pruned::add_listed;
 use std::alloc::{AllocError, Global};
@@ -30,13 +31,16 @@ fn add_subset(
     subset: &Option<Items<PlSmallStr>>,
     input: Node,
     lp: &Arena<IR>,
+    columns: &mut KnownColumns,
 ) -> Result<(), AllocError>
-    requires { (t : Trees IR) × StandsOnce plan_shape lp.now (input ∷ []) t }
-    ensures { OnOk result ((ex : List AExpr) → names.new ≡ with_names names.old (names_or subset.now (names_of (columns_at lp.now ex input)))) }
+    requires stands { (t : Trees IR) × StandsOnce plan_shape lp.now (input ∷ []) t }
+    requires known { KnowsAt columns.old lp.now (input ∷ []) }
+    ensures known { OnOk result (KnowsAt columns.new lp.now (input ∷ [])) }
+    ensures names { OnOk result ((ex : List AExpr) → names.new ≡ with_names names.old (names_or subset.now (names_of (columns_at lp.now ex input)))) }
 {
     match subset {
         Some(told) => add_listed(names, told.as_slice()),
-        None => add_columns_at(alloc, names, input, lp),
+        None => add_columns_at(alloc, names, input, lp, columns),
     }
 }
 
@@ -48,29 +52,35 @@ fn asks(
     subset: &Option<Items<PlSmallStr>>,
     input: Node,
     lp: &Arena<IR>,
+    columns: &mut KnownColumns,
 ) -> Result<Names, AllocError>
-    requires { (t : Trees IR) × StandsOnce plan_shape lp.now (input ∷ []) t }
-    ensures { IfOk result (λ names. (ex : List AExpr) → names ≡ asked_with asked (names_or subset.now (names_of (columns_at lp.now ex input)))) }
+    requires stands { (t : Trees IR) × StandsOnce plan_shape lp.now (input ∷ []) t }
+    requires known { KnowsAt columns.old lp.now (input ∷ []) }
+    ensures known { OnOk result (KnowsAt columns.new lp.now (input ∷ [])) }
+    ensures names { IfOk result (λ names. (ex : List AExpr) → names ≡ asked_with asked (names_or subset.now (names_of (columns_at lp.now ex input)))) }
 {
     let mut names = asked;
     if names.len() > 0 {
-        add_subset(alloc, &mut names, subset, input, lp)?;
+        add_subset(alloc, &mut names, subset, input, lp, columns)?;
     }
     Ok(names)
 }
 
-/// The step of distinct rows.
+/// The step of distinct rows, by what is known of the columns of their input.
 pub fn prepare(
     alloc: Global,
     input: Node,
     options: DistinctOptionsIR,
     asked: Names,
     lp: &Arena<IR>,
+    columns: &mut KnownColumns,
 ) -> Result<Step, AllocError>
-    requires { (t : Trees IR) × StandsOnce plan_shape lp.now (input ∷ []) t }
-    ensures { IfOk result (λ step. (ex : List AExpr) → step ≡ Over input (asked_with asked (names_or options.subset (names_of (columns_at lp.now ex input)))) (Distinct input options)) }
+    requires stands { (t : Trees IR) × StandsOnce plan_shape lp.now (input ∷ []) t }
+    requires known { KnowsAt columns.old lp.now (input ∷ []) }
+    ensures known { OnOk result (KnowsAt columns.new lp.now (input ∷ [])) }
+    ensures step { IfOk result (λ step. (ex : List AExpr) → step ≡ Over input (asked_with asked (names_or options.subset (names_of (columns_at lp.now ex input)))) (Distinct input options)) }
 {
-    let asked = asks(alloc, asked, &options.subset, input, lp)?;
+    let asked = asks(alloc, asked, &options.subset, input, lp, columns)?;
     Ok(Step::Over {
         input,
         asked,

@@ -8,6 +8,7 @@ ghost use Rattle.plan_ir.specs.Parts.{IsPlan, inputs_of, is_join, is_over_one as
 ghost use Rattle.plan_pruned.specs.Renamed.{IsLonger};
 ghost use Rattle.plan_prune_parts.specs.declared.kept.Kept.{Kept as KeptType};
 ghost use Rattle.plan_prune_joins.specs.Joined.{IsKept};
+ghost use Rattle.plan_prune_names.specs.Known.{KnowsAt};
 ghost use Rattle.plan_prune_steps.specs.Steps.{IsPutBack, has_exprs, put_back, step_of};
 ghost use Rattle.plan_prune_parts.specs.Places.{StandExprs};
 
@@ -19,6 +20,7 @@ use plan_core::{Arena, Names, Node};
 use plan_expr::AExpr;
 use plan_ir::IR;
 use plan_prune_joins::join;
+use plan_prune_names::KnownColumns;
 use plan_prune_parts::{Kept, Step};
 use std::alloc::{AllocError, Global};
 
@@ -52,26 +54,36 @@ fn reads_inputs(entry: &IR) -> bool
     )
 }
 
-/// The step of a node without expressions over one input.
+/// The step of a node without expressions over one input, by what is known of the columns of that.
 fn prepare_over_one(
     alloc: Global,
     entry: IR,
     asked: Names,
     lp: &Arena<IR>,
+    columns: &mut KnownColumns,
 ) -> Result<Step, AllocError>
     requires kind { IsTrue (over_one entry) }
     requires inputs { (t : Trees IR) × StandsOnce plan_shape lp.now (inputs_of entry) t }
-    ensures { IfOk result (λ step. (ex : List AExpr) → step ≡ step_of lp.now ex asked entry) }
+    requires known { KnowsAt columns.old lp.now (inputs_of entry) }
+    ensures known { OnOk result (KnowsAt columns.new lp.now (inputs_of entry)) }
+    ensures step { IfOk result (λ step. (ex : List AExpr) → step ≡ step_of lp.now ex asked entry) }
 {
     match entry {
         IR::Slice { input, offset, len } => Ok(slice::prepare(input, offset, len, asked)),
-        IR::SimpleProjection { input, columns } => {
-            let step = projection::prepare(alloc, input, columns, &asked);
+        IR::SimpleProjection {
+            input,
+            columns: schema,
+        } => {
+            let step = projection::prepare(alloc, input, schema, &asked);
             drop(asked);
             step
         }
-        IR::Distinct { input, options } => distinct::prepare(alloc, input, options, asked, lp),
-        IR::MapFunction { input, function } => function::prepare(alloc, input, function, asked, lp),
+        IR::Distinct { input, options } => {
+            distinct::prepare(alloc, input, options, asked, lp, columns)
+        }
+        IR::MapFunction { input, function } => {
+            function::prepare(alloc, input, function, asked, lp, columns)
+        }
         IR::Sink { input, payload } => Ok(sink::prepare(input, payload, asked)),
         cache @ IR::Cache { .. } => {
             let step = cache::prepare(alloc, cache, &asked, lp);
@@ -156,8 +168,8 @@ fn prepare_other(alloc: Global, entry: IR, asked: Names, lp: &Arena<IR>) -> Resu
     }
 }
 
-/// The step of a node that was taken and is asked these names, by what is kept of it, which the step doesn't have yet; no names
-/// stand for every column. Refuses for want of memory alone.
+/// The step of a node that was taken and is asked these names, by what is kept of it, which the step doesn't have yet, and by what is
+/// known of the columns of its first input; no names stand for every column. Refuses for want of memory alone.
 pub fn prepare(
     alloc: Global,
     entry: IR,
@@ -165,15 +177,18 @@ pub fn prepare(
     kept: &Option<Kept>,
     lp: &Arena<IR>,
     ex: &Arena<AExpr>,
+    columns: &mut KnownColumns,
 ) -> Result<Step, AllocError>
     requires kept { IsKept lp.now ex.now asked entry kept.now }
     requires exprs { StandExprs ex.now (roots_of entry) }
     requires inputs { (t : Trees IR) × StandsOnce plan_shape lp.now (inputs_of entry) t }
     requires plans { (j : ℕ) (i : NodeType) → slice_get (inputs_of entry) j ≡ Some i → IsPlan lp.now ex.now i }
-    ensures { IfOk result (λ step. step ≡ step_of lp.now ex.now asked entry) }
+    requires known { KnowsAt columns.old lp.now (inputs_of entry) }
+    ensures known { OnOk result (KnowsAt columns.new lp.now (inputs_of entry)) }
+    ensures step { IfOk result (λ step. step ≡ step_of lp.now ex.now asked entry) }
 {
     if is_over_one(&entry) {
-        return prepare_over_one(alloc, entry, asked, lp);
+        return prepare_over_one(alloc, entry, asked, lp, columns);
     }
     if reads_inputs(&entry) {
         return prepare_exprs(alloc, entry, asked, kept, lp, ex);

@@ -1,10 +1,17 @@
-use Rattle.std.proofs.Common.{◌∙◌, ap, sym}
-use Rattle.plan_core.specs.Columns.{Columns, names_of}
+use Rattle.std.proofs.Common.{◌∙◌, ap, length, sym}
+use Rattle.std.proofs.lemmas.Result.{on_ok_weaker}
 use Rattle.plan_core.specs.Names.{with_names}
+use Rattle.plan_prune_parts.specs.Said.{columns_at}
+use Rattle.plan_prune_names.proofs.AmongLemmas.{columns-among}
 use Rattle.plan_prune_names.proofs.among.add_columns_at.Goals as goal
 
-pub returns : goal.returns
-returns c = λ ex. c.in_ok-add_columns.ensures.added ∙ ap (λ (s : Columns). with_names c.args.names.now (names_of s)) (c.columns.ensures ∙ c.in_ok-stored.ensures.stored ex)
+pub names_at-requires-clause-hold : goal.names_at-requires-clause-hold
+names_at-requires-clause-hold c = λ ex. (c.know.new.columns, length c.know.new.columns.changes.items, c.know.new.columns.marks.items, sym c.function_count.ensures, c.in_ok-know.ensures.known ex c.in_ok-know.ensures.is_known)
 
-pub returns-then-branch : goal.returns-then-branch
-returns-then-branch c = λ ex. sym (c.in_ok-are_among.ensures c.if-branch.true ex)
+pub returns-clause-names : goal.returns-clause-names
+returns-clause-names c = on_ok_weaker c.add_listed.result (λ added. λ ex.
+    added ∙ ap (with_names c.args.names.now) (c.as_slice.ensures ∙ c.in_ok-ordered.ensures ex)) c.add_listed.ensures.added
+
+pub returns-then-are_told_among-clause-names : goal.returns-then-are_told_among-clause-names
+returns-then-are_told_among-clause-names c = λ ex.
+    sym (columns-among c.args.names.now c.know.new.columns (columns_at c.args.lp.now ex c.args.input) (c.in_ok-know.ensures.shows ex) (c.are_told_among.ensures.all c.if-are_told_among.true))

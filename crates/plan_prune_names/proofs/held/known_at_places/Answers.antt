@@ -3,7 +3,7 @@ use Rattle.std.proofs.lemmas.Option.{slice_get-get_or}
 use Rattle.std.proofs.lemmas.List.Sorted.{IsNonDecreasingBy-from_sort}
 use Rattle.plan_core.specs.declared.data_type.DataType.{DataType}
 use Rattle.plan_expr.specs.Leaves.{Name}
-use Rattle.plan_prune_names.specs.Overlays.{type_in}
+use Rattle.plan_prune_names.specs.Known.{type_in}
 use Rattle.plan_prune_names.proofs.PlaceSteps.{UpTo, up-add, up-end, up-fail, up-none, up-past}
 use Rattle.plan_prune_names.proofs.held.known_at_places.Goals.{in-Some+then-is_some+in_ok-add, in-Some+else-is_some, in_default}
 use Rattle.plan_prune_names.proofs.held.known_at_places.Goals as goal

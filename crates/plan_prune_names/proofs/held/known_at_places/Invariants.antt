@@ -1,6 +1,6 @@
 use Rattle.std.proofs.Common.{is_some}
 use Rattle.plan_expr.specs.Leaves.{Name}
-use Rattle.plan_prune_names.specs.Overlays.{type_in}
+use Rattle.plan_prune_names.specs.Known.{type_in}
 use Rattle.plan_prune_names.proofs.PlaceSteps.{UpTo}
 use Rattle.plan_prune_names.proofs.held.known_at_places.Given as goal
 

@@ -11,4 +11,4 @@ pub returns : goal.returns
 returns c = λ ex.
     c.in_ok-known_by_fewer.ensures
     ∙ ap (λ (test : Name → Bool). filter test c.args.asked.now)
-    (fun_ext (λ (a : Name). ap (λ (d : Option DataType). is_some d) (c.in_ok-columns.ensures ex a) ∙ some-type_of (columns_at c.args.lp.now ex c.args.input) a))
+    (fun_ext (λ (a : Name). ap (λ (d : Option DataType). is_some d) (c.in_ok-know.ensures.shows ex a) ∙ some-type_of (columns_at c.args.lp.now ex c.args.input) a))

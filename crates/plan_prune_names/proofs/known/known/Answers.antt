@@ -4,7 +4,7 @@ use Rattle.plan_core.specs.declared.data_type.DataType.{DataType}
 use Rattle.plan_expr.specs.Leaves.{Name}
 use Rattle.plan_pruned.proofs.ListSteps.{not_past}
 use Rattle.plan_pruned.proofs.NameSteps.{where-next, where-skip}
-use Rattle.plan_prune_names.specs.Overlays.{type_in}
+use Rattle.plan_prune_names.specs.Known.{type_in}
 use Rattle.plan_prune_names.proofs.known.known.Goals.{in-Some+then-is_some+in_ok-add, in-Some+else-is_some, in_default}
 use Rattle.plan_prune_names.proofs.known.known.Goals as goal
 

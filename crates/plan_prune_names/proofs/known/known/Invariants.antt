@@ -1,7 +1,7 @@
 use Rattle.std.proofs.Common.{◌≡◌, is_some, take}
 use Rattle.std.specs.List.{filter}
 use Rattle.plan_expr.specs.Leaves.{Name}
-use Rattle.plan_prune_names.specs.Overlays.{type_in}
+use Rattle.plan_prune_names.specs.Known.{type_in}
 use Rattle.plan_prune_names.proofs.known.known.Given as goal
 
 -- the names up to here that are columns

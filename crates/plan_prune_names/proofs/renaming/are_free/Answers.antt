@@ -5,7 +5,7 @@ use Rattle.plan_core.specs.declared.data_type.DataType.{DataType}
 use Rattle.plan_core.specs.Names.{has}
 use Rattle.plan_expr.specs.Leaves.{Name}
 use Rattle.plan_frame.proofs.ScalarExprs.{item_here}
-use Rattle.plan_prune_names.specs.Overlays.{type_in}
+use Rattle.plan_prune_names.specs.Known.{type_in}
 use Rattle.plan_prune_names.proofs.MoveLemmas.{fresh-at}
 use Rattle.plan_prune_names.proofs.RenamingParts.{free-next}
 use Rattle.plan_prune_names.proofs.renaming.are_free.Goals.{else-is_some-via-then-is_some+else-not-is_free, else-is_some-via-else-is_some}

@@ -1,5 +1,5 @@
 use Rattle.std.proofs.Common.{take}
-use Rattle.plan_prune_names.specs.Overlays.{type_in}
+use Rattle.plan_prune_names.specs.Known.{type_in}
 use Rattle.plan_prune_names.specs.Renaming.{AreFree}
 use Rattle.plan_prune_names.proofs.renaming.are_free.Given as goal
 

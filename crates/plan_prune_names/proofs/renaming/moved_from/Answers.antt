@@ -3,7 +3,8 @@ use Rattle.std.specs.List.{slice_get}
 use Rattle.std.proofs.lemmas.Option.{IfSome_then}
 use Rattle.plan_expr.specs.Leaves.{Name}
 use Rattle.plan_frame.proofs.ScalarExprs.{item_here}
-use Rattle.plan_prune_names.specs.Overlays.{at_name, type_in}
+use Rattle.plan_prune_names.specs.ByName.{at_name}
+use Rattle.plan_prune_names.specs.Known.{type_in}
 use Rattle.plan_prune_names.specs.Renaming.{own_in}
 use Rattle.plan_prune_names.proofs.RenamingParts.{at-none, at-some, if_none, place-within}
 use Rattle.plan_prune_names.proofs.renaming.moved_from.Goals as goal

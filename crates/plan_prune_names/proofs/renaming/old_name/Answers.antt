@@ -3,7 +3,7 @@ use Rattle.std.specs.Option.{option_or}
 use Rattle.std.proofs.lemmas.Option.{IfSome_then}
 use Rattle.plan_core.specs.Names.{has}
 use Rattle.plan_expr.specs.Leaves.{Name}
-use Rattle.plan_prune_names.specs.Overlays.{type_in}
+use Rattle.plan_prune_names.specs.Known.{type_in}
 use Rattle.plan_prune_names.specs.Renaming.{own_in}
 use Rattle.plan_prune_names.proofs.RenamingParts.{placed}
 use Rattle.plan_prune_names.proofs.renaming.old_name.Goals as goal

@@ -7,11 +7,10 @@ use Rattle.plan_expr.specs.Leaves.{Name}
 use Rattle.plan_ir.specs.declared.functions.FunctionIR.{FunctionIR}
 use Rattle.plan_meaning.specs.Asked.{function_names}
 use Rattle.plan_meaning.specs.Functions.{former, renamed}
-use Rattle.plan_prune_parts.specs.Said.{columns_at}
 use Rattle.plan_prune_names.proofs.renaming.told_by_names.Goals as goal
 
 pub returns-in-Rename : goal.returns-in-Rename
-returns-in-Rename c = IfOk-weaker c.told_by_places.result _ _ (λ told is. IfSome_then told is (λ names same. λ ex.
-    same ex
-    ∙ ap₂ (λ (x y : List Name). filter_map (former (renamed x y) (names_of (columns_at c.args.lp.now ex c.args.input))) c.args.asked.now) c.as_slice.ensures c.as_slice-in-Rename.ensures
-    ∙ ap (λ (f : FunctionIR). function_names f c.args.asked.now (columns_at c.args.lp.now ex c.args.input)) (sym c.in-Rename.is))) c.told_by_places.ensures
+returns-in-Rename c = IfOk-weaker c.told_by_places.result _ _ (λ told is. IfSome_then told is (λ names same. λ s shows.
+    same s shows
+    ∙ ap₂ (λ (x y : List Name). filter_map (former (renamed x y) (names_of s)) c.args.asked.now) c.as_slice.ensures c.as_slice-in-Rename.ensures
+    ∙ ap (λ (f : FunctionIR). function_names f c.args.asked.now s) (sym c.in-Rename.is))) c.told_by_places.ensures

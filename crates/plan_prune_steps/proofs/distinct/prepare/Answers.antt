@@ -4,7 +4,7 @@ use Rattle.plan_expr.specs.Leaves.{Name}
 use Rattle.plan_prune_parts.specs.declared.step.Step.TheVariants.{Over}
 use Rattle.plan_prune_steps.proofs.distinct.prepare.Goals as goal
 
-pub returns : goal.returns
-returns c = λ ex.
+pub returns-clause-step : goal.returns-clause-step
+returns-clause-step c = λ ex.
     ap (λ (l : List Name). Over c.args.input l (Distinct c.args.input c.args.options))
-    (c.in_ok-asked.ensures ex)
+    (c.in_ok-asked.ensures.names ex)

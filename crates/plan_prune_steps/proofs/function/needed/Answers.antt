@@ -5,5 +5,5 @@ use Rattle.plan_meaning.specs.Asked.{function_names}
 use Rattle.plan_prune_parts.specs.Said.{columns_at}
 use Rattle.plan_prune_steps.proofs.function.needed.Goals as goal
 
-pub returns-in-RowIndex : goal.returns-in-RowIndex
-returns-in-RowIndex c = IfOk-weaker c.known_at.result _ _ (λ names is. λ ex. is ex ∙ ap (λ (f : FunctionIR). function_names f c.args.asked.now (columns_at c.args.lp.now ex c.args.input)) (sym c.in-RowIndex.is)) c.known_at.ensures
+pub returns-in-RowIndex-clause-names : goal.returns-in-RowIndex-clause-names
+returns-in-RowIndex-clause-names c = IfOk-weaker c.known_by.result _ _ (λ names is. λ ex. is ex ∙ ap (λ (f : FunctionIR). function_names f c.args.asked.now (columns_at c.args.lp.now ex c.args.input)) (sym c.in-RowIndex.is)) c.known_by.ensures.names

@@ -1,6 +1,7 @@
 use Rattle.std.proofs.Common.{◌||◌, ◌∙◌, ap, Bool, not, subst, List, [], ◌∷◌}
 use Rattle.plan_ir.specs.Plans.{bare, plans_at}
 use Rattle.plan_expr.specs.Leaves.{Name}
+use Rattle.plan_prune_names.proofs.KnownLemmas.{nothing-known}
 use Rattle.plan_prune.specs.Prunes.{Prunes}
 use Rattle.plan_prune.proofs.PruneLemmas.{pruned_is, pruned_stands}
 use Rattle.plan_prune.proofs.PlanPruned.{all_asked, meets_at, refines_at, reads_at, nodes_at, shared_at, work_at}
@@ -37,3 +38,6 @@ returns-clause-cached c = λ s. shared_at (not c.args.self.now.is_count_star) (b
 pub returns-clause-marks : goal.returns-clause-marks
 returns-clause-marks c = c.in_ok-push_down.ensures.marks c.requires.nodes c.requires.stands.nodes
     ∙ ap (λ (b : Bool). c.args.self.now.is_count_star || b) (meets_at c.args.lp.now c.args.ex.now c.args.root c.requires)
+
+pub push_down-requires-clause-known : goal.push_down-requires-clause-known
+push_down-requires-clause-known c = nothing-known c.new-columns.result c.args.lp.now (c.args.root ∷ []) c.new-columns.ensures.unknown

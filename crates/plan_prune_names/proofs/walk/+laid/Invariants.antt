@@ -1,6 +1,0 @@
-use Rattle.plan_tree.proofs.TreeLemmas.{height_at}
-use Rattle.plan_ir.specs.Parts.{plan_shape}
-use Rattle.plan_prune_names.proofs.walk.+laid.Given as goal
-
-abbrev pub decreases-laid : goal.decreases-laid
-decreases-laid l = height_at plan_shape l.lp.now l.node
