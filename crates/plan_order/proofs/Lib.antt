@@ -1,0 +1,5 @@
+-- The lemmas of this crate.
+mod CountLemmas
+mod CountStarLemmas
+mod MemberLemmas
+mod TogetherLemmas
