@@ -26,7 +26,7 @@ use Rattle.plan_schema.specs.Stored.{stored_all, stored_by, all_hold}
 use Rattle.plan_schema.proofs.StoredNodes.{stored_first, stored_open}
 use Rattle.plan_prune_names.specs.declared.known_columns.KnownColumns.{KnownColumns}
 use Rattle.plan_prune_names.specs.ByName.{input_shown}
-use Rattle.plan_prune_names.specs.Known.{AreBelow, AreLaid, IsMade, IsOver, Hold, KnowsAt, KnowsOver, Lays, Shows, before, type_among, type_at, type_in}
+use Rattle.plan_prune_names.specs.Known.{AreBelow, AreLaid, IsMade, IsOver, Hold, KnowsAt, KnowsOver, Lays, Shows, as_changes, before, type_at, type_in}
 
 -- lists that end alike
 pub end-same : {A : Type 0} (xs ys : List A) (x y : A) → xs ++ x ∷ [] ≡ ys ++ y ∷ [] → (xs ≡ ys) × (x ≡ y)
@@ -56,9 +56,17 @@ drop-all [] = refl
 drop-all (x ∷ xs) = drop-all xs
 
 -- types before changes
+before-join : (cs ds : List (Name × Option DataType)) (types : Name → Option DataType) (a : Name) → before (cs ++ ds) types a ≡ before cs (before ds types) a
+before-join [] ds types a = refl
+before-join (c ∷ cs) ds types a = ap (λ (o : Option DataType). cond (bytes_eq a c.0) c.1 o) (before-join cs ds types a)
+
+-- where there is no column now, the changes say what was
+before-none : (s : Columns) (types : Name → Option DataType) → ((a : Name) → types a ≡ None) → (a : Name) → before (as_changes s) types a ≡ type_of s a
+before-none [] types h a = h a
+before-none (c ∷ s) types h a = ap (λ (o : Option DataType). cond (bytes_eq a c.0) (Some c.1) o) (before-none s types h a)
+
 before-last : (cs : List (Name × Option DataType)) (c : Name × Option DataType) (types : Name → Option DataType) (a : Name) → before (cs ++ c ∷ []) types a ≡ before cs (λ b. cond (bytes_eq b c.0) c.1 (types b)) a
-before-last [] c types a = refl
-before-last (d ∷ cs) c types a = ap (λ (o : Option DataType). cond (bytes_eq a d.0) d.1 o) (before-last cs c types a)
+before-last cs c types a = before-join cs (c ∷ []) types a
 
 before-same : (cs : List (Name × Option DataType)) (types others : Name → Option DataType) → ((a : Name) → types a ≡ others a) → (a : Name) → before cs types a ≡ before cs others a
 before-same [] types others h a = h a
@@ -84,6 +92,17 @@ set-over old new name d marks changes put = (
       ap (λ (cs : List (Name × Option DataType)). before cs (type_in new) a) (ap (drop m) changes ∙ drop-append-le m old.changes.items ((name, type_in old name) ∷ []) l)
       ∙ before-last (drop m old.changes.items) (name, type_in old name) (type_in new) a
       ∙ before-same (drop m old.changes.items) (λ b. cond (bytes_eq b name) (type_in old name) (type_in new b)) (type_in old) (back (type_in old) (type_in new) name d put) a,
+)
+
+-- all columns taken away
+pub clear-over : (old new : KnownColumns) → new.marks.items ≡ old.marks.items → new.changes.items ≡ old.changes.items ++ as_changes old.types → ((a : Name) → type_in new a ≡ None) → IsOver old new
+clear-over old new marks changes none = (
+  marks,
+  (let e : length new.changes.items ≡ length old.changes.items + length (as_changes old.types) = ap (λ (cs : List (Name × Option DataType)). length cs) changes ∙ length-append old.changes.items (as_changes old.types) in omega (arith, e)),
+  λ m a l.
+      ap (λ (cs : List (Name × Option DataType)). before cs (type_in new) a) (ap (drop m) changes ∙ drop-append-le m old.changes.items (as_changes old.types) l)
+      ∙ before-join (drop m old.changes.items) (as_changes old.types) (type_in new) a
+      ∙ before-same (drop m old.changes.items) (before (as_changes old.types) (type_in new)) (type_in old) (before-none old.types (type_in new) none) a,
 )
 
 pub over-same : (k : KnownColumns) → IsOver k k
@@ -141,7 +160,7 @@ lays-shows k ts h a = sym (type-now k a) ∙ laid-shows k (length k.changes.item
 pub lays-function : (old mid new : KnownColumns) (function : FunctionIR) (ts : Roses (Unit {0}) Op) → IsOver old mid → IsMade function old mid → new.types ≡ mid.types → new.changes.items ≡ mid.changes.items → new.marks.items ≡ mid.marks.items ++ length old.changes.items ∷ [] → Lays old ts → Lays new (more (rose tt (map_function function) ts) no_roses)
 lays-function old mid new function ts over made types changes marks h = (
   λ a.
-      type-now new a ∙ ap (λ (cs : List (Name × Option DataType)). type_among cs a) types
+      type-now new a ∙ ap (λ (s : Columns). type_of s a) types
       ∙ (made (first_schema (stored_all ts)) (lays-shows old ts h)).1 a,
   λ mark rest e.
       let is = end-same rest old.marks.items mark (length old.changes.items) (sym e ∙ marks ∙ ap (λ (ms : List ℕ). ms ++ length old.changes.items ∷ []) over.0) in (
@@ -156,7 +175,7 @@ lays-function old mid new function ts over made types changes marks h = (
     same : (m : ℕ) (a : Name) → type_at new m a ≡ type_at mid m a
     same m a =
         ap (λ (cs : List (Name × Option DataType)). before (drop m cs) (type_in new) a) changes
-        ∙ before-same (drop m mid.changes.items) (type_in new) (type_in mid) (λ b. ap (λ (cs : List (Name × Option DataType)). type_among cs b) types) a
+        ∙ before-same (drop m mid.changes.items) (type_in new) (type_in mid) (λ b. ap (λ (s : Columns). type_of s b) types) a
 
 -- what a plan is, by its node
 pub plans-open : (lp : List IR) (ex : List AExpr) (n : Node) (p : IR) → ((t : Trees IR) × StandsOnce plan_shape lp (n ∷ []) t) → slice_get lp n.0 ≡ Some p → bare (plans_at lp ex (n ∷ [])) ≡ more (rose tt (op_at ex p) (bare (plans_at lp ex (inputs_of p)))) no_roses
@@ -300,7 +319,7 @@ lays-same j k ts types changes marks h =
     (laid-same j k (length j.changes.items)
     (λ m a l.
     ap (λ (cs : List (Name × Option DataType)). before (drop m cs) (type_in k) a) items
-    ∙ before-same (drop m j.changes.items) (type_in k) (type_in j) (λ b. ap (λ (cs : List (Name × Option DataType)). type_among cs b) types) a)
+    ∙ before-same (drop m j.changes.items) (type_in k) (type_in j) (λ b. ap (λ (s : Columns). type_of s b) types) a)
     (length j.changes.items) j.marks.items ts (omega arith) h))
 
 -- nothing that is known

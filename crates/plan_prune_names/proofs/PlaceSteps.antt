@@ -9,14 +9,14 @@ use Rattle.std.proofs.lemmas.Bool.{false_from_ne_true, ltb-true, ltb-false}
 use Rattle.std.proofs.lemmas.List.{take-map}
 use Rattle.std.proofs.lemmas.List.Elements.{filter_map-append}
 use Rattle.std.proofs.lemmas.List.Sorted.{Contains-permutation}
+use Rattle.plan_core.specs.Columns.{names_of}
 use Rattle.plan_core.specs.Names.{AreDistinct, has, with_name}
 use Rattle.plan_expr.specs.Leaves.{Name}
-use Rattle.plan_frame.proofs.NameSets.{adds_name, has_cons, same_named}
+use Rattle.plan_frame.proofs.NameSets.{adds_name, has_cons, same_named, some-type_of}
 use Rattle.plan_pruned.proofs.ListSteps.{Differs, before_differ, take-next}
 use Rattle.plan_pruned.proofs.NameSteps.{where-next, where-skip}
 use Rattle.plan_prune_names.specs.declared.known_columns.KnownColumns.{KnownColumns}
-use Rattle.plan_prune_names.specs.Known.{names_in, type_in}
-use Rattle.plan_prune_names.proofs.TypeLemmas.{told-if-there}
+use Rattle.plan_prune_names.specs.Known.{type_in}
 use Rattle.plan_prune_names.specs.Places.{places_in}
 
 -- what a set with text keys says of places
@@ -72,9 +72,9 @@ found-place list (b ∷ bs) a j h e =
     later (Some i) c = (suc c.0, omega (arith, c.1), c.2)
 
 -- each column that is one of the names stands at one of the places
-pub all-found : (names : List Name) (o : KnownColumns) (found : List ℕ) → AreDistinct names → IsPermutation (places_in names (names_in o.types)) found → (j : ℕ) (a : Name) → slice_get names j ≡ Some a → is_some (type_in o a) ≡ true → Contains found j
+pub all-found : (names : List Name) (o : KnownColumns) (found : List ℕ) → AreDistinct names → IsPermutation (places_in names (names_of o.types)) found → (j : ℕ) (a : Name) → slice_get names j ≡ Some a → is_some (type_in o a) ≡ true → Contains found j
 all-found names o found once same j a e there =
-    Contains-permutation (places_in names (names_in o.types)) found j same (found-place names (names_in o.types) a j (told-if-there o.types a there) (place-is names j a once e))
+    Contains-permutation (places_in names (names_of o.types)) found j same (found-place names (names_of o.types) a j (sym (some-type_of o.types a) ∙ there) (place-is names j a once e))
 
 -- the places of names, one after another
 pub places-next : {A : Type 0} (f : A → Name) (list : List Name) (xs : List A) (i : ℕ) (a : Name) (before : List ℕ) → slice_get (map f xs) i ≡ Some a → (before ++ places_in list (map f (take i xs))) ++ places_in list (a ∷ []) ≡ before ++ places_in list (map f (take (i + 1) xs))

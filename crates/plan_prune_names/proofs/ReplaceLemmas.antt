@@ -1,5 +1,5 @@
 -- Functions that give columns of their own, by the columns that they read.
-use Rattle.std.proofs.Common.{◌≡◌, ◌∙◌, Bool, true, false, cond, not, ◌&&◌, ◌||◌, ◌+◌, take, ℕ, suc, List, [], ◌∷◌, ◌++◌, map, length, Option, Some, None, is_some, unwrap_or, refl, sym, ap, ap₂}
+use Rattle.std.proofs.Common.{◌≡◌, ◌∙◌, Bool, true, false, cond, not, ◌&&◌, ◌||◌, ◌+◌, take, ℕ, suc, List, [], ◌∷◌, ◌++◌, map, length, Option, Some, is_some, unwrap_or, refl, sym, ap, ap₂}
 use Rattle.std.specs.List.{filter as only_where, list_all, slice_get}
 use Rattle.std.specs.Str.{bytes_eq}
 use Rattle.plan_core.specs.declared.data_type.DataType.{DataType}
@@ -20,9 +20,7 @@ use Rattle.plan_meaning.specs.Checks.{Check, check, each, is_column, is_empty, i
 use Rattle.plan_meaning.specs.Functions.{all_differ, first_type, function_schema, told_names, unpivoted_columns, unpivoted_names, value_name, value_names, variable_name}
 use Rattle.plan_meaning.specs.Typing.{function_checks, unpivot_checks, unpivot_name_checks, unpivot_type_checks}
 use Rattle.plan_schema.specs.Stored.{all_hold, given_by}
-use Rattle.plan_prune_names.specs.Known.{names_in, type_among}
 use Rattle.plan_prune_names.proofs.FunctionLemmas.{has-next}
-use Rattle.plan_prune_names.proofs.TypeLemmas.{told-if-there}
 
 -- what is said of names, by what is said of each of them
 each-named : (fault : At → PolarsError) (k : ℕ) (f g : Name → Bool) (xs : List Name) → ((a : Name) → has xs a ≡ true → f a ≡ g a) → each fault k f xs ≡ each fault k g xs
@@ -98,15 +96,6 @@ module _ (args : UnpivotArgsIR) (s t : Columns) (on : (a : Name) → has args.on
           ap (λ (names : List Name). columns_at t args.index ++ (variable_name args, String) ∷ (value_name args, first_type t names) ∷ []) (told t some)
           ∙ ap₂ (λ (cs : Columns) (d : DataType). cs ++ (variable_name args, String) ∷ (value_name args, d) ∷ []) made-same first-same
           ∙ ap (λ (names : List Name). columns_at s args.index ++ (variable_name args, String) ∷ (value_name args, first_type s names) ∷ []) (sym (told s some))
-
--- once all names that are told are gone, there is no column
-pub all-gone : (cs : List (Name × Option DataType)) (a : Name) → cond (has (names_in cs) a) None (type_among cs a) ≡ None
-all-gone cs a = at (has (names_in cs) a) (type_among cs a) (told-if-there cs a)
-  where
-    at : (t : Bool) (o : Option DataType) → (is_some o ≡ true → t ≡ true) → cond t None o ≡ None
-    at true o h = refl
-    at false None h = refl
-    at false (Some d) h = let no : false ≡ true = h refl in cc
 
 -- a column that is added with its type
 pub kept : (types before after : Name → Option DataType) (n : Name) (d : DataType) → types n ≡ Some d → ((a : Name) → after a ≡ cond (bytes_eq a n) (Some d) (before a)) → (a : Name) → before a ≡ types a → after a ≡ types a

@@ -1,5 +1,5 @@
 -- What is known of columns by name, and of the columns below functions.
-use Rattle.std.specs.Prelude.{◌≡◌, ◌≤◌, ◌++◌, IsTrue, ℕ, List, [], ◌∷◌, map, drop, length, Option, None, if◌then◌else◌, true}
+use Rattle.std.specs.Prelude.{◌≡◌, ◌≤◌, ◌++◌, IsTrue, ℕ, List, [], ◌∷◌, map, drop, length, Option, None, Some, if◌then◌else◌, true}
 use Rattle.std.specs.Str.{bytes_eq}
 use Rattle.plan_core.specs.declared.data_type.DataType.{DataType}
 use Rattle.plan_core.specs.declared.arena.Node.{Node}
@@ -15,18 +15,13 @@ use Rattle.plan_meaning.specs.Typing.{first_schema, function_checks}
 use Rattle.plan_schema.specs.Stored.{all_hold, given_by, stored_all, stored_by}
 use Rattle.plan_prune_names.specs.declared.known_columns.KnownColumns.{KnownColumns}
 
--- the type that goes with a name, if one does
-abbrev pub type_among : List (Name × Option DataType) → Name → Option DataType
-type_among [] a = None
-type_among (c ∷ cs) a = if bytes_eq a c.0 then c.1 else type_among cs a
-
--- the names of pairs
-abbrev pub names_in : List (Name × Option DataType) → List Name
-names_in cs = map (λ (c : Name × Option DataType). c.0) cs
-
 -- the type of a column, if it is there
 abbrev pub type_in : KnownColumns → Name → Option DataType
-type_in k a = type_among k.types a
+type_in k a = type_of k.types a
+
+-- changes of columns that were there with their types
+abbrev pub as_changes : Columns → List (Name × Option DataType)
+as_changes s = map (λ (c : Name × DataType). (c.0, Some c.1)) s
 
 -- the type that a column had before changes: what the first change of it says that it was, or what it is
 abbrev pub before : List (Name × Option DataType) → (Name → Option DataType) → Name → Option DataType

@@ -5,7 +5,7 @@ ghost use Rattle.plan_core.specs.Names.{with_names};
 ghost use Rattle.plan_tree.specs.Stands.{Trees, StandsOnce};
 ghost use Rattle.plan_expr.specs.declared.aexpr.AExpr.{AExpr};
 ghost use Rattle.plan_ir.specs.Parts.{plan_shape};
-ghost use Rattle.plan_prune_names.specs.Known.{KnowsAt, names_in, type_in};
+ghost use Rattle.plan_prune_names.specs.Known.{KnowsAt};
 ghost use Rattle.plan_prune_parts.specs.Said.{columns_at};
 ghost use Rattle.plan_prune_names.specs.Among.{AreAmong};
 
@@ -17,22 +17,14 @@ use plan_ir::IR;
 use plan_pruned::add_listed;
 use std::alloc::{AllocError, Global};
 
-/// Whether a name is among names, or no column has it.
-fn is_among(names: &Names, name: &str, columns: &KnownColumns) -> bool
-    ensures all { IsTrue result → AreAmong names.now (type_in columns.now) (name.now ∷ []) }
-    ensures lacking { IsFalse result → AreAmong names.now (type_in columns.now) (name.now ∷ []) → ⊥ }
-{
-    names.contains(name) || columns.get(name).is_none()
-}
-
 /// Whether all columns are among names.
-fn are_told_among(names: &Names, columns: &KnownColumns) -> bool
-    ensures all { IsTrue result → AreAmong names.now (type_in columns.now) (names_in columns.now.types) }
-    ensures lacking { IsFalse result → AreAmong names.now (type_in columns.now) (names_in columns.now.types) → ⊥ }
+fn are_all_among(names: &Names, columns: &KnownColumns) -> bool
+    ensures all { IsTrue result → AreAmong names.now (names_of columns.now.types) }
+    ensures lacking { IsFalse result → AreAmong names.now (names_of columns.now.types) → ⊥ }
 {
     for i in 0..columns.len() {
         if let Some(name) = columns.name_at(i) {
-            if !is_among(names, name, columns) {
+            if !names.contains(name) {
                 return false;
             }
         }
@@ -55,7 +47,7 @@ pub fn add_columns_at(
     ensures known { OnOk result (KnowsAt columns.new lp.now (input ∷ [])) }
 {
     know(alloc, input, lp, columns)?;
-    if are_told_among(names, columns) {
+    if are_all_among(names, columns) {
         return Ok(());
     }
     let ordered = names_at(alloc, input, lp, columns.function_count())?;

@@ -2,13 +2,14 @@
 ghost use Rattle.std.specs.Prelude.{◌≡◌, ◌++◌, ℕ, List, [], ◌∷◌, Contains, IfOk, OnOk, Some, true, filter, is_some, slice_get};
 ghost use Rattle.std.specs.List.Sorted.{IsPermutation, IsSorted};
 ghost use Rattle.std.specs.Ordering.{nat_cmp};
+ghost use Rattle.plan_core.specs.Columns.{names_of};
 ghost use Rattle.plan_core.specs.Names.{AreDistinct};
 ghost use Rattle.plan_tree.specs.Stands.{Trees, StandsOnce};
 ghost use Rattle.plan_expr.specs.declared.aexpr.AExpr.{AExpr};
 ghost use Rattle.plan_expr.specs.Leaves.{Name};
 ghost use Rattle.plan_ir.specs.Parts.{plan_shape};
 ghost use Rattle.plan_pruned.specs.Pruned.{held_names};
-ghost use Rattle.plan_prune_names.specs.Known.{names_in, type_in};
+ghost use Rattle.plan_prune_names.specs.Known.{type_in};
 ghost use Rattle.plan_prune_parts.specs.Said.{columns_at};
 ghost use Rattle.plan_prune_names.specs.Places.{places_in};
 
@@ -30,13 +31,13 @@ fn add_place(found: &mut Vec<usize>, places: &Places, name: &str) -> Result<(), 
     Ok(())
 }
 
-/// Adds the places of the names that are told. Refuses for want of memory alone.
-fn add_told(
+/// Adds the places of the names of columns. Refuses for want of memory alone.
+fn add_places(
     found: &mut Vec<usize>,
     places: &Places,
     columns: &KnownColumns,
 ) -> Result<(), AllocError>
-    ensures { OnOk result (found.new.items ≡ found.old.items ++ places_in places.now (names_in columns.now.types)) }
+    ensures { OnOk result (found.new.items ≡ found.old.items ++ places_in places.now (names_of columns.now.types)) }
 {
     for i in 0..columns.len() {
         if let Some(name) = columns.name_at(i) {
@@ -46,17 +47,17 @@ fn add_told(
     Ok(())
 }
 
-/// The places of the names that are told, rising. Refuses for want of memory alone.
-fn places_told(
+/// The places of the names of columns, rising. Refuses for want of memory alone.
+fn places_of(
     alloc: Global,
     places: &Places,
     columns: &KnownColumns,
 ) -> Result<Vec<usize>, AllocError>
-    ensures told { IfOk result (λ found. IsPermutation (places_in places.now (names_in columns.now.types)) found.items) }
+    ensures found { IfOk result (λ found. IsPermutation (places_in places.now (names_of columns.now.types)) found.items) }
     ensures rising { IfOk result (λ found. IsSorted nat_cmp found.items) }
 {
     let mut found = Vec::new(alloc);
-    add_told(&mut found, places, columns)?;
+    add_places(&mut found, places, columns)?;
     found.sort_unstable();
     Ok(found)
 }
@@ -95,7 +96,7 @@ fn known_by_columns(
     requires places { places.now ≡ names.now }
     ensures { IfOk result (λ known. known ≡ filter (λ a. is_some (type_in columns.now a)) names.now) }
 {
-    let found = places_told(alloc, places, columns)?;
+    let found = places_of(alloc, places, columns)?;
     known_at_places(alloc, names, found.as_slice(), columns)
 }
 

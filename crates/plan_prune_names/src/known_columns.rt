@@ -1,33 +1,17 @@
 //! What is known of the columns of a plan, and of the plans below its functions.
 ghost use Rattle.std.specs.Prelude.{◌≡◌, ◌<◌, ◌≤◌, ◌+◌, ◌++◌, [], ◌∷◌, ℕ, IfNone, IfOk, IfSome, IsFalse, IsTrue, None, OnOk, Some, if◌then◌else◌, length, slice_get};
 ghost use Rattle.std.specs.Str.{bytes_eq};
-ghost use Rattle.plan_core.specs.Columns.{type_of};
+ghost use Rattle.plan_core.specs.Columns.{names_of, type_of};
 ghost use Rattle.plan_expr.specs.Leaves.{Name};
 ghost use Rattle.plan_tree.specs.Rose.{Roses, rose, no_roses, more};
 ghost use Rattle.plan_ir.specs.declared.functions.FunctionIR.{FunctionIR as Function};
 ghost use Rattle.plan_ir.specs.Plans.{Op, map_function};
-ghost use Rattle.plan_prune_names.specs.Known.{IsOver, Knows, Shows, names_in, type_at, type_in};
+ghost use Rattle.plan_prune_names.specs.Known.{IsOver, Knows, Shows, type_at, type_in};
 
-use crate::types::Types;
+use crate::types::{Change, Types};
 use plan_core::{DataType, Schema};
 use std::alloc::{AllocError, Global};
-use std::marker::Model;
-
-/// The type that a column had before it was changed. A contract sees the pair.
-#[derive(Drop)]
-struct Change {
-    name: String,
-    before: Option<DataType>,
-}
-
-impl Model for Change {
-    ghost use Rattle.std.specs.Prelude.{List, Option, ℕ, string_bytes};
-    ghost use Rattle.plan_core.specs.declared.data_type.DataType.{DataType};
-
-    ghost Value = { List ℕ × Option DataType };
-
-    ghost view = { λ s. (string_bytes s.name, s.before) };
-}
+use std::mem;
 
 /// The columns of a plan by name, with what the functions at its top changed, so that the columns below each of them are found again.
 #[derive(Drop)]
@@ -74,17 +58,17 @@ impl KnownColumns {
         self.types.get(name)
     }
 
-    /// How many names are told: those of the columns, and of others that are gone.
+    /// How many columns there are.
     pub(crate) fn len(&self) -> usize
         ensures { result ≡ length self.now.types }
     {
         self.types.len()
     }
 
-    /// The name at a place of those that are told, if there are so many.
+    /// The name at a place, if there are so many columns.
     pub(crate) fn name_at(&self, index: usize) -> Option<&str>
-        ensures found { IfSome result (λ a. slice_get (names_in self.now.types) index ≡ Some a.now) }
-        ensures none { IfNone result (slice_get (names_in self.now.types) index ≡ None) }
+        ensures found { IfSome result (λ a. slice_get (names_of self.now.types) index ≡ Some a.now) }
+        ensures none { IfNone result (slice_get (names_of self.now.types) index ≡ None) }
     {
         self.types.name_at(index)
     }
@@ -104,6 +88,15 @@ impl KnownColumns {
         let name = String::from_str(alloc, name)?;
         self.changes.push(Change { name, before })?;
         Ok(before)
+    }
+
+    /// Takes all columns away. Refuses for want of memory alone.
+    pub(crate) fn clear(&mut self, alloc: Global) -> Result<(), AllocError>
+        ensures over { OnOk result (IsOver self.old self.new) }
+        ensures gone { OnOk result ((a : Name) → type_in self.new a ≡ None) }
+    {
+        let types = mem::replace(&mut self.types, Types::new(alloc));
+        types.into_changes(&mut self.changes)
     }
 
     /// How many changes were made.

@@ -1,11 +1,10 @@
 //! What functions that give columns of their own make of the columns below them.
-ghost use Rattle.std.specs.Prelude.{◌≡◌, IfOk, IsTrue, None, OnOk, map, string_bytes, true};
+ghost use Rattle.std.specs.Prelude.{◌≡◌, IfOk, IsTrue, None, OnOk, true};
 ghost use Rattle.plan_core.specs.Columns.{Columns, type_of};
 ghost use Rattle.plan_core.specs.Names.{has};
 ghost use Rattle.plan_expr.specs.Leaves.{Name};
 ghost use Rattle.plan_schema.specs.Stored.{given_by, wants_memory};
-ghost use Rattle.plan_prune_names.specs.ByName.{left_of};
-ghost use Rattle.plan_prune_names.specs.Known.{IsMade, IsOver, Shows, names_in, type_in};
+ghost use Rattle.plan_prune_names.specs.Known.{IsMade, IsOver, Shows, type_in};
 
 use crate::known_columns::KnownColumns;
 use plan_core::{DataType, Node, PlSmallStr, PolarsError, Schema};
@@ -80,39 +79,6 @@ fn add_read(
     }
 }
 
-/// The names that are told. Refuses for want of memory alone.
-fn names_told(alloc: Global, columns: &KnownColumns) -> Result<Vec<String>, AllocError>
-    ensures { IfOk result (λ names. map string_bytes names.items ≡ names_in columns.now.types) }
-{
-    let mut names = Vec::new(alloc);
-    for i in 0..columns.len() {
-        if let Some(name) = columns.name_at(i) {
-            names.push(String::from_str(alloc, name)?)?;
-        }
-    }
-    Ok(names)
-}
-
-/// Takes columns away. Refuses for want of memory alone.
-fn take_away(alloc: Global, names: &[String], columns: &mut KnownColumns) -> Result<(), AllocError>
-    ensures over { OnOk result (IsOver columns.old columns.new) }
-    ensures left { OnOk result ((a : Name) → type_in columns.new a ≡ left_of (map string_bytes names.now) (type_in columns.old) a) }
-{
-    for name in names {
-        columns.set(alloc, name.as_str(), None)?;
-    }
-    Ok(())
-}
-
-/// Takes all columns away. Refuses for want of memory alone.
-fn take_all(alloc: Global, columns: &mut KnownColumns) -> Result<(), AllocError>
-    ensures over { OnOk result (IsOver columns.old columns.new) }
-    ensures gone { OnOk result ((a : Name) → type_in columns.new a ≡ None) }
-{
-    let names = names_told(alloc, columns)?;
-    take_away(alloc, names.as_slice(), columns)
-}
-
 /// Gives columns where there are none. Refuses for want of memory alone.
 fn put_all(alloc: Global, made: &Schema, columns: &mut KnownColumns) -> Result<(), AllocError>
     requires { (a : Name) → type_in columns.old a ≡ None }
@@ -146,7 +112,7 @@ pub fn replace(
     if made.len() == 0 {
         return Ok(false);
     }
-    take_all(alloc, columns)?;
+    columns.clear(alloc)?;
     put_all(alloc, &made, columns)?;
     Ok(true)
 }

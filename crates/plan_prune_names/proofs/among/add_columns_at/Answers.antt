@@ -12,6 +12,6 @@ pub returns-clause-names : goal.returns-clause-names
 returns-clause-names c = on_ok_weaker c.add_listed.result (λ added. λ ex.
     added ∙ ap (with_names c.args.names.now) (c.as_slice.ensures ∙ c.in_ok-ordered.ensures ex)) c.add_listed.ensures.added
 
-pub returns-then-are_told_among-clause-names : goal.returns-then-are_told_among-clause-names
-returns-then-are_told_among-clause-names c = λ ex.
-    sym (columns-among c.args.names.now c.know.new.columns (columns_at c.args.lp.now ex c.args.input) (c.in_ok-know.ensures.shows ex) (c.are_told_among.ensures.all c.if-are_told_among.true))
+pub returns-then-are_all_among-clause-names : goal.returns-then-are_all_among-clause-names
+returns-then-are_all_among-clause-names c = λ ex.
+    sym (columns-among c.args.names.now c.know.new.columns (columns_at c.args.lp.now ex c.args.input) (c.in_ok-know.ensures.shows ex) (c.are_all_among.ensures.all c.if-are_all_among.true))

@@ -1,19 +1,19 @@
 use Rattle.std.proofs.Common.{◌≡◌, ◌∙◌, ap, cond, false, sym, arith, List, Option, Some, take}
 use Rattle.std.specs.Str.{bytes_eq}
 use Rattle.plan_core.specs.declared.data_type.DataType.{DataType}
-use Rattle.plan_core.specs.Columns.{names_of}
+use Rattle.plan_core.specs.Columns.{Columns, names_of, type_of}
 use Rattle.plan_core.specs.Names.{has}
 use Rattle.plan_expr.specs.Leaves.{Name}
 use Rattle.std.proofs.lemmas.List.{take-map}
 use Rattle.plan_pruned.proofs.ListSteps.{name_at, not_past}
-use Rattle.plan_prune_names.specs.Known.{type_among, type_in}
+use Rattle.plan_prune_names.specs.Known.{type_in}
 use Rattle.plan_prune_names.proofs.MoveLemmas.{fresh-at}
 use Rattle.plan_prune_names.proofs.TypeLemmas.{type-next}
 use Rattle.plan_prune_names.proofs.known_columns.KnownColumns.restart.Goals.{in-Some+in_ok-owned+in_ok-set, in_default}
 use Rattle.plan_prune_names.proofs.known_columns.KnownColumns.restart.Goals as goal
 
 pub loop-i-init : goal.loop-i-init
-loop-i-init c = (λ a. ap (λ (cs : List (Name × Option DataType)). type_among cs a) c.new.ensures.none.0, c.new.ensures.none.1, c.new.ensures.none.2)
+loop-i-init c = (λ a. ap (λ (s : Columns). type_of s a) c.new.ensures.none.0, c.new.ensures.none.1, c.new.ensures.none.2)
 
 pub loop-i-preserved : goal.loop-i-preserved
 loop-i-preserved c =
