@@ -1,8 +1,7 @@
 -- Counts in the place of plans.
-use Rattle.std.proofs.Common.{◌≡◌, ◌∙◌, ◌≤◌, ◌⊎◌, Bool, true, false, cond, ℕ, All, get_or, List, [], ◌∷◌, ◌++◌, ◌+◌, length, length-append, map, Option, Some, None, is_some, inl, inr, refl, sym, ap, subst, arith}
+use Rattle.std.proofs.Common.{◌≡◌, ◌∙◌, ◌≤◌, ◌⊎◌, Bool, true, false, cond, ℕ, get_or, List, [], ◌∷◌, ◌++◌, ◌+◌, length, length-append, Option, Some, None, is_some, inl, inr, refl, sym, ap, subst, arith}
 use Rattle.std.specs.List.{slice_get, slice_set}
 use Rattle.std.specs.Prelude.{option_map}
-use Rattle.std.proofs.lemmas.List.Elements.{All-cons, All-nil}
 use Rattle.plan_core.specs.declared.arena.Node.{Node}
 use Rattle.plan_tree.specs.Rose.{Roses, rose, no_roses, more}
 use Rattle.plan_tree.specs.Stands.{Reaches, StandsOnce, Trees}
@@ -12,37 +11,21 @@ use Rattle.plan_tree.proofs.TreeLemmas.{StandsOnce-input, opened}
 use Rattle.plan_expr.specs.declared.aexpr.AExpr.{AExpr}
 use Rattle.plan_expr.specs.declared.expr_ir.ExprIR.{ExprIR}
 use Rattle.plan_expr.specs.Exprs.{Named, named_at}
-use Rattle.plan_expr.specs.Operands.{IsExpr, expr_shape}
-use Rattle.plan_expr.proofs.ExprLemmas.{first_stands, rest_stands}
+use Rattle.plan_expr.specs.Operands.{expr_shape}
 use Rattle.plan_frame.specs.ExprLists.{counts_rows}
 use Rattle.plan_ir.specs.declared.functions.FunctionIR.{FunctionIR}
 use Rattle.plan_ir.specs.declared.functions.FunctionIR.TheVariants.{FastCount}
 use Rattle.plan_ir.specs.declared.ir.IR.{IR}
 use Rattle.plan_ir.specs.declared.ir.IR.TheVariants.{Slice, Filter, Scan, DataFrameScan, SimpleProjection, Select, HStack, Sort, GroupBy, Join, Distinct, MapFunction, Sink, Union, HConcat, Cache, Invalid}
-use Rattle.plan_ir.specs.Parts.{IsPlan, StandsPlan, exprs_of, plan_shape, roots_in}
+use Rattle.plan_ir.specs.Parts.{IsPlan, StandsPlan, plan_shape, roots_in}
 use Rattle.plan_ir.specs.Plans.{Op, Plan, bare, frame_scan, map_function, op_at, plans_of, select}
-use Rattle.plan_ir.proofs.PlanLemmas.{plan_exprs}
+use Rattle.plan_meaning.specs.Caches.{AreShared}
 use Rattle.plan_meaning.specs.PlanAt.{one_plan, plan_at}
 use Rattle.plan_pass_laws.specs.Becoming.{Becomes}
 use Rattle.plan_scan.specs.declared.file_scan.FileScan.{FileScan}
 use Rattle.plan_scan.specs.declared.sources.ScanSources.{ScanSources}
 use Rattle.plan_order.proofs.CountLemmas.{entry-of, entry-within, plan-is, plans-one}
 use Rattle.plan_order_laws.specs.Counted.{alias_of, as_one, count_alias, count_of, counted_scans, count_or, counted}
-
--- each of some expressions stands
-each_stands : (ex : List AExpr) (es : List ExprIR) (f : Trees AExpr) → StandsOnce expr_shape ex (map (λ (e : ExprIR). e.node) es) f → All (λ (e : ExprIR). IsExpr ex e.node) es
-each_stands ex [] f h = All-nil (λ (e : ExprIR). IsExpr ex e.node)
-each_stands ex (e ∷ es) no_roses h = absurd h.stands
-each_stands ex (e ∷ es) (more (rose m p kids) rest) h =
-    All-cons (λ (x : ExprIR). IsExpr ex x.node) e es
-    (more (rose m p kids) no_roses, first_stands ex e.node m (map (λ (x : ExprIR). x.node) es) p kids rest h)
-    (each_stands ex es rest (rest_stands ex e.node m (map (λ (x : ExprIR). x.node) es) p kids rest h))
-
--- the expressions of a plan's node stand
-pub exprs_stand : (lp : List IR) (ex : List AExpr) (n : Node) (p : IR) → IsPlan lp ex n → slice_get lp n.0 ≡ Some p → All (λ (e : ExprIR). IsExpr ex e.node) (exprs_of p)
-exprs_stand lp ex n p h entry =
-    let e = plan_exprs lp ex n p h entry in
-    each_stands ex (exprs_of p) e.0 e.1
 
 -- plans that are no counts
 pub count-other : (ex : List AExpr) (p : IR) (ts : Roses (Unit {0}) Op) → ((input : _) (es : _) (schema : _) (options : _) → p ≡ Select input es schema options → ⊥) → count_of (rose tt (op_at ex p) ts) ≡ None
@@ -141,6 +124,14 @@ counted-by p function e = at (count_of p) e
     at : (o : Option (ScanSources × FileScan)) → Some function ≡ option_map (λ (x : ScanSources × FileScan). FastCount x.0 x.1 (count_alias p)) o → rose tt (map_function function) (more (rose tt (frame_scan None [] None) no_roses) no_roses) ≡ count_or o (count_alias p) p
     at None w = cc
     at (Some x) w = let same : function ≡ FastCount x.0 x.1 (count_alias p) = cc in ap (λ (f : FunctionIR). rose tt (map_function f) (more (rose tt (frame_scan None [] None) no_roses) no_roses)) same
+
+-- a count has no cache
+pub counted-shared : (p : Plan) → AreShared p → AreShared (counted p)
+counted-shared p s = at (count_of p)
+  where
+    at : (o : Option (ScanSources × FileScan)) → AreShared (count_or o (count_alias p) p)
+    at None = s
+    at (Some x) = λ c d u v e. absurd u
 
 -- what is put in the place of a plan
 module _ (lp new : List IR) (ex : List AExpr) (n : Node) (function : FunctionIR) (m : Node) (entry : IR) (fresh : m.0 ≡ length lp) (is : entry ≡ MapFunction m function) (placed : new ≡ slice_set (lp ++ DataFrameScan None [] None ∷ []) n.0 entry) where

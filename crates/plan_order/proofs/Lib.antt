@@ -1,5 +1,11 @@
 -- The lemmas of this crate.
+mod CodeTurns
 mod CountLemmas
 mod CountStarLemmas
+mod DemandLemmas
+mod EndLemmas
 mod MemberLemmas
+mod NodeExprs
+mod OrderTrees
 mod TogetherLemmas
+mod TurnLemmas

@@ -12,7 +12,7 @@ use Rattle.plan_ir.specs.declared.ir.IR.TheVariants.{Slice, Filter, Scan, DataFr
 use Rattle.plan_ir.specs.Parts.{inputs_of, plan_shape}
 use Rattle.plan_ir.specs.Plans.{Op, bare, op_at, plans_at, plans_of}
 use Rattle.plan_ir.specs.Walks.{last_first, nodes_from}
-use Rattle.plan_order.specs.Members.{filtered, filters_all_pairs, filters_cross, first_joins_all, is_cross_join, joins_all, meets}
+use Rattle.plan_order.specs.Members.{filtered, is_filter_on_cross, filters_cross, first_is_cross_join, is_cross_entry, is_cross_join, has_node}
 
 any-join : {A : Type 0} (test : A → Bool) (xs ys : List A) → list_any test (xs ++ ys) ≡ (list_any test xs || list_any test ys)
 any-join test [] ys = refl
@@ -35,27 +35,27 @@ turn false false true = refl
 turn false false false = refl
 
 module _ (lp : List IR) (ex : List AExpr) (t : IR → Bool) (test : Op → Roses (Unit {0}) Op → Bool) (same : (p : IR) (kids : Trees IR) → Stands plan_shape lp (inputs_of p) kids → t p ≡ test (op_at ex p) (bare (plans_of ex kids))) where
-  any-meets : (ns : List Node) (f : Trees IR) → Stands plan_shape lp ns f → list_any (λ (q : Node × IR). t q.1) (last_first f) ≡ meets test (bare (plans_of ex f))
-  any-meets [] no_roses h = refl
-  any-meets [] (more (rose m p kids) rest) h = absurd h
-  any-meets (n ∷ ns) no_roses h = absurd h
-  any-meets (n ∷ ns) (more (rose m p kids) rest) h =
+  any-has_node : (ns : List Node) (f : Trees IR) → Stands plan_shape lp ns f → list_any (λ (q : Node × IR). t q.1) (last_first f) ≡ has_node test (bare (plans_of ex f))
+  any-has_node [] no_roses h = refl
+  any-has_node [] (more (rose m p kids) rest) h = absurd h
+  any-has_node (n ∷ ns) no_roses h = absurd h
+  any-has_node (n ∷ ns) (more (rose m p kids) rest) h =
       any-join (λ (q : Node × IR). t q.1) (last_first rest) ((m, p) ∷ last_first kids)
       ∙ turn (list_any (λ (q : Node × IR). t q.1) (last_first rest)) (t p) (list_any (λ (q : Node × IR). t q.1) (last_first kids))
-      ∙ ap₂ (λ (a b : Bool). a || b) (same p kids h.3) (ap₂ (λ (a b : Bool). a || b) (any-meets (inputs_of p) kids h.3) (any-meets ns rest h.4))
+      ∙ ap₂ (λ (a b : Bool). a || b) (same p kids h.3) (ap₂ (λ (a b : Bool). a || b) (any-has_node (inputs_of p) kids h.3) (any-has_node ns rest h.4))
 
-  pub any-members : (n : Node) → ((u : Trees IR) × StandsOnce plan_shape lp (n ∷ []) u) → list_any (λ (q : Node × IR). t q.1) (nodes_from lp n) ≡ meets test (bare (plans_at lp ex (n ∷ [])))
+  pub any-members : (n : Node) → ((u : Trees IR) × StandsOnce plan_shape lp (n ∷ []) u) → list_any (λ (q : Node × IR). t q.1) (nodes_from lp n) ≡ has_node test (bare (plans_at lp ex (n ∷ [])))
   any-members n h =
       ap (λ (u : Trees IR). list_any (λ (q : Node × IR). t q.1) (last_first u)) (tree_at-is plan_shape lp n h.0 h.1)
-      ∙ any-meets (n ∷ []) h.0 h.1.stands
-      ∙ ap (λ (u : Trees IR). meets test (bare (plans_of ex u))) (sym (trees_at-is plan_shape lp (n ∷ []) h.0 h.1))
+      ∙ any-has_node (n ∷ []) h.0 h.1.stands
+      ∙ ap (λ (u : Trees IR). has_node test (bare (plans_of ex u))) (sym (trees_at-is plan_shape lp (n ∷ []) h.0 h.1))
 
 -- the first plan below a filter is its input
-crossed : (lp : List IR) (ex : List AExpr) (i : Node) (kids : Trees IR) → Stands plan_shape lp (i ∷ []) kids → is_cross_join (slice_get lp i.0) ≡ first_joins_all (bare (plans_of ex kids))
+crossed : (lp : List IR) (ex : List AExpr) (i : Node) (kids : Trees IR) → Stands plan_shape lp (i ∷ []) kids → is_cross_entry (slice_get lp i.0) ≡ first_is_cross_join (bare (plans_of ex kids))
 crossed lp ex i no_roses h = absurd h
-crossed lp ex i (more (rose m p kids) rest) h = ap is_cross_join h.1 ∙ at p
+crossed lp ex i (more (rose m p kids) rest) h = ap is_cross_entry h.1 ∙ at p
   where
-    at : (q : IR) → is_cross_join (Some q) ≡ joins_all (op_at ex q)
+    at : (q : IR) → is_cross_entry (Some q) ≡ is_cross_join (op_at ex q)
     at (Join left right schema left_on right_on options) = refl
     at (Slice j offset len) = refl
     at (Filter j predicate) = refl
@@ -74,7 +74,7 @@ crossed lp ex i (more (rose m p kids) rest) h = ap is_cross_join h.1 ∙ at p
     at (Cache j id hits) = refl
     at Invalid = refl
 
-pub filters-same : (lp : List IR) (ex : List AExpr) (p : IR) (kids : Trees IR) → Stands plan_shape lp (inputs_of p) kids → filters_cross lp p ≡ filters_all_pairs (op_at ex p) (bare (plans_of ex kids))
+pub filters-same : (lp : List IR) (ex : List AExpr) (p : IR) (kids : Trees IR) → Stands plan_shape lp (inputs_of p) kids → filters_cross lp p ≡ is_filter_on_cross (op_at ex p) (bare (plans_of ex kids))
 filters-same lp ex (Filter i predicate) kids h = crossed lp ex i kids h
 filters-same lp ex (Join left right schema left_on right_on options) kids h = refl
 filters-same lp ex (Slice j offset len) kids h = refl

@@ -1,3 +1,4 @@
 -- The definitions that contracts cite.
 pub mod Counts
+pub mod DemandTurns
 pub mod Members

@@ -11,6 +11,7 @@ ghost use Rattle.plan_ir.specs.declared.functions.FunctionIR.TheVariants.{FastCo
 ghost use Rattle.plan_ir.specs.declared.ir.IR.{IR as IRType};
 ghost use Rattle.plan_ir.specs.declared.ir.IR.TheVariants.{DataFrameScan, MapFunction};
 ghost use Rattle.plan_ir.specs.Parts.{IsPlan, StandsPlan, plan_shape};
+ghost use Rattle.plan_meaning.specs.Caches.{AreShared};
 ghost use Rattle.plan_meaning.specs.PlanAt.{plan_at};
 ghost use Rattle.plan_meaning.specs.Relating.{Refines};
 ghost use Rattle.plan_meaning.specs.Steps.{IsValid};
@@ -150,6 +151,7 @@ impl CountStar {
         ensures unanswered { IfOk result (λ answer. IfNone answer (lp.new ≡ lp.old)) }
         ensures counted { OnOk result (plan_at lp.new ex.now node ≡ counted (plan_at lp.old ex.now node)) }
         ensures refines { OnOk result (Refines (plan_at lp.new ex.now node) (plan_at lp.old ex.now node)) }
+        ensures shared { OnOk result (AreShared (plan_at lp.old ex.now node) → AreShared (plan_at lp.new ex.now node)) }
         ensures in_place { OnOk result ((t : Trees IRType) (e : Trees AExprType) → StandsPlan lp.old ex.now node t e → Becomes lp.old lp.new ex.now ex.now node t e) }
         ensures is_plan { OnOk result (IsPlan lp.new ex.now node) }
         ensures memory { IfErr result (λ e. e ≡ OutOfMemory) }

@@ -6,7 +6,7 @@ ghost use Rattle.plan_expr.specs.declared.aexpr.AExpr.{AExpr};
 ghost use Rattle.plan_ir.specs.declared.ir.IR.{IR as IRType};
 ghost use Rattle.plan_ir.specs.Parts.{plan_shape};
 ghost use Rattle.plan_ir.specs.Plans.{bare, op_at, plans_at};
-ghost use Rattle.plan_order.specs.Members.{caches, filtered, filters_all_pairs, filters_cross, groups, is_cross_join as is_cross_entry, meets, meets_op, puts_together, sorts, tells_apart};
+ghost use Rattle.plan_order.specs.Members.{filtered, filters_cross, has_node, has_op, is_cache, is_cross_entry, is_distinct as is_distinct_op, is_filter_on_cross as is_filter_on_cross_op, is_group_by, is_join_or_union, is_sort};
 
 use plan_core::{Arena, Node};
 use plan_ir::{ArenaLpIter, IR};
@@ -36,7 +36,7 @@ fn is_filter_on_cross(entry: &IR, lp: &Arena<IR>) -> bool
 
 /// Whether a node is a join, a union or a concatenation.
 fn is_joined(entry: &IR) -> bool
-    ensures { (ex : List AExpr) → result ≡ puts_together (op_at ex entry.now) }
+    ensures { (ex : List AExpr) → result ≡ is_join_or_union (op_at ex entry.now) }
 {
     matches!(
         entry,
@@ -46,28 +46,28 @@ fn is_joined(entry: &IR) -> bool
 
 /// Whether a node is a cache.
 fn is_cached(entry: &IR) -> bool
-    ensures { (ex : List AExpr) → result ≡ caches (op_at ex entry.now) }
+    ensures { (ex : List AExpr) → result ≡ is_cache (op_at ex entry.now) }
 {
     matches!(entry, IR::Cache { .. })
 }
 
 /// Whether a node tells rows apart.
 fn is_distinct(entry: &IR) -> bool
-    ensures { (ex : List AExpr) → result ≡ tells_apart (op_at ex entry.now) }
+    ensures { (ex : List AExpr) → result ≡ is_distinct_op (op_at ex entry.now) }
 {
     matches!(entry, IR::Distinct { .. })
 }
 
 /// Whether a node is a sort.
 fn is_sorted(entry: &IR) -> bool
-    ensures { (ex : List AExpr) → result ≡ sorts (op_at ex entry.now) }
+    ensures { (ex : List AExpr) → result ≡ is_sort (op_at ex entry.now) }
 {
     matches!(entry, IR::Sort { .. })
 }
 
 /// Whether a node is a group-by.
 fn is_grouped(entry: &IR) -> bool
-    ensures { (ex : List AExpr) → result ≡ groups (op_at ex entry.now) }
+    ensures { (ex : List AExpr) → result ≡ is_group_by (op_at ex entry.now) }
 {
     matches!(entry, IR::GroupBy { .. })
 }
@@ -107,12 +107,12 @@ impl MemberCollector {
     /// Notes a node.
     fn note(&mut self, entry: &IR, lp: &Arena<IR>)
         requires { (i : NodeType) → filtered entry.now ≡ Some i → i.0 < length lp.now }
-        ensures joins_or_unions { (ex : List AExpr) → self.new.has_joins_or_unions ≡ (self.old.has_joins_or_unions || puts_together (op_at ex entry.now)) }
-        ensures cache { (ex : List AExpr) → self.new.has_cache ≡ (self.old.has_cache || caches (op_at ex entry.now)) }
+        ensures joins_or_unions { (ex : List AExpr) → self.new.has_joins_or_unions ≡ (self.old.has_joins_or_unions || is_join_or_union (op_at ex entry.now)) }
+        ensures cache { (ex : List AExpr) → self.new.has_cache ≡ (self.old.has_cache || is_cache (op_at ex entry.now)) }
         ensures filter_with_join_input { self.new.has_filter_with_join_input ≡ (self.old.has_filter_with_join_input || filters_cross lp.now entry.now) }
-        ensures distinct { (ex : List AExpr) → self.new.has_distinct ≡ (self.old.has_distinct || tells_apart (op_at ex entry.now)) }
-        ensures sort { (ex : List AExpr) → self.new.has_sort ≡ (self.old.has_sort || sorts (op_at ex entry.now)) }
-        ensures group_by { (ex : List AExpr) → self.new.has_group_by ≡ (self.old.has_group_by || groups (op_at ex entry.now)) }
+        ensures distinct { (ex : List AExpr) → self.new.has_distinct ≡ (self.old.has_distinct || is_distinct_op (op_at ex entry.now)) }
+        ensures sort { (ex : List AExpr) → self.new.has_sort ≡ (self.old.has_sort || is_sort (op_at ex entry.now)) }
+        ensures group_by { (ex : List AExpr) → self.new.has_group_by ≡ (self.old.has_group_by || is_group_by (op_at ex entry.now)) }
     {
         self.has_joins_or_unions = self.has_joins_or_unions || is_joined(entry);
         self.has_cache = self.has_cache || is_cached(entry);
@@ -127,12 +127,12 @@ impl MemberCollector {
     /// Refuses for want of memory alone, and then all fields are as they were.
     pub fn collect(&mut self, alloc: Global, root: Node, lp: &Arena<IR>) -> Result<(), AllocError>
         requires { (t : Trees IRType) × StandsOnce plan_shape lp.now (root ∷ []) t }
-        ensures joins_or_unions { OnOk result ((ex : List AExpr) → self.new.has_joins_or_unions ≡ (self.old.has_joins_or_unions || meets_op puts_together (bare (plans_at lp.now ex (root ∷ []))))) }
-        ensures cache { OnOk result ((ex : List AExpr) → self.new.has_cache ≡ (self.old.has_cache || meets_op caches (bare (plans_at lp.now ex (root ∷ []))))) }
-        ensures filter_with_join_input { OnOk result ((ex : List AExpr) → self.new.has_filter_with_join_input ≡ (self.old.has_filter_with_join_input || meets filters_all_pairs (bare (plans_at lp.now ex (root ∷ []))))) }
-        ensures distinct { OnOk result ((ex : List AExpr) → self.new.has_distinct ≡ (self.old.has_distinct || meets_op tells_apart (bare (plans_at lp.now ex (root ∷ []))))) }
-        ensures sort { OnOk result ((ex : List AExpr) → self.new.has_sort ≡ (self.old.has_sort || meets_op sorts (bare (plans_at lp.now ex (root ∷ []))))) }
-        ensures group_by { OnOk result ((ex : List AExpr) → self.new.has_group_by ≡ (self.old.has_group_by || meets_op groups (bare (plans_at lp.now ex (root ∷ []))))) }
+        ensures joins_or_unions { OnOk result ((ex : List AExpr) → self.new.has_joins_or_unions ≡ (self.old.has_joins_or_unions || has_op is_join_or_union (bare (plans_at lp.now ex (root ∷ []))))) }
+        ensures cache { OnOk result ((ex : List AExpr) → self.new.has_cache ≡ (self.old.has_cache || has_op is_cache (bare (plans_at lp.now ex (root ∷ []))))) }
+        ensures filter_with_join_input { OnOk result ((ex : List AExpr) → self.new.has_filter_with_join_input ≡ (self.old.has_filter_with_join_input || has_node is_filter_on_cross_op (bare (plans_at lp.now ex (root ∷ []))))) }
+        ensures distinct { OnOk result ((ex : List AExpr) → self.new.has_distinct ≡ (self.old.has_distinct || has_op is_distinct_op (bare (plans_at lp.now ex (root ∷ []))))) }
+        ensures sort { OnOk result ((ex : List AExpr) → self.new.has_sort ≡ (self.old.has_sort || has_op is_sort (bare (plans_at lp.now ex (root ∷ []))))) }
+        ensures group_by { OnOk result ((ex : List AExpr) → self.new.has_group_by ≡ (self.old.has_group_by || has_op is_group_by (bare (plans_at lp.now ex (root ∷ []))))) }
         ensures unchanged { OnErr result (self.new ≡ self.old) }
     {
         for (_, entry) in lp.iter(alloc, root)? {

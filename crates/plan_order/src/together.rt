@@ -12,13 +12,7 @@ use std::alloc::{AllocError, Global};
 fn same_kind(kind: FileScan, other: FileScan) -> bool
     ensures { result ≡ are_same_kind kind other }
 {
-    matches!(
-        (kind, other),
-        (FileScan::Csv, FileScan::Csv)
-            | (FileScan::NDJson, FileScan::NDJson)
-            | (FileScan::Parquet, FileScan::Parquet)
-            | (FileScan::Ipc, FileScan::Ipc)
-    )
+    kind == other
 }
 
 /// Whether all scans are of one format.

@@ -17,7 +17,8 @@ use Rattle.plan_scan.specs.declared.file_scan.FileScan.{FileScan}
 use Rattle.plan_scan.specs.declared.sources.ScanSources.{ScanSources}
 use Rattle.plan_order_laws.specs.Counted.{count_alias, count_of}
 use Rattle.plan_order.proofs.CountLemmas.{plan-is}
-use Rattle.plan_order.proofs.CountStarLemmas.{count-false, count-other, exprs_stand, one-only, selected-alias, selected-count}
+use Rattle.plan_order.proofs.CountStarLemmas.{count-false, count-other, one-only, selected-alias, selected-count}
+use Rattle.plan_order.proofs.NodeExprs.{exprs_stand}
 use Rattle.plan_order.proofs.count_star.count_of.Goals.{in_default-via-in-Select+else-counts_rows, in_default-via-in_default}
 use Rattle.plan_order.proofs.count_star.count_of.Goals as goal
 

@@ -1,6 +1,7 @@
 use Rattle.std.proofs.Common.{◌∙◌, subst, sym}
 use Rattle.plan_ir.specs.Plans.{Plan}
 use Rattle.plan_ir.specs.declared.functions.FunctionIR.TheVariants.{FastCount}
+use Rattle.plan_meaning.specs.Caches.{AreShared}
 use Rattle.plan_meaning.specs.PlanAt.{plan_at}
 use Rattle.plan_meaning.specs.Relating.{Refines}
 use Rattle.plan_scan.specs.declared.file_scan.FileScan.{FileScan}
@@ -8,7 +9,7 @@ use Rattle.plan_scan.specs.declared.sources.ScanSources.{ScanSources}
 use Rattle.plan_order_laws.specs.Counted.{count_alias, count_of}
 use Rattle.plan_order_laws.proofs.CountRefines.{counted_refines, not_countable}
 use Rattle.plan_order.proofs.CountLemmas.{entry-within}
-use Rattle.plan_order.proofs.CountStarLemmas.{counted-by, none-of, put-here, put-in-place, put-plan, put-stands, some-of}
+use Rattle.plan_order.proofs.CountStarLemmas.{counted-by, counted-shared, none-of, put-here, put-in-place, put-plan, put-stands, some-of}
 use Rattle.plan_order.proofs.count_star.CountStar.optimize_plan.Goals as goal
 
 pub put-requires : goal.put-requires
@@ -39,6 +40,10 @@ returns-in_ok-put-in-Some-clause-counted c =
     let placed = c.in_ok-put-in-Some.ensures.placed in
     put-plan c.args.lp.now c.put.new.lp c.args.ex.now c.args.node c.in-Some.function placed.0 c.in_ok-put-in-Some.field-0 placed.1 placed.2 placed.3 c.requires.plan
     ∙ counted-by (plan_at c.args.lp.now c.args.ex.now c.args.node) c.in-Some.function (sym c.in-Some.is ∙ c.in_ok-function.ensures)
+
+pub returns-in_ok-put-in-Some-clause-shared : goal.returns-in_ok-put-in-Some-clause-shared
+returns-in_ok-put-in-Some-clause-shared c = λ s.
+    subst AreShared (sym (returns-in_ok-put-in-Some-clause-counted c)) (counted-shared (plan_at c.args.lp.now c.args.ex.now c.args.node) s)
 
 pub returns-in_ok-put-in-Some-clause-refines : goal.returns-in_ok-put-in-Some-clause-refines
 returns-in_ok-put-in-Some-clause-refines c =

@@ -1,0 +1,7 @@
+use Rattle.std.proofs.Common.{◌≡◌, take, true}
+use Rattle.plan_expr.specs.Exprs.{all_named_at}
+use Rattle.plan_order_laws.specs.Elementwise.{all_summaries}
+use Rattle.plan_order.proofs.demands.all_summaries.Given as goal
+
+abbrev pub invariant-loop-expr : goal.invariant-loop-expr
+invariant-loop-expr l = all_summaries (all_named_at l.ex (take l.expr-index l.exprs)) ≡ true
