@@ -6,6 +6,7 @@ pub mod Inputs
 pub mod Listed
 pub mod Operands
 pub mod Repeats
+pub mod Rounds
 pub mod Sizes
 pub mod Tends
 pub mod Told

@@ -6,12 +6,14 @@ use Rattle.plan_expr.specs.declared.aexpr.AExpr.{AExpr}
 use Rattle.plan_expr.specs.declared.aexpr.AExpr.TheVariants.{Column, Len, Literal}
 use Rattle.plan_expr.specs.Operands.{expr_shape}
 use Rattle.plan_ir.specs.declared.ir.IR.{IR}
-use Rattle.plan_ir.specs.Plans.{bare, plans_of}
+use Rattle.plan_ir.specs.Plans.{Plan, bare, plans_of}
+use Rattle.plan_meaning.specs.Marks.{unmarked}
 use Rattle.plan_pass_laws.specs.Becoming.{AllBecome, Becomes}
 use Rattle.plan_rule.specs.Calls.{plan_of}
 use Rattle.plan_pass_laws.specs.declared.kind.RuleKind.{RuleKind}
 use Rattle.plan_pass_laws.specs.Patterns.{shows_one}
 use Rattle.plan_pass_laws.specs.Settling.{Done, Reworks, WalkedAlone}
+use Rattle.plan_pass_laws.specs.Walks.{Walks}
 use Rattle.plan_reshape.specs.declared.work.Work.{Work}
 
 -- what was done
@@ -29,6 +31,11 @@ asks_rules other = true
 abbrev pub all_own : List Bool → Bool
 all_own [] = true
 all_own (b ∷ bs) = b && all_own bs
+
+-- walks of rules of these kinds, one after another, left the second plan of the first, marks aside
+pub data Rounds : List RuleKind → Plan → Plan → Type 0 where
+  no_round : {ks : List RuleKind} {p : Plan} → Rounds ks p p
+  one_more_round : {ks : List RuleKind} {p r q : Plan} → Rounds ks p r → Walks ks (unmarked r) (unmarked q) → Rounds ks p q
 
 -- calls of rules of these kinds made others of the plans at numbers
 pub record Brought (ks : List RuleKind) (lp new : List IR) (ex grown : List AExpr) (ns : List Node) (f : Trees IR) (e : Trees AExpr) (done : Done) : Type 0 where

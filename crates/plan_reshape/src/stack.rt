@@ -11,7 +11,7 @@ ghost use Rattle.plan_meaning.specs.Steps.{IsValid};
 ghost use Rattle.plan_pass_laws.specs.Becoming.{Becomes};
 ghost use Rattle.plan_pass_laws.specs.Clearing.{Cleared};
 ghost use Rattle.plan_pass_laws.specs.Settling.{Settles};
-ghost use Rattle.plan_reshape.specs.Walking.{all_own};
+ghost use Rattle.plan_reshape.specs.Walking.{Rounds, all_own};
 
 use crate::boxed::BoxedRule;
 use crate::rule::Rule;
@@ -47,6 +47,7 @@ impl StackOptimizer {
         ensures is_plan { OnOk result (IsPlan lp.new ex.new lp_top) }
         ensures in_place { OnOk result ((t : Trees IR) (e : Trees AExpr) → StandsPlan lp.old ex.old lp_top t e → Becomes lp.old lp.new ex.old ex.new lp_top t e) }
         ensures settles { OnOk result ((replaced : ℕ) × Settles (map R.kind_of rules.old) (plan_at lp.old ex.old lp_top) (plan_at lp.new ex.new lp_top) replaced) }
+        ensures rounds { OnOk result (all_own (map R.is_own rules.old) ≡ true → Rounds (map R.kind_of rules.old) (plan_at lp.old ex.old lp_top) (plan_at lp.new ex.new lp_top)) }
         ensures shared { OnOk result (all_own (map R.is_own rules.old) ≡ true → AreShared (plan_at lp.old ex.old lp_top) → AreShared (plan_at lp.new ex.new lp_top)) }
     {
         let (node, _) = self.optimize_loop_counted(alloc, rules, ex, lp, lp_top)?;
@@ -84,6 +85,7 @@ impl StackOptimizer {
         ensures in_place { OnOk result ((t : Trees IR) (e : Trees AExpr) → StandsPlan lp.old ex.old lp_top t e → Becomes lp.old lp.new ex.old ex.new lp_top t e) }
         ensures settles { IfOk result (λ r. Settles (map R.kind_of rules.old) (plan_at lp.old ex.old lp_top) (plan_at lp.new ex.new lp_top) r.1) }
         ensures none { IfOk result (λ r. Cleared (plan_at lp.new ex.new lp_top) (plan_at lp.old ex.old lp_top) → r.1 ≡ 0) }
+        ensures rounds { OnOk result (all_own (map R.is_own rules.old) ≡ true → Rounds (map R.kind_of rules.old) (plan_at lp.old ex.old lp_top) (plan_at lp.new ex.new lp_top)) }
         ensures shared { OnOk result (all_own (map R.is_own rules.old) ≡ true → AreShared (plan_at lp.old ex.old lp_top) → AreShared (plan_at lp.new ex.new lp_top)) }
     {
         let extra: &mut [R] = &mut [];
@@ -114,8 +116,10 @@ impl StackOptimizer {
         ensures is_plan { OnOk result (IsPlan lp.new ex.new lp_top) }
         ensures in_place { OnOk result ((t : Trees IR) (e : Trees AExpr) → StandsPlan lp.old ex.old lp_top t e → Becomes lp.old lp.new ex.old ex.new lp_top t e) }
         ensures settles { IfOk result (λ r. Settles (map ⟦<Rule as OptimizationRule>⟧.kind_of rules.old ++ map ⟦<BoxedRule as OptimizationRule>⟧.kind_of extra.old) (plan_at lp.old ex.old lp_top) (plan_at lp.new ex.new lp_top) r) }
+        ensures rounds { OnOk result (all_own (map ⟦<Rule as OptimizationRule>⟧.is_own rules.old ++ map ⟦<BoxedRule as OptimizationRule>⟧.is_own extra.old) ≡ true → Rounds (map ⟦<Rule as OptimizationRule>⟧.kind_of rules.old ++ map ⟦<BoxedRule as OptimizationRule>⟧.kind_of extra.old) (plan_at lp.old ex.old lp_top) (plan_at lp.new ex.new lp_top)) }
         ensures shared { OnOk result (all_own (map ⟦<Rule as OptimizationRule>⟧.is_own rules.old ++ map ⟦<BoxedRule as OptimizationRule>⟧.is_own extra.old) ≡ true → AreShared (plan_at lp.old ex.old lp_top) → AreShared (plan_at lp.new ex.new lp_top)) }
     {
-        repeat(rules, extra, alloc, ex, lp, lp_top)
+        let replaced = repeat(rules, extra, alloc, ex, lp, lp_top)?;
+        Ok(replaced)
     }
 }

@@ -5,7 +5,6 @@ ghost use Rattle.plan_tree.specs.Stands.{Trees};
 ghost use Rattle.plan_expr.specs.declared.aexpr.AExpr.{AExpr};
 ghost use Rattle.plan_ir.specs.declared.ir.IR.{IR};
 ghost use Rattle.plan_ir.specs.Parts.{IsPlan, StandsPlan};
-ghost use Rattle.plan_meaning.specs.Caches.{AreShared};
 ghost use Rattle.plan_meaning.specs.Marks.{unmarked};
 ghost use Rattle.plan_meaning.specs.PlanAt.{plan_at};
 ghost use Rattle.plan_meaning.specs.Steps.{IsValid};
@@ -13,7 +12,7 @@ ghost use Rattle.plan_pass_laws.specs.Becoming.{Becomes};
 ghost use Rattle.plan_pass_laws.specs.Settling.{Settles};
 ghost use Rattle.plan_pass_laws.specs.Walks.{Walks};
 ghost use Rattle.plan_pass_laws.specs.Weights.{weight};
-ghost use Rattle.plan_reshape.specs.Walking.{WalkedAt, all_own, done_of};
+ghost use Rattle.plan_reshape.specs.Walking.{Rounds, WalkedAt, all_own, done_of};
 
 use crate::exprs::walk_exprs;
 use crate::items::inputs_at;
@@ -82,7 +81,7 @@ pub fn repeat<R: OptimizationRule, Q: OptimizationRule>(
     ensures is_plan { OnOk result (IsPlan lp.new ex.new lp_top) }
     ensures in_place { OnOk result ((t : Trees IR) (e : Trees AExpr) → StandsPlan lp.old ex.old lp_top t e → Becomes lp.old lp.new ex.old ex.new lp_top t e) }
     ensures settles { IfOk result (λ r. Settles (map R.kind_of rules.old ++ map Q.kind_of extra.old) (plan_at lp.old ex.old lp_top) (plan_at lp.new ex.new lp_top) r) }
-    ensures shared { OnOk result (all_own (map R.is_own rules.old ++ map Q.is_own extra.old) ≡ true → AreShared (plan_at lp.old ex.old lp_top) → AreShared (plan_at lp.new ex.new lp_top)) }
+    ensures rounds { OnOk result (all_own (map R.is_own rules.old ++ map Q.is_own extra.old) ≡ true → Rounds (map R.kind_of rules.old ++ map Q.kind_of extra.old) (plan_at lp.old ex.old lp_top) (plan_at lp.new ex.new lp_top)) }
 {
     let _ = (lp.len(), ex.len());
     let mut replaced: u64 = 0;

@@ -1,8 +1,7 @@
 use Rattle.std.proofs.Common.{◌≡◌, ◌≤◌, ◌++◌, length, Bool, map, true}
-use Rattle.plan_meaning.specs.Caches.{AreShared}
 use Rattle.plan_meaning.specs.PlanAt.{plan_at}
 use Rattle.plan_pass_laws.specs.Weights.{weight}
-use Rattle.plan_reshape.specs.Walking.{all_own}
+use Rattle.plan_reshape.specs.Walking.{Rounds, all_own}
 use Rattle.plan_reshape.proofs.Repeats.{Since}
 use Rattle.plan_reshape.proofs.walks.repeat.Given as goal
 
@@ -15,7 +14,7 @@ invariant-loop-work g l = record {
   grows : length l.initial.lp ≤ length l.lp;
   longer : length l.initial.ex ≤ length l.ex;
   since : (changed : Bool) × Since (map g.R.OptimizationRule.kind_of l.initial.rules ++ map g.Q.OptimizationRule.kind_of l.initial.extra) l.initial.lp l.lp l.initial.ex l.ex l.lp_top (record { changed = changed; replaced = l.replaced });
-  shared : all_own (map g.R.OptimizationRule.is_own l.initial.rules ++ map g.Q.OptimizationRule.is_own l.initial.extra) ≡ true → AreShared (plan_at l.initial.lp l.initial.ex l.lp_top) → AreShared (plan_at l.lp l.ex l.lp_top);
+  rounds : all_own (map g.R.OptimizationRule.is_own l.initial.rules ++ map g.Q.OptimizationRule.is_own l.initial.extra) ≡ true → Rounds (map g.R.OptimizationRule.kind_of l.initial.rules ++ map g.Q.OptimizationRule.kind_of l.initial.extra) (plan_at l.initial.lp l.initial.ex l.lp_top) (plan_at l.lp l.ex l.lp_top);
 }
 
 abbrev pub decreases-loop-work : goal.decreases-loop-work
