@@ -6,10 +6,12 @@ use Rattle.plan_tool.specs.declared.status.Status.TheVariants.{OutOfMemory, Writ
 use Rattle.plan_tool.specs.Statuses.{code_of}
 use Rattle.plan_tool.specs.Limits.{byte_limit}
 use Rattle.plan_tool.specs.Causes.{Call, Comes}
+use Rattle.plan_top.specs.Chains.{boxes_of}
 
--- a call that was given a document in memory and an empty sink, and left these bytes of the one and in the other
+-- a call that was given no boxes, a document in memory and an empty sink, and left these bytes of the one and in the other
 abbrev pub call_on : List ℕ → List ℕ → List ℕ → Bool → ℕ → Call
 call_on document left bytes clean faults = record {
+  boxes = boxes_of [] [];
   given = Some document;
   left = Some left;
   held = Some [];

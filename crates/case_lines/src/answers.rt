@@ -44,7 +44,8 @@ fn told(alloc: Global, command: &str, document: &str) -> Result<(u8, MemorySink)
     let words = [String::from_str(alloc, command)?];
     let mut source = MemorySource::new(document.as_bytes(), 4096);
     let mut sink = MemorySink::new(alloc, 100000)?;
-    match run(alloc, &words, &mut source, &mut sink) {
+    let mut extra = Vec::new(alloc);
+    match run(alloc, &words, &mut source, &mut sink, &mut extra) {
         Status::OutOfMemory | Status::WriteFault => Err(AllocError),
         status => Ok((status.code(), sink)),
     }

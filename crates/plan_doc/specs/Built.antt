@@ -3,9 +3,9 @@ use Rattle.std.specs.Prelude.{ℕ, ◌==◌, Bool, Option, Some, None, if◌then
 use Rattle.serde_json.specs.Data.{Data}
 use Rattle.plan_doc_parts.specs.Parts.{◌>>=◌, truth_of}
 
--- flags of passes that are not built: CLUSTER_WITH_COLUMNS, EAGER, FAST_PROJECTION, COLLAPSE_JOINS, CHECK_ORDER_OBSERVE
+-- flags of passes that are not built: CLUSTER_WITH_COLUMNS, COLLAPSE_JOINS
 abbrev pub unbuilt_flags : ℕ
-unbuilt_flags = 118792
+unbuilt_flags = 32776
 
 -- flags without those
 abbrev pub built_flags : ℕ → Option ℕ

@@ -6,9 +6,8 @@ ghost use Rattle.plan_doc.specs.Built.{built_flags as built_flags_of, unshared_o
 use plan_doc_parts::{Fault, truth};
 use serde_json::Value;
 
-/// The sum of the flags whose passes aren't built: CLUSTER_WITH_COLUMNS, EAGER, FAST_PROJECTION, COLLAPSE_JOINS and
-/// CHECK_ORDER_OBSERVE.
-const UNBUILT_FLAGS: u32 = 118792;
+/// The sum of the flags whose passes aren't built: CLUSTER_WITH_COLUMNS and COLLAPSE_JOINS.
+const UNBUILT_FLAGS: u32 = 32776;
 
 /// The same flags, where none of them is of a pass that isn't built; else `Form`. Bits without a name stay.
 pub fn built_flags(flags: u32) -> Result<u32, Fault>

@@ -1,8 +1,11 @@
 //! The program: the words after its name, standard input and output, and the status as exit status.
 #![tactic(auto)]
 
+use plan_reshape::BoxedRule;
+use plan_rule::DropTrueFilter;
 use plan_stream::{ReadSource, WriteSink};
 use plan_tool::{Status, run};
+use std::alloc::AllocError;
 use std::process::ExitCode;
 use std::{env, io};
 
@@ -24,14 +27,23 @@ fn words(rt: &HostRuntime) -> Result<Vec<String>, Status> {
     Ok(words)
 }
 
-/// Runs the command that the words name over standard input and output.
+/// Runs the command that the words name over standard input and output, with one rule beside those that flags ask for: it takes away
+/// filters by the literal true. Refuses for want of memory alone, and then nothing is written.
+fn obey(rt: &HostRuntime, words: &[String]) -> Result<Status, AllocError> {
+    let mut extra = Vec::new(rt.alloc());
+    extra.push(BoxedRule::new(Box::new(rt.alloc(), DropTrueFilter)?))?;
+    let mut source = ReadSource::new(rt.reader());
+    let mut sink = WriteSink::new(io::writer(rt));
+    Ok(run(rt.alloc(), words, &mut source, &mut sink, &mut extra))
+}
+
+/// How the program ends.
 fn answer(rt: &HostRuntime) -> Status {
     match words(rt) {
-        Ok(words) => {
-            let mut source = ReadSource::new(rt.reader());
-            let mut sink = WriteSink::new(io::writer(rt));
-            run(rt.alloc(), words.as_slice(), &mut source, &mut sink)
-        }
+        Ok(words) => match obey(rt, words.as_slice()) {
+            Ok(status) => status,
+            Err(_) => Status::OutOfMemory,
+        },
         Err(status) => status,
     }
 }

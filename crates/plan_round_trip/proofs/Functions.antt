@@ -66,7 +66,7 @@ explode_again d f e =
     gives2 (object_of (codes "columns" ∷ []) d) (λ o. at (codes "columns") names_of o) (λ o cs. functions.Explode cs) f e FunctionAgain
     (λ o cs eo ecs. explode_read cs)
 
-count_read : (from : ScanSources) (kind : FileScan) (alias : Option (List ℕ)) → SourcesAgain from → FunctionAgain (functions.FastCount from kind alias)
+pub count_read : (from : ScanSources) (kind : FileScan) (alias : Option (List ℕ)) → SourcesAgain from → FunctionAgain (functions.FastCount from kind alias)
 unfolding frame_function_data count_data count_of files_of only_of object_of at
 count_read from kind alias e = rw (maybe_name_again alias, kind_again kind, e) refl
 

@@ -30,4 +30,6 @@ mod ListedTrees
 mod ListedScans
 mod ListedJoins
 mod Pruned
+mod ListedRules
+mod ListedOrders
 mod Listed

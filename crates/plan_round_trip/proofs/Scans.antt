@@ -35,13 +35,13 @@ use Rattle.plan_round_trip.proofs.Told.{Told, ToldColumns, ToldReading, ToldSome
 abbrev pub SourcesAgain : ScanSources → Type 0
 SourcesAgain s = Again sources_of sources_data s
 
-buffers_read : (ns : List ℕ) → Again numbers_of (list_data number_data) ns → SourcesAgain (sources.Buffers ns)
+pub buffers_read : (ns : List ℕ) → Again numbers_of (list_data number_data) ns → SourcesAgain (sources.Buffers ns)
 unfolding buffers_of object_of at
 buffers_read ns e =
     let h : numbers_of (list_data number_data ns) ≡ Some ns = e in
     rw h refl
 
-paths_read : (ps : List (List ℕ)) → SourcesAgain (sources.Paths ps)
+pub paths_read : (ps : List (List ℕ)) → SourcesAgain (sources.Paths ps)
 unfolding paths_of object_of at
 paths_read ps =
     let h : names_of (names_data ps) ≡ Some ps = names_again ps in

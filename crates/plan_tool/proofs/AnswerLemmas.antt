@@ -1,5 +1,5 @@
 -- What the program says of bytes, from what it says of their document; and what it leaves in the sink.
-use Rattle.std.proofs.Common.{◌≡◌, ℕ, ◌≤◌, ◌+◌, List, length, true, false, Option, Some, None, Result, Ok, Err, String, refl, sym, ◌∙◌, subst, inl, inr}
+use Rattle.std.proofs.Common.{◌≡◌, ℕ, ◌≤◌, List, length, Option, Some, None, Result, Ok, Err, String, sym, ◌∙◌, subst, inl, inr}
 use Rattle.std.specs.Prelude.{IfSome}
 use Rattle.std.specs.declared.alloc.Global.{Global}
 use Rattle.std.specs.Io.KnownBytes.{Appends}
@@ -11,36 +11,27 @@ use Rattle.plan_tool.specs.declared.stop.Stop.{Stop}
 use Rattle.plan_tool.specs.declared.stop.Stop.TheVariants.{NotJson, Form, Limit, Unfit, Fault, OutOfMemory}
 use Rattle.plan_tool.specs.declared.status.Status.{Status}
 use Rattle.plan_tool.specs.declared.status.Status.TheVariants as answers
-use Rattle.plan_core.specs.declared.flags.OptFlags.{OptFlags}
-use Rattle.plan_core.specs.Flags.{bits_of, has_bits}
 use Rattle.plan_ir.specs.Plans.{Plan}
-use Rattle.plan_meaning.specs.Asked.{sites_of}
-use Rattle.plan_meaning.specs.Caches.{AreShared}
-use Rattle.plan_meaning.specs.Relating.{all, Refines}
-use Rattle.plan_meaning.specs.Steps.{IsValid}
-use Rattle.plan_meaning.proofs.Refining.{refines_refl}
-use Rattle.plan_meaning.specs.Scans.{nodes, scans}
-use Rattle.plan_meaning.specs.Work.{made, kept}
+use Rattle.plan_meaning.specs.Relating.{Refines}
 use Rattle.plan_meaning.specs.Contents.{Fits}
 use Rattle.plan_table.specs.declared.table.Table.{Table}
 use Rattle.plan_value.specs.Shown.{frame_of}
 use Rattle.plan_fit.specs.Sources.{contents_of}
 use Rattle.plan_tool.specs.Rows.{AreRows, Given}
-use Rattle.plan_pruned.specs.Reads.{ReadWithin, tops}
 use Rattle.plan_tool.specs.declared.command.Command.{Command}
 use Rattle.plan_tool.specs.Answers.{AnswersBytes, Refuses, SaysOf, SaysOfDocument}
-use Rattle.plan_tool.specs.Listings.{IsAnswer, pushdown_bit}
+use Rattle.plan_top.specs.Chains.{Boxes}
 use Rattle.plan_tool.specs.Causes.{Call, Follows, IsReadWhole, Finishes, Written, Told, Cut}
 
 -- what is said of a document is said of its bytes
-pub said : (command : Command) (d : Document) (bytes : List ℕ) (r : Result (String Global) Stop) → doc_of bytes ≡ document d → SaysOfDocument command r d → SaysOf command r bytes
-said command d bytes (Ok text) is a = record { asked = d; read = is; answers = a }
-said command d bytes (Err NotJson) is a = absurd a
-said command d bytes (Err Form) is a = absurd a
-said command d bytes (Err Limit) is a = record { asked = d; read = is; deep = a }
-said command d bytes (Err Unfit) is a = record { asked = d; read = is; unfit = a }
-said command d bytes (Err (Fault fault)) is a = record { asked = d; read = is; refused = a }
-said command d bytes (Err OutOfMemory) is a = tt
+pub said : (boxes : Boxes) (command : Command) (d : Document) (bytes : List ℕ) (r : Result (String Global) Stop) → doc_of bytes ≡ document d → SaysOfDocument boxes command r d → SaysOf boxes command r bytes
+said boxes command d bytes (Ok text) is a = record { asked = d; read = is; answers = a }
+said boxes command d bytes (Err NotJson) is a = absurd a
+said boxes command d bytes (Err Form) is a = absurd a
+said boxes command d bytes (Err Limit) is a = record { asked = d; read = is; deep = a }
+said boxes command d bytes (Err Unfit) is a = record { asked = d; read = is; unfit = a }
+said boxes command d bytes (Err (Fault fault)) is a = record { asked = d; read = is; refused = a }
+said boxes command d bytes (Err OutOfMemory) is a = tt
 
 -- the text of a fault was written, or a front of it
 pub told : (limit : ℕ) (command : Command) (c : Call) (bytes text : List ℕ) (fault : PolarsError) (result : Status) → IsReadWhole c → IfSome c.given (λ read. bytes ≡ read) → length bytes ≤ limit → Refuses bytes fault → text ≡ error_text fault → Finishes text c.held c.holds c.clean c.write_faults c.write_faults_now answers.Refused result → Follows limit command c result
@@ -58,7 +49,7 @@ told limit command c bytes text fault result end whole small refuses is (inr b) 
     some (Some read) h = subst (Cut limit command c) h (record { small = small; text = text; says = inr (fault, refuses, is); written = b.written })
 
 -- the text of an answer was written, or a front of it
-pub answered_bytes : (limit : ℕ) (command : Command) (c : Call) (bytes text : List ℕ) (result : Status) → IsReadWhole c → IfSome c.given (λ read. bytes ≡ read) → length bytes ≤ limit → AnswersBytes command bytes text → Finishes text c.held c.holds c.clean c.write_faults c.write_faults_now answers.Done result → Follows limit command c result
+pub answered_bytes : (limit : ℕ) (command : Command) (c : Call) (bytes text : List ℕ) (result : Status) → IsReadWhole c → IfSome c.given (λ read. bytes ≡ read) → length bytes ≤ limit → AnswersBytes c.boxes command bytes text → Finishes text c.held c.holds c.clean c.write_faults c.write_faults_now answers.Done result → Follows limit command c result
 answered_bytes limit command c bytes text result end whole small answers (inl f) =
     subst (Follows limit command c) (sym f.is) ((f.flushed, f.unfailed), end, some c.given whole)
   where
@@ -71,28 +62,6 @@ answered_bytes limit command c bytes text result end whole small answers (inr b)
     some : (o : Option (List ℕ)) → IfSome o (λ read. bytes ≡ read) → IfSome o (Cut limit command c)
     some None h = tt
     some (Some read) h = subst (Cut limit command c) h (record { small = small; text = text; says = inl answers; written = b.written })
-
--- a valid plan is an answer to itself where pushdown isn't asked
-pub given_answer : (flags : OptFlags) (p : Plan) → IsValid p → has_bits (bits_of flags) pushdown_bit ≡ false → IsAnswer flags p p
-given_answer flags p v off = record {
-  refines = refines_refl p v;
-  shared = λ alike. alike;
-  reads = λ on. let u : true ≡ false = sym on ∙ off in cc;
-  work = λ on. let u : true ≡ false = sym on ∙ off in cc;
-  nodes = λ on. let u : true ≡ false = sym on ∙ off in cc;
-  same = λ _. refl;
-}
-
--- what pushdown leaves is an answer where it is asked
-pub pruned_answer : (flags : OptFlags) (q p : Plan) → Refines q p → (AreShared p → AreShared q) → ReadWithin (scans q) (sites_of p) → made q ≤ kept p → nodes q ≤ nodes p + tops p all → has_bits (bits_of flags) pushdown_bit ≡ true → IsAnswer flags q p
-pruned_answer flags q p r shared reads work few on = record {
-  refines = r;
-  shared = shared;
-  reads = λ _. reads;
-  work = λ _. work;
-  nodes = λ _. few;
-  same = λ off. let u : true ≡ false = sym on ∙ off in cc;
-}
 
 -- tables that fit a plan fit what refines it
 pub fits_answered : (tables : Given) (q p : Plan) → Refines q p → IfSome tables (λ ts. Fits (contents_of ts) p) → IfSome tables (λ ts. Fits (contents_of ts) q)

@@ -12,9 +12,11 @@ use Rattle.plan_tool.specs.declared.command.Command.{Command}
 use Rattle.plan_tool.specs.Answers.{AnswersBytes, Refuses}
 use Rattle.plan_tool.specs.Commands.{Asks, IsUsage}
 use Rattle.plan_tool.specs.Verdicts.{Settles}
+use Rattle.plan_top.specs.Chains.{Boxes}
 
--- what a call was given and left: the bytes that the source had and has left, the bytes that the sink held and holds, whether it is clean, and the counts of faults before and after
+-- what a call was given and left: rules in boxes, the bytes that the source had and has left, the bytes that the sink held and holds, whether it is clean, and the counts of faults before and after
 pub record Call : Type 0 where
+  pub boxes : Boxes
   pub given : Option (List ℕ)
   pub left : Option (List ℕ)
   pub held : Option (List ℕ)
@@ -45,7 +47,7 @@ IsFlushed c = (c.clean ≡ true) × (c.write_faults_now ≡ c.write_faults)
 pub record Written (limit : ℕ) (command : Command) (c : Call) (bytes : List ℕ) : Type 0 where
   pub small : length bytes ≤ limit
   pub text : List ℕ
-  pub answers : AnswersBytes command bytes text
+  pub answers : AnswersBytes c.boxes command bytes text
   pub written : Appends c.held c.holds text
 
 -- the bytes are a document whose plan is refused, and the text of its fault was written whole
@@ -59,7 +61,7 @@ pub record Told (limit : ℕ) (c : Call) (bytes : List ℕ) : Type 0 where
 pub record Cut (limit : ℕ) (command : Command) (c : Call) (bytes : List ℕ) : Type 0 where
   pub small : length bytes ≤ limit
   pub text : List ℕ
-  pub says : AnswersBytes command bytes text ⊎ ((fault : PolarsError) × Refuses bytes fault × (text ≡ error_text fault))
+  pub says : AnswersBytes c.boxes command bytes text ⊎ ((fault : PolarsError) × Refuses bytes fault × (text ≡ error_text fault))
   pub written : GrowsByFront c.held c.holds text
 
 -- when each answer of a command comes, and what it leaves; the bytes are spoken of where the source tells them

@@ -1,12 +1,13 @@
 //! From a document to the text that lists its optimised plan.
-ghost use Rattle.std.specs.Prelude.{◌≡◌, [], ◌∷◌, IfOk, OnOk, option_copied, string_bytes};
+ghost use Rattle.std.specs.Prelude.{◌≡◌, map, IfOk, OnOk, option_copied, string_bytes};
 ghost use Rattle.plan_ir.specs.Parts.{IsPlan};
-ghost use Rattle.plan_ir.specs.Plans.{bare, plans_at};
 ghost use Rattle.plan_meaning.specs.PlanAt.{plan_at};
 ghost use Rattle.plan_meaning.specs.Steps.{IsValid};
 ghost use Rattle.plan_tool.specs.declared.command.Command.TheVariants.{Optimize};
 ghost use Rattle.plan_tool.specs.Answers.{SaysOfDocument};
-ghost use Rattle.plan_tool.specs.Listings.{answered, IsAnswer, IsListOf};
+ghost use Rattle.plan_tool.specs.Listings.{IsAnswer, IsListOf};
+ghost use Rattle.plan_top.specs.Chains.{boxes_of, passes};
+ghost use Rattle.plan_top.specs.Trails.{Chained};
 
 use crate::check::check;
 use crate::rows::{check_tables, rows_of};
@@ -16,33 +17,47 @@ use plan_core::{Arena, Node, OptFlags};
 use plan_doc::Document;
 use plan_expr::AExpr;
 use plan_ir::IR;
-use plan_prune::ProjectionPushDown;
+use plan_reshape::{BoxedRule, OptimizationRule};
 use plan_table::Table;
 use plan_text::write_listing;
+use plan_top::{Trail, optimize_with};
 use std::alloc::{AllocError, Global};
 
-/// Changes a plan in place by the passes that the flags start. Refuses for want of memory alone, and then nothing is known of
-/// what stands at `root`.
-#[tactic(auto, using(crate::proofs::AnswerLemmas::given_answer, crate::proofs::AnswerLemmas::pruned_answer))]
+/// Changes the plan at `root`, which has no fault, by the passes that the flags start, and by the boxes. Refuses for want of memory
+/// alone, and then nothing is known of what stands at `root`.
 fn optimize(
     alloc: Global,
     root: Node,
     flags: OptFlags,
+    shared: bool,
     lp: &mut Arena<IR>,
     ex: &mut Arena<AExpr>,
+    extra: &mut Vec<BoxedRule>,
 ) -> Result<(), AllocError>
-    requires stands { IsPlan lp.old ex.old root }
     requires valid { IsValid (plan_at lp.old ex.old root) }
     ensures stands { OnOk result (IsPlan lp.new ex.new root) }
-    ensures promised { OnOk result (IsAnswer flags (plan_at lp.new ex.new root) (plan_at lp.old ex.old root)) }
-    ensures exact { OnOk result (
-        bare (plans_at lp.new ex.new (root ∷ []))
-        ≡ answered flags (bare (plans_at lp.old ex.old (root ∷ [])))) }
+    ensures chained { OnOk result (Chained flags (boxes_of (map ⟦<BoxedRule as OptimizationRule>⟧.kind_of extra.old.items) (map ⟦<BoxedRule as OptimizationRule>⟧.is_own extra.old.items)) (passes flags (plan_at lp.old ex.old root)) lp.old lp.new ex.old ex.new root) }
+    ensures promised { OnOk result (IsAnswer flags (boxes_of (map ⟦<BoxedRule as OptimizationRule>⟧.kind_of extra.old.items) (map ⟦<BoxedRule as OptimizationRule>⟧.is_own extra.old.items)) (plan_at lp.new ex.new root) (plan_at lp.old ex.old root)) }
+    ensures kinds { map ⟦<BoxedRule as OptimizationRule>⟧.kind_of extra.new.items ≡ map ⟦<BoxedRule as OptimizationRule>⟧.kind_of extra.old.items }
+    ensures owns { map ⟦<BoxedRule as OptimizationRule>⟧.is_own extra.new.items ≡ map ⟦<BoxedRule as OptimizationRule>⟧.is_own extra.old.items }
 {
-    if !flags.projection_pushdown() {
-        return Ok(());
+    let mut scratch = Vec::new(alloc);
+    let mut trail = Trail::new(alloc);
+    match optimize_with(
+        alloc,
+        root,
+        flags,
+        shared,
+        lp,
+        ex,
+        &mut scratch,
+        extra,
+        &mut trail,
+    ) {
+        Ok(_) => Ok(()),
+        // The plan was checked.
+        Err(_) => Err(AllocError),
     }
-    ProjectionPushDown::new().optimize(alloc, root, lp, ex)
 }
 
 /// The text that lists a plan, what its scans read, and rows. The given columns move into the plan that is listed.
@@ -63,9 +78,15 @@ fn list(
     Ok(write_listing(alloc, &plan, reads.as_slice(), rows)?)
 }
 
-/// The text that lists the optimised plan of a document, or why there is none.
-pub fn listing(alloc: Global, document: Document) -> Result<String, Stop>
-    ensures { SaysOfDocument Optimize result document }
+/// The text that lists the optimised plan of a document, or why there is none. The boxes are called too.
+pub fn listing(
+    alloc: Global,
+    document: Document,
+    extra: &mut Vec<BoxedRule>,
+) -> Result<String, Stop>
+    ensures says { SaysOfDocument (boxes_of (map ⟦<BoxedRule as OptimizationRule>⟧.kind_of extra.old.items) (map ⟦<BoxedRule as OptimizationRule>⟧.is_own extra.old.items)) Optimize result document }
+    ensures kinds { map ⟦<BoxedRule as OptimizationRule>⟧.kind_of extra.new.items ≡ map ⟦<BoxedRule as OptimizationRule>⟧.kind_of extra.old.items }
+    ensures owns { map ⟦<BoxedRule as OptimizationRule>⟧.is_own extra.new.items ≡ map ⟦<BoxedRule as OptimizationRule>⟧.is_own extra.old.items }
 {
     let Document {
         root,
@@ -75,10 +96,9 @@ pub fn listing(alloc: Global, document: Document) -> Result<String, Stop>
         shared,
         tables,
     } = document;
-    let _ = shared;
     let _ = check(alloc, root, &lp, &ex)?;
     check_tables(root, &lp, &tables)?;
-    optimize(alloc, root, flags, &mut lp, &mut ex)?;
+    optimize(alloc, root, flags, shared, &mut lp, &mut ex, extra)?;
     let rows = rows_of(alloc, root, &lp, &ex, &tables)?;
     Ok(list(alloc, root, lp, ex, rows.as_ref())?)
 }

@@ -1,11 +1,16 @@
 //! What the chain of passes makes of plans, and the trail that it leaves.
 
+use crate::fakes::call;
 use crate::loops::{read, written};
+use plan_check::check_plan;
 use plan_core::OptFlags;
 use plan_ir::PlanCopy;
+use plan_order::{CountStar, set_order_flags};
 use plan_reshape::BoxedRule;
 use plan_rule::DropTrueFilter;
+use plan_stream::{MemorySink, MemorySource};
 use plan_text::{write_fault, write_plan};
+use plan_tool::run;
 use plan_top::{Pass, Trail, optimize, optimize_with};
 use std::alloc::Global;
 use std::test::Fail;
@@ -58,6 +63,11 @@ const TRUE_LISTED: &str =
 const ALONE: &str =
     r#"{"exprs":[],"nodes":[{"columns":null,"hive":null,"kind":"Parquet","op":"Scan","output":null,"path_column":null,"predicate":null,"reader":[["a","Int64"],["b","Int64"],["c","String"]],"rechunk":false,"row_index":null,"schema":[["a","Int64"],["b","Int64"],["c","String"]],"slice":null,"sources":{"paths":["t"]}}],"root":0}"#;
 
+/// What is written for the scan alone.
+const ALONE_LISTED: &str =
+    r#"{"plan":{"exprs":[],"nodes":[{"columns":null,"hive":null,"kind":"Parquet","op":"Scan","output":null,"path_column":null,"predicate":null,"reader":[["a","Int64"],["b","Int64"],["c","String"]],"rechunk":false,"row_index":null,"schema":[["a","Int64"],["b","Int64"],["c","String"]],"slice":null,"sources":{"paths":["t"]}}],"root":0},"reads":[["a","b","c"]],"rows":null}
+"#;
+
 /// A projection, on a filter, on a sort: each by a column that isn't there.
 const FAULTS: &str =
     r#"{"root":0,"nodes":[{"op":"SimpleProjection","input":1,"columns":[["p","Int64"]]},{"op":"Filter","input":2,"predicate":[0,"col","q"]},{"op":"Sort","input":3,"by":[[3,"col","r"]],"descending":[false],"nulls_last":[false],"maintain_order":false,"slice":null},{"op":"Scan","kind":"Parquet","sources":{"paths":["t"]},"schema":[["a","Int64"],["b","Int64"],["c","String"]],"reader":[["a","Int64"],["b","Int64"],["c","String"]],"hive":null,"output":null,"columns":null,"row_index":null,"path_column":null,"rechunk":false,"slice":null,"predicate":null}],"exprs":[{"op":"BinaryExpr","operator":"Gt","left":1,"right":2},{"op":"Column","name":"q"},{"op":"Literal","type":"Int64","value":1},{"op":"Column","name":"r"}],"flags":0,"shared":false,"tables":null}"#;
@@ -65,6 +75,30 @@ const FAULTS: &str =
 /// The same plan.
 const FAULTS_LISTED: &str =
     r#"{"exprs":[{"left":1,"op":"BinaryExpr","operator":"Gt","right":2},{"name":"q","op":"Column"},{"op":"Literal","type":"Int64","value":1},{"name":"r","op":"Column"}],"nodes":[{"columns":[["p","Int64"]],"input":1,"op":"SimpleProjection"},{"input":2,"op":"Filter","predicate":[0,"col","q"]},{"by":[[3,"col","r"]],"descending":[false],"input":3,"maintain_order":false,"nulls_last":[false],"op":"Sort","slice":null},{"columns":null,"hive":null,"kind":"Parquet","op":"Scan","output":null,"path_column":null,"predicate":null,"reader":[["a","Int64"],["b","Int64"],["c","String"]],"rechunk":false,"row_index":null,"schema":[["a","Int64"],["b","Int64"],["c","String"]],"slice":null,"sources":{"paths":["t"]}}],"root":0}"#;
+
+/// The sum of v for each k, over a scan of k, v and t that is sorted by t.
+const SORTED: &str =
+    r#"{"root":0,"nodes":[{"op":"GroupBy","input":1,"keys":[[0,"col","k"]],"aggs":[[1,"col","v"]],"schema":[["k","Int64"],["v","Int64"]],"maintain_order":false,"slice":null},{"op":"Sort","input":2,"by":[[3,"col","t"]],"descending":[false],"nulls_last":[false],"maintain_order":false,"slice":null},{"op":"Scan","kind":"Parquet","sources":{"paths":["p"]},"schema":[["k","Int64"],["v","Int64"],["t","Int64"]],"reader":[["k","Int64"],["v","Int64"],["t","Int64"]],"hive":null,"output":null,"columns":null,"row_index":null,"path_column":null,"rechunk":false,"slice":null,"predicate":null}],"exprs":[{"op":"Column","name":"k"},{"op":"Agg","kind":"Sum","input":2},{"op":"Column","name":"v"},{"op":"Column","name":"t"}],"flags":0,"shared":false,"tables":null}"#;
+
+/// The same plan.
+const SORTED_LISTED: &str =
+    r#"{"exprs":[{"name":"k","op":"Column"},{"input":2,"kind":"Sum","op":"Agg"},{"name":"v","op":"Column"},{"name":"t","op":"Column"}],"nodes":[{"aggs":[[1,"col","v"]],"input":1,"keys":[[0,"col","k"]],"maintain_order":false,"op":"GroupBy","schema":[["k","Int64"],["v","Int64"]],"slice":null},{"by":[[3,"col","t"]],"descending":[false],"input":2,"maintain_order":false,"nulls_last":[false],"op":"Sort","slice":null},{"columns":null,"hive":null,"kind":"Parquet","op":"Scan","output":null,"path_column":null,"predicate":null,"reader":[["k","Int64"],["v","Int64"],["t","Int64"]],"rechunk":false,"row_index":null,"schema":[["k","Int64"],["v","Int64"],["t","Int64"]],"slice":null,"sources":{"paths":["p"]}}],"root":0}"#;
+
+/// The scan isn't sorted.
+const UNSORTED: &str =
+    r#"{"exprs":[{"name":"k","op":"Column"},{"input":2,"kind":"Sum","op":"Agg"},{"name":"v","op":"Column"}],"nodes":[{"aggs":[[1,"col","v"]],"input":1,"keys":[[0,"col","k"]],"maintain_order":false,"op":"GroupBy","schema":[["k","Int64"],["v","Int64"]],"slice":null},{"columns":null,"hive":null,"kind":"Parquet","op":"Scan","output":null,"path_column":null,"predicate":null,"reader":[["k","Int64"],["v","Int64"],["t","Int64"]],"rechunk":false,"row_index":null,"schema":[["k","Int64"],["v","Int64"],["t","Int64"]],"slice":null,"sources":{"paths":["p"]}}],"root":0}"#;
+
+/// How many rows a text file has.
+const COUNTED: &str =
+    r#"{"root":0,"nodes":[{"op":"Select","input":1,"exprs":[[0,"lit","len"]],"schema":[["len","Int64"]],"options":[true,true,true]},{"op":"Scan","kind":"Csv","sources":{"paths":["t"]},"schema":[["a","Int64"]],"reader":[["a","Int64"]],"hive":null,"output":null,"columns":null,"row_index":null,"path_column":null,"rechunk":false,"slice":null,"predicate":null}],"exprs":[{"op":"Len"}],"flags":0,"shared":false,"tables":null}"#;
+
+/// The same plan.
+const COUNTED_LISTED: &str =
+    r#"{"exprs":[{"op":"Len"}],"nodes":[{"exprs":[[0,"lit","len"]],"input":1,"op":"Select","options":[true,true,true],"schema":[["len","Int64"]]},{"columns":null,"hive":null,"kind":"Csv","op":"Scan","output":null,"path_column":null,"predicate":null,"reader":[["a","Int64"]],"rechunk":false,"row_index":null,"schema":[["a","Int64"]],"slice":null,"sources":{"paths":["t"]}}],"root":0}"#;
+
+/// A count of its rows.
+const COUNT: &str =
+    r#"{"exprs":[],"nodes":[{"function":{"FastCount":{"alias":null,"kind":"Csv","sources":{"paths":["t"]}}},"input":1,"op":"MapFunction"},{"frame":null,"op":"DataFrameScan","output":null,"schema":[]}],"root":0}"#;
 
 /// Plans, flags, and what is left.
 const CASES: &[(&str, u32, &str)] = &[
@@ -75,6 +109,10 @@ const CASES: &[(&str, u32, &str)] = &[
     (GROUPED, 0, GROUPED_DELAYED),
     (GROUPED, 4096, GROUPED_LISTED),
     (TRUE, 0, TRUE_LISTED),
+    (SORTED, 66048, UNSORTED),
+    (SORTED, 65536, SORTED_LISTED),
+    (COUNTED, 1, COUNT),
+    (COUNTED, 0, COUNTED_LISTED),
 ];
 
 /// The text of what is left of the plan of a document.
@@ -155,6 +193,79 @@ fn a_trail_shows_each_pass(rt: HostRuntime) -> Result<(), Fail> {
     let left = trailed(alloc, &mut plan, 0, &mut trail)?;
     let steps = [(Pass::Given, 0, TRUE_LISTED), (Pass::Rules, 1, ALONE)];
     assert!(rt; left.as_str() == ALONE && shows(alloc, &trail, &steps)?);
+    Ok(())
+}
+
+/// Looks at the orders of a plan. Gives whether nothing is left in the stack that was lent.
+fn look_at_orders(alloc: Global, plan: &mut PlanCopy) -> Result<bool, Fail> {
+    let _ = check_plan(alloc, plan.root, &plan.lp, &plan.ex)?;
+    let mut scratch = Vec::new(alloc);
+    set_order_flags(plan.root, &mut plan.lp, &plan.ex, &mut scratch)?;
+    Ok(scratch.is_empty())
+}
+
+/// Puts a bare count in the place of a plan, if it can be counted. Gives whether it did.
+fn count(alloc: Global, plan: &mut PlanCopy) -> Result<bool, Fail> {
+    let _ = check_plan(alloc, plan.root, &plan.lp, &plan.ex)?;
+    let answer = CountStar::new().optimize_plan(alloc, &mut plan.lp, &plan.ex, plan.root)?;
+    Ok(answer.is_some())
+}
+
+#[test]
+fn orders_are_looked_at(rt: HostRuntime) -> Result<(), Fail> {
+    let alloc = rt.alloc();
+    let mut plan = read(alloc, SORTED)?;
+    let is_empty = look_at_orders(alloc, &mut plan)?;
+    let text = written(alloc, &plan)?;
+    assert!(rt; is_empty && text.as_str() == UNSORTED);
+    Ok(())
+}
+
+#[test]
+fn rows_of_files_are_counted(rt: HostRuntime) -> Result<(), Fail> {
+    let alloc = rt.alloc();
+    let mut plan = read(alloc, COUNTED)?;
+    let is_counted = count(alloc, &mut plan)?;
+    let text = written(alloc, &plan)?;
+    assert!(rt; is_counted && text.as_str() == COUNT);
+    Ok(())
+}
+
+#[test]
+fn other_plans_are_not_counted(rt: HostRuntime) -> Result<(), Fail> {
+    let alloc = rt.alloc();
+    let mut plan = read(alloc, TRUE)?;
+    let is_counted = count(alloc, &mut plan)?;
+    let text = written(alloc, &plan)?;
+    assert!(rt; !is_counted && text.as_str() == TRUE_LISTED);
+    Ok(())
+}
+
+/// Calls the command on a document, with boxes.
+fn run_on(
+    alloc: Global,
+    words: &[String],
+    text: &str,
+    sink: &mut MemorySink,
+    extra: &mut Vec<BoxedRule>,
+) -> u8 {
+    let mut source = MemorySource::new(text.as_bytes(), 4096);
+    run(alloc, words, &mut source, sink, extra).code()
+}
+
+/// Calls `optimize` on a document, with the box.
+fn run_with_box(alloc: Global, text: &str, sink: &mut MemorySink) -> Result<u8, Fail> {
+    let words = call(alloc, &["optimize"])?;
+    let mut extra = boxes(alloc)?;
+    Ok(run_on(alloc, words.as_slice(), text, sink, &mut extra))
+}
+
+#[test]
+fn the_command_calls_boxes(rt: HostRuntime) -> Result<(), Fail> {
+    let alloc = rt.alloc();
+    let mut sink = MemorySink::new(alloc, 100000)?;
+    let code = run_with_box(alloc, TRUE, &mut sink)?;
+    assert!(rt; code == 0 && sink.bytes() == ALONE_LISTED.as_bytes());
     Ok(())
 }
 

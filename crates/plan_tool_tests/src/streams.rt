@@ -23,7 +23,8 @@ pub fn answer(
     let words = call(alloc, words)?;
     let mut source = MemorySource::new(bytes, piece.max(1));
     let mut sink = MemorySink::new(alloc, room)?;
-    let status = run(alloc, words.as_slice(), &mut source, &mut sink);
+    let mut extra = Vec::new(alloc);
+    let status = run(alloc, words.as_slice(), &mut source, &mut sink, &mut extra);
     told(alloc, status.code(), sink.bytes())
 }
 
@@ -131,7 +132,8 @@ fn failing(alloc: Global, bytes: &[u8]) -> Result<(String, u64), Fail> {
     let words = call(alloc, &["optimize"])?;
     let mut source = FailingSource { bytes, faults: 0 };
     let mut sink = MemorySink::new(alloc, 100)?;
-    let status = run(alloc, words.as_slice(), &mut source, &mut sink);
+    let mut extra = Vec::new(alloc);
+    let status = run(alloc, words.as_slice(), &mut source, &mut sink, &mut extra);
     let told = told(alloc, status.code(), sink.bytes())?;
     Ok((told, source.faults))
 }
@@ -156,7 +158,8 @@ fn cut(alloc: Global, writes: usize) -> Result<(String, u64), Fail> {
         faults: 0,
         clean: true,
     };
-    let status = run(alloc, words.as_slice(), &mut source, &mut sink);
+    let mut extra = Vec::new(alloc);
+    let status = run(alloc, words.as_slice(), &mut source, &mut sink, &mut extra);
     let told = told(alloc, status.code(), sink.bytes.as_slice())?;
     Ok((told, sink.faults))
 }

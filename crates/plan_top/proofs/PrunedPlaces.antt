@@ -1,13 +1,18 @@
--- A plan that was pruned in place became another over both arenas.
-use Rattle.std.proofs.Common.{◌≡◌, ◌+◌, Bool, List, [], ◌++◌, length, ap, ◌∙◌, subst, append-nil, length-append, arith}
+-- A plan that was pruned in place became another over both arenas, and is what pruning makes of it.
+use Rattle.std.proofs.Common.{◌≡◌, ◌+◌, Bool, true, List, [], ◌∷◌, ◌++◌, length, refl, sym, ap, ◌∙◌, subst, append-nil, length-append, arith}
 use Rattle.std.specs.List.{slice_get}
 use Rattle.plan_core.specs.declared.arena.Node.{Node}
 use Rattle.plan_tree.proofs.Frames.{slice_get-append}
+use Rattle.plan_tree.specs.Rose.{Roses}
 use Rattle.plan_expr.specs.declared.aexpr.AExpr.{AExpr}
 use Rattle.plan_expr.specs.Operands.{expr_shape}
 use Rattle.plan_expr.specs.Leaves.{Name}
 use Rattle.plan_ir.specs.declared.ir.IR.{IR}
-use Rattle.plan_ir.specs.Parts.{roots_in}
+use Rattle.plan_ir.specs.Parts.{IsPlan, roots_in}
+use Rattle.plan_ir.specs.Plans.{Op, bare, plans_at}
+use Rattle.plan_meaning.specs.PlanAt.{one_plan, plan_at}
+use Rattle.plan_meaning.proofs.Validity.{one_stands}
+use Rattle.plan_pruned.specs.Pruned.{pruned, pruned_all}
 use Rattle.plan_pruned.specs.Renamed.{IsLonger}
 use Rattle.plan_prune_parts.specs.Left.{StandFor}
 use Rattle.plan_prune.specs.Prunes.{PrunesAt}
@@ -34,3 +39,9 @@ pruned_in_place top asked lp new ex grown root longer prunes t e s =
         within = made.2;
       };
     }
+
+pub pruned_is : (lp new : List IR) (ex grown : List AExpr) (root : Node) → IsPlan lp ex root → bare (plans_at new grown (root ∷ [])) ≡ pruned_all true [] (bare (plans_at lp ex (root ∷ []))) → plan_at new grown root ≡ pruned true [] (plan_at lp ex root)
+pruned_is lp new ex grown root plan is = ap one_plan is ∙ one
+  where
+    one : one_plan (pruned_all true [] (bare (plans_at lp ex (root ∷ [])))) ≡ pruned true [] (plan_at lp ex root)
+    one = subst (λ (ps : Roses Node Op). one_plan (pruned_all true [] (bare ps)) ≡ pruned true [] (one_plan (bare ps))) (sym (one_stands lp ex root plan).3) refl

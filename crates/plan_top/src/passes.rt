@@ -1,21 +1,23 @@
 //! The passes of the chain, each with what it does to the plan at a number, and the steps that show what they leave.
-ghost use Rattle.std.specs.Prelude.{◌≡◌, ◌++◌, ◌∷◌, ◌≤◌, [], List, IfErr, IfOk, OnErr, OnOk, length, map};
+ghost use Rattle.std.specs.Prelude.{◌≡◌, ◌++◌, ◌∷◌, ◌≤◌, ◌&&◌, ◌||◌, true, false, [], IfErr, IfOk, OnErr, OnOk, List, length, map};
 ghost use Rattle.plan_core.specs.declared.error.PolarsError.TheVariants.{OutOfMemory};
 ghost use Rattle.plan_core.specs.declared.flags.OptFlags.{OptFlags as Flags};
+ghost use Rattle.plan_expr.specs.declared.aexpr.AExpr.{AExpr as AExprType};
 ghost use Rattle.plan_ir.specs.Parts.{IsPlan};
+ghost use Rattle.plan_meaning.specs.Counting.{meets_count};
 ghost use Rattle.plan_meaning.specs.PlanAt.{plan_at};
 ghost use Rattle.plan_meaning.specs.Steps.{IsValid};
-ghost use Rattle.plan_pass_laws.specs.declared.kind.RuleKind.{RuleKind};
 ghost use Rattle.plan_top.specs.declared.trail.Pass.TheVariants as passes_of;
 ghost use Rattle.plan_top.specs.declared.trail.Step.{Step as StepType};
-ghost use Rattle.plan_top.specs.Chains.{prune_passes};
-ghost use Rattle.plan_top.specs.Trails.{Chained, Passed, Shows, Trailed};
+ghost use Rattle.plan_top.specs.Chains.{Boxes, asks_members as are_members_asked, boxes_of, is_counting, is_ordering, is_pruning};
+ghost use Rattle.plan_top.specs.Trails.{KeptIf, Passed, RanIf, Shows};
 
 use crate::trail::{Pass, Step, Trail};
 use plan_copy::renumbered;
 use plan_core::{Arena, Node, OptFlags, PolarsResult};
 use plan_expr::AExpr;
 use plan_ir::IR;
+use plan_order::{CountStar, MemberCollector, set_order_flags};
 use plan_prune::ProjectionPushDown;
 use plan_reshape::{BoxedRule, OptimizationRule, Rule, StackOptimizer};
 use plan_rule::{DelayRechunk, FlattenUnionRule, SimpleProjectionAndCollapse};
@@ -44,65 +46,149 @@ pub fn keep_step(
     Ok(())
 }
 
-/// Prunes the plan at `root`. Refuses for want of memory alone.
+/// The same where the pass ran; else the trail stays. Refuses for want of memory alone, and then the trail is as it was.
+pub fn keep_if(
+    alloc: Global,
+    ran: bool,
+    pass: Pass,
+    root: Node,
+    lp: &Arena<IR>,
+    ex: &Arena<AExpr>,
+    trail: &mut Trail,
+) -> Result<(), AllocError>
+    requires { IsPlan lp.now ex.now root }
+    ensures kept { OnOk result (KeptIf ran (record { pass = pass; plan = plan_at lp.now ex.now root; replaced = 0 }) trail.old trail.new) }
+    ensures grows { length trail.old ≤ length trail.new }
+{
+    if ran {
+        keep_step(alloc, pass, 0, root, lp, ex, trail)?;
+    }
+    Ok(())
+}
+
+/// Whether a group-by, a sort or distinct rows were reached.
+fn has_order(members: &MemberCollector) -> bool
+    ensures { result ≡ (members.now.has_group_by || (members.now.has_sort || members.now.has_distinct)) }
+{
+    members.has_group_by || members.has_sort || members.has_distinct
+}
+
+/// Whether flags ask which kinds of nodes a plan has.
+fn asks_members(flags: OptFlags) -> bool
+    ensures { result ≡ are_members_asked flags }
+{
+    !flags.eager() && (flags.contains(OptFlags::COMM_SUBEXPR_ELIM) || flags.projection_pushdown())
+}
+
+/// Whether the orders of the plan at `root` are to be looked at. Refuses for want of memory alone.
+fn is_ordered(
+    alloc: Global,
+    root: Node,
+    flags: OptFlags,
+    lp: &Arena<IR>,
+) -> Result<bool, AllocError>
+    requires { (ex : List AExprType) × IsPlan lp.now ex root }
+    ensures { IfOk result (λ asked. (ex : List AExprType) → IsPlan lp.now ex root → asked ≡ is_ordering flags (plan_at lp.now ex root)) }
+{
+    if !flags.contains(OptFlags::CHECK_ORDER_OBSERVE) {
+        return Ok(false);
+    }
+    if !asks_members(flags) {
+        return Ok(false);
+    }
+    let mut members = MemberCollector::new();
+    members.collect(alloc, root, lp)?;
+    Ok(has_order(&members))
+}
+
+/// Leaves the sorts of the plan at `root` out whose order nothing observes, and marks the nodes that need no order, where the flags ask
+/// for it and the plan has nodes for which order counts. Gives whether it did. `scratch` is empty then, else as it was. Refuses for want
+/// of memory alone.
+pub fn order(
+    alloc: Global,
+    root: Node,
+    flags: OptFlags,
+    lp: &mut Arena<IR>,
+    ex: &Arena<AExpr>,
+    scratch: &mut Vec<Node>,
+) -> Result<bool, AllocError>
+    requires plan { IsPlan lp.old ex.now root }
+    requires valid { IsValid (plan_at lp.old ex.now root) }
+    ensures asked { IfOk result (λ ran. ran ≡ is_ordering flags (plan_at lp.old ex.now root)) }
+    ensures is_plan { OnOk result (IsPlan lp.new ex.now root) }
+    ensures is_valid { OnOk result (IsValid (plan_at lp.new ex.now root)) }
+    ensures passed { IfOk result (λ ran. (boxes : Boxes) → RanIf ran flags boxes passes_of.Order lp.old lp.new ex.now ex.now root 0) }
+    ensures counts { OnOk result (meets_count (plan_at lp.new ex.now root) ≡ meets_count (plan_at lp.old ex.now root)) }
+    ensures emptied { OnOk result (is_ordering flags (plan_at lp.old ex.now root) ≡ true → scratch.new.items ≡ []) }
+    ensures left { OnOk result (is_ordering flags (plan_at lp.old ex.now root) ≡ false → scratch.new ≡ scratch.old) }
+{
+    if !is_ordered(alloc, root, flags, lp)? {
+        return Ok(false);
+    }
+    set_order_flags(root, lp, ex, scratch)?;
+    Ok(true)
+}
+
+/// Prunes the plan at `root`. Gives whether it counts rows. Refuses for want of memory alone.
 fn push_down(
     alloc: Global,
     root: Node,
     lp: &mut Arena<IR>,
     ex: &mut Arena<AExpr>,
-) -> Result<(), AllocError>
+) -> Result<bool, AllocError>
     requires plan { IsPlan lp.old ex.old root }
     requires valid { IsValid (plan_at lp.old ex.old root) }
     ensures is_plan { OnOk result (IsPlan lp.new ex.new root) }
     ensures is_valid { OnOk result (IsValid (plan_at lp.new ex.new root)) }
-    ensures passed { OnOk result ((flags : Flags) (extra : List RuleKind) → Passed flags extra passes_of.Prune lp.old lp.new ex.old ex.new root 0) }
+    ensures passed { OnOk result ((flags : Flags) (boxes : Boxes) → Passed flags boxes passes_of.Prune lp.old lp.new ex.old ex.new root 0) }
+    ensures counts { IfOk result (λ counts. counts ≡ meets_count (plan_at lp.old ex.old root)) }
 {
-    ProjectionPushDown::new().optimize(alloc, root, lp, ex)?;
-    Ok(())
+    let mut pushdown = ProjectionPushDown::new();
+    pushdown.optimize(alloc, root, lp, ex)?;
+    Ok(pushdown.is_count_star)
 }
 
-/// Prunes the plan at `root` where the flags ask for it. Refuses for want of memory alone.
+/// Prunes the plan at `root` where the flags ask for it. Gives whether it was pruned and counts rows. Refuses for want of memory alone.
 pub fn prune(
     alloc: Global,
     root: Node,
     flags: OptFlags,
     lp: &mut Arena<IR>,
     ex: &mut Arena<AExpr>,
-) -> Result<(), AllocError>
+) -> Result<bool, AllocError>
     requires plan { IsPlan lp.old ex.old root }
     requires valid { IsValid (plan_at lp.old ex.old root) }
     ensures is_plan { OnOk result (IsPlan lp.new ex.new root) }
     ensures is_valid { OnOk result (IsValid (plan_at lp.new ex.new root)) }
-    ensures chained { OnOk result ((extra : List RuleKind) → Chained flags extra (prune_passes flags) lp.old lp.new ex.old ex.new root) }
+    ensures passed { OnOk result ((boxes : Boxes) → RanIf (is_pruning flags) flags boxes passes_of.Prune lp.old lp.new ex.old ex.new root 0) }
+    ensures counts { IfOk result (λ counts. counts ≡ is_counting flags (plan_at lp.old ex.old root)) }
 {
     if !flags.projection_pushdown() {
-        return Ok(());
+        return Ok(false);
     }
-    push_down(alloc, root, lp, ex)?;
-    Ok(())
+    let counts = push_down(alloc, root, lp, ex)?;
+    Ok(counts)
 }
 
-/// The same, and appends a step where it pruned.
-pub fn prune_on_trail(
+/// Puts a count of the rows of files in the place of the plan at `root`, where this pass is to run and the plan tells that number alone.
+/// Refuses for want of memory alone.
+pub fn count(
     alloc: Global,
     root: Node,
-    flags: OptFlags,
+    runs: bool,
     lp: &mut Arena<IR>,
-    ex: &mut Arena<AExpr>,
-    trail: &mut Trail,
-) -> Result<(), AllocError>
-    requires plan { IsPlan lp.old ex.old root }
-    requires valid { IsValid (plan_at lp.old ex.old root) }
-    ensures is_plan { OnOk result (IsPlan lp.new ex.new root) }
-    ensures is_valid { OnOk result (IsValid (plan_at lp.new ex.new root)) }
-    ensures trailed { OnOk result ((extra : List RuleKind) → Trailed flags extra (prune_passes flags) lp.old lp.new ex.old ex.new root trail.old trail.new) }
-    ensures grows { length trail.old ≤ length trail.new }
+    ex: &Arena<AExpr>,
+) -> PolarsResult<()>
+    requires plan { IsPlan lp.old ex.now root }
+    requires valid { IsValid (plan_at lp.old ex.now root) }
+    ensures memory { IfErr result (λ e. e ≡ OutOfMemory) }
+    ensures is_plan { OnOk result (IsPlan lp.new ex.now root) }
+    ensures is_valid { OnOk result (IsValid (plan_at lp.new ex.now root)) }
+    ensures passed { OnOk result ((flags : Flags) (boxes : Boxes) → RanIf runs flags boxes passes_of.Count lp.old lp.new ex.now ex.now root 0) }
 {
-    if !flags.projection_pushdown() {
-        return Ok(());
+    if runs {
+        let _ = CountStar::new().optimize_plan(alloc, lp, ex, root)?;
     }
-    push_down(alloc, root, lp, ex)?;
-    keep_step(alloc, Pass::Prune, 0, root, lp, ex, trail)?;
     Ok(())
 }
 
@@ -119,9 +205,10 @@ pub fn settle(
     requires plan { IsPlan lp.old ex.old root }
     requires valid { IsValid (plan_at lp.old ex.old root) }
     ensures memory { IfErr result (λ e. e ≡ OutOfMemory) }
-    ensures boxes { map ⟦<BoxedRule as OptimizationRule>⟧.kind_of extra.new ≡ map ⟦<BoxedRule as OptimizationRule>⟧.kind_of extra.old }
+    ensures kinds { map ⟦<BoxedRule as OptimizationRule>⟧.kind_of extra.new ≡ map ⟦<BoxedRule as OptimizationRule>⟧.kind_of extra.old }
+    ensures owns { map ⟦<BoxedRule as OptimizationRule>⟧.is_own extra.new ≡ map ⟦<BoxedRule as OptimizationRule>⟧.is_own extra.old }
     ensures is_plan { OnOk result (IsPlan lp.new ex.new root) }
-    ensures passed { IfOk result (λ n. Passed flags (map ⟦<BoxedRule as OptimizationRule>⟧.kind_of extra.old) passes_of.Rules lp.old lp.new ex.old ex.new root n) }
+    ensures passed { IfOk result (λ n. Passed flags (boxes_of (map ⟦<BoxedRule as OptimizationRule>⟧.kind_of extra.old) (map ⟦<BoxedRule as OptimizationRule>⟧.is_own extra.old)) passes_of.Rules lp.old lp.new ex.old ex.new root n) }
 {
     let eager = flags.eager();
     if flags.fast_projection() {
@@ -146,27 +233,4 @@ pub fn settle(
         Rule::Flatten(FlattenUnionRule),
     ];
     StackOptimizer.optimize_boxed(alloc, rules, extra, ex, lp, root)
-}
-
-/// The same, and appends a step.
-pub fn settle_on_trail(
-    alloc: Global,
-    root: Node,
-    flags: OptFlags,
-    lp: &mut Arena<IR>,
-    ex: &mut Arena<AExpr>,
-    extra: &mut [BoxedRule],
-    trail: &mut Trail,
-) -> PolarsResult<()>
-    requires plan { IsPlan lp.old ex.old root }
-    requires valid { IsValid (plan_at lp.old ex.old root) }
-    ensures memory { IfErr result (λ e. e ≡ OutOfMemory) }
-    ensures boxes { map ⟦<BoxedRule as OptimizationRule>⟧.kind_of extra.new ≡ map ⟦<BoxedRule as OptimizationRule>⟧.kind_of extra.old }
-    ensures is_plan { OnOk result (IsPlan lp.new ex.new root) }
-    ensures trailed { OnOk result (Trailed flags (map ⟦<BoxedRule as OptimizationRule>⟧.kind_of extra.old) (passes_of.Rules ∷ []) lp.old lp.new ex.old ex.new root trail.old trail.new) }
-    ensures grows { length trail.old ≤ length trail.new }
-{
-    let replaced = settle(alloc, root, flags, lp, ex, extra)?;
-    keep_step(alloc, Pass::Rules, replaced, root, lp, ex, trail)?;
-    Ok(())
 }

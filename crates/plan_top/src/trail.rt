@@ -11,8 +11,12 @@ use std::marker::Model;
 pub enum Pass {
     /// None yet: the plan as it was given.
     Given,
+    /// Sorts whose order nothing observes are left out, and nodes are marked that need no order.
+    Order,
     /// The plan is pruned to the columns that it needs.
     Prune,
+    /// A plan that tells the number of the rows of files alone becomes a count of them.
+    Count,
     /// Rules are called until none of them finds its pattern.
     Rules,
 }

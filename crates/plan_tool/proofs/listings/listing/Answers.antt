@@ -6,11 +6,11 @@ use Rattle.plan_tool.proofs.AnswerLemmas.{fits_answered, rows_given}
 use Rattle.plan_tool.proofs.listings.listing.Goals as goal
 
 pub rows_of-requires-clause-fits : goal.rows_of-requires-clause-fits
-rows_of-requires-clause-fits c =
+rows_of-requires-clause-fits g c =
     fits_answered c.args.document.tables _ _ c.in_ok-optimize.ensures.promised.refines (c.in_ok-check_tables.ensures.frames c.args.document.ex c.in_ok-check.ensures.stands)
 
-pub returns : goal.returns
-returns c =
+pub returns-clause-says : goal.returns-clause-says
+returns-clause-says g c =
     let d = c.args.document in
     let fits = c.in_ok-check_tables.ensures.frames d.ex c.in_ok-check.ensures.stands in
     record {
@@ -21,7 +21,8 @@ returns c =
         nodes = c.optimize.new.lp;
         exprs = c.optimize.new.ex;
         promised = c.in_ok-optimize.ensures.promised;
-        exact = c.in_ok-optimize.ensures.exact;
+        steps = c.in_ok-optimize.ensures.chained.steps;
+        chain = c.in_ok-optimize.ensures.chained.chain;
         rows = c.in_ok-rows.rows;
         answered_rows = c.in_ok-rows.ensures;
         given_rows = rows_given d.tables _ _ c.in_ok-rows.rows c.in_ok-optimize.ensures.promised.refines fits c.in_ok-rows.ensures;

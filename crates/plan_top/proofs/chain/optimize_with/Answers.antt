@@ -1,21 +1,32 @@
-use Rattle.plan_top.proofs.Chaining.{boxes_shared, whole_keeps, whole_reads, whole_refines, whole_trail}
+use Rattle.plan_meaning.specs.PlanAt.{plan_at}
+use Rattle.plan_top.specs.Chains.{in_order, is_pruning, passes}
+use Rattle.plan_top.proofs.Chaining.{asked_passes, trailed_as, whole_keeps, whole_reads, whole_refines, whole_shared, whole_trail}
 use Rattle.plan_top.proofs.chain.optimize_with.Goals as goal
 
 pub returns-clause-trailed : goal.returns-clause-trailed
 returns-clause-trailed g c =
-    let k = c.in_ok-keep_step.ensures.kept in
-    whole_trail c.args.flags _ c.args.root c.args.lp.now c.prune_on_trail.new.lp c.settle_on_trail.new.lp c.args.ex.now c.prune_on_trail.new.ex c.settle_on_trail.new.ex k.0 c.args.trail.now c.keep_step.new.trail c.prune_on_trail.new.trail c.settle_on_trail.new.trail k.1 k.2
-    (c.in_ok-prune_on_trail.ensures.trailed _)
-    (rw c.deref_mut.ensures.value at c.in_ok-settle_on_trail.ensures.trailed)
+    let given = plan_at c.args.lp.now c.args.ex.now c.args.root in
+    let ordered = plan_at c.order.new.lp c.args.ex.now c.args.root in
+    let first = c.in_ok-keep_step.ensures.kept in
+    let last = c.in_ok-keep_step-2.ensures.kept in
+    trailed_as c.args.flags _ c.args.root (in_order c.in_ok-ordered.ordered (is_pruning c.args.flags) c.in_ok-counts.counts) (passes c.args.flags given) c.args.lp.now c.settle.new.lp c.args.ex.now c.settle.new.ex c.args.trail.now c.keep_step-2.new.trail
+    (asked_passes c.args.flags c.in_ok-ordered.ordered c.in_ok-counts.counts given ordered c.in_ok-ordered.ensures.asked c.in_ok-counts.ensures.counts c.in_ok-ordered.ensures.counts)
+    (whole_trail c.args.flags _ c.args.root c.in_ok-ordered.ordered (is_pruning c.args.flags) c.in_ok-counts.counts c.args.lp.now c.order.new.lp c.prune.new.lp c.count.new.lp c.settle.new.lp c.args.ex.now c.prune.new.ex c.settle.new.ex c.in_ok-replaced.replaced first.0 last.0
+    c.args.trail.now c.keep_step.new.trail c.keep_if.new.trail c.keep_if-2.new.trail c.keep_if-3.new.trail c.keep_step-2.new.trail
+    first.1 first.2
+    (c.in_ok-ordered.ensures.passed _) c.in_ok-keep_if.ensures.kept
+    (c.in_ok-counts.ensures.passed _) (rw c.projection_pushdown-pruned.ensures at c.in_ok-keep_if-2.ensures.kept)
+    (c.in_ok-count.ensures.passed c.args.flags _) c.in_ok-keep_if-3.ensures.kept
+    (rw c.deref_mut.ensures.value at c.in_ok-replaced.ensures.passed) last.1 last.2)
 
 pub returns-clause-refines : goal.returns-clause-refines
-returns-clause-refines g c = whole_refines c.args.flags _ c.args.root c.args.lp.now c.settle_on_trail.new.lp c.args.ex.now c.settle_on_trail.new.ex c.in_ok-check_plan.ensures.valid (returns-clause-trailed g c).chained
+returns-clause-refines g c = whole_refines c.args.flags _ c.args.root c.args.lp.now c.settle.new.lp c.args.ex.now c.settle.new.ex _ c.in_ok-check_plan.ensures.valid (returns-clause-trailed g c).chained
 
 pub returns-clause-reads : goal.returns-clause-reads
-returns-clause-reads g c = whole_reads c.args.flags _ c.args.root c.args.lp.now c.settle_on_trail.new.lp c.args.ex.now c.settle_on_trail.new.ex (returns-clause-trailed g c).chained
+returns-clause-reads g c = whole_reads c.args.flags _ c.args.root c.args.lp.now c.settle.new.lp c.args.ex.now c.settle.new.ex c.in_ok-check_plan.ensures.valid (returns-clause-trailed g c).chained
 
 pub returns-clause-keeps : goal.returns-clause-keeps
-returns-clause-keeps g c = whole_keeps c.args.flags _ c.args.root c.args.lp.now c.settle_on_trail.new.lp c.args.ex.now c.settle_on_trail.new.ex (returns-clause-trailed g c).chained
+returns-clause-keeps g c = whole_keeps c.args.flags _ c.args.root c.args.lp.now c.settle.new.lp c.args.ex.now c.settle.new.ex c.in_ok-check_plan.ensures.valid (returns-clause-trailed g c).chained
 
 pub returns-clause-shared : goal.returns-clause-shared
-returns-clause-shared g c = boxes_shared _ _ c.args.flags c.args.root c.args.lp.now c.settle_on_trail.new.lp c.args.ex.now c.settle_on_trail.new.ex (returns-clause-trailed g c).chained
+returns-clause-shared g c = whole_shared c.args.flags _ c.args.root c.args.lp.now c.settle.new.lp c.args.ex.now c.settle.new.ex _ (returns-clause-trailed g c).chained

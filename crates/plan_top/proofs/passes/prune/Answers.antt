@@ -1,14 +1,10 @@
-use Rattle.std.proofs.Common.{◌≡◌, true, false, rules}
+use Rattle.std.proofs.Common.{◌≡◌, Bool, true, rules, sym, subst}
+use Rattle.plan_top.specs.declared.trail.Pass.TheVariants.{Prune}
 use Rattle.plan_top.specs.Chains.{is_pruning}
-use Rattle.plan_top.proofs.Chaining.{pruned_chain, unpruned_chain}
+use Rattle.plan_top.specs.Trails.{RanIf}
 use Rattle.plan_top.proofs.passes.prune.Goals as goal
 
-pub returns-then-not-projection_pushdown-clause-chained : goal.returns-then-not-projection_pushdown-clause-chained
-returns-then-not-projection_pushdown-clause-chained c = λ extra.
-    let off : is_pruning c.args.flags ≡ false = search rules in
-    unpruned_chain c.args.flags extra c.args.root c.args.lp.now c.args.ex.now off
-
-pub returns-clause-chained : goal.returns-clause-chained
-returns-clause-chained c = λ extra.
+pub returns-clause-passed : goal.returns-clause-passed
+returns-clause-passed c = λ boxes.
     let on : is_pruning c.args.flags ≡ true = search rules in
-    pruned_chain c.args.flags extra c.args.root c.args.lp.now c.push_down.new.lp c.args.ex.now c.push_down.new.ex on (c.in_ok-push_down.ensures.passed c.args.flags extra)
+    subst (λ (ran : Bool). RanIf ran c.args.flags boxes Prune c.args.lp.now c.push_down.new.lp c.args.ex.now c.push_down.new.ex c.args.root 0) (sym on) (c.in_ok-counts.ensures.passed c.args.flags boxes)
