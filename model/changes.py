@@ -31,6 +31,8 @@ class Changing(Chance):
             self.one_of(*changes)(self.one_of(*nodes), nodes, exprs)
         if self.chance(0.03):
             document["root"] = self.random.randint(0, len(document["nodes"]))
+        if self.chance(0.05):
+            document["flags"] ^= 1 << self.random.randint(0, 18)
         if document["tables"] and self.chance(0.1):
             self.one_of(document["tables"], self.one_of(*document["tables"])["columns"]).pop()
         return document

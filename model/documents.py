@@ -1,8 +1,11 @@
 """Documents as trees, and trees as documents and as listings."""
 from columns import columns, conditions, reads, scans
+from counts import counted
 from expressions import with_operands
+from orders import checks_orders, ordered
 from pruning import Pruning
 from rows import contents_of, frame_of
+from rules import rules_of, settled
 
 PROJECTION_PUSHDOWN = 1
 PUT_OUT = ("exprs", "by", "keys", "aggs", "left_on", "right_on")
@@ -73,11 +76,22 @@ def plan(root):
     return {"exprs": exprs, "nodes": nodes, "root": 0}
 
 
-def listing(document):
+def optimized(document, extra=()):
+    """What the passes leave of the plan of a valid document, where rules are handed in behind those of its flags."""
+    root, flags = tree(document), document["flags"]
+    if checks_orders(flags, root):
+        root = ordered(root)
+    if flags & PROJECTION_PUSHDOWN:
+        pruning = Pruning()
+        root = pruning.pruned(root, [])
+        if pruning.counts:
+            root = counted(root)
+    return settled(root, [*rules_of(flags), *extra])
+
+
+def listing(document, extra=()):
     """What `optimize` lists of a valid document whose tables fit."""
-    root = tree(document)
-    if document["flags"] & PROJECTION_PUSHDOWN:
-        root = Pruning().pruned(root, [])
+    root = optimized(document, extra)
     rows = None
     if document["tables"] is not None:
         height, values = frame_of(root, contents_of(document["tables"]))

@@ -4,7 +4,8 @@ import random
 from columns import coalesces, columns, file_columns, function_columns, hive_columns, join_columns, made, names, types
 from documents import plan
 from expressions import COMPARISONS, LOGIC, PLAIN, element, is_elementwise, is_list, is_scalar, own_name, type_of
-from form import COALESCE
+from form import AGGREGATES, COALESCE
+from pruning import is_count
 
 TABLE = {
     "a": "Int64", "b": "Int64", "c": "String", "d": "Boolean", "e": "List(Int64)", "f": "String", "g": "Int64",
@@ -17,6 +18,7 @@ NAMES = (
 )
 NUMBERS = (0, 1, 2, 3, -1, 5, 2**63 - 1, -(2**63))
 TEXTS = ("", "x", "y", "é", "xy", "_right")
+HITS = (0, 1, 2, 2**31, 2**32 - 2, 2**32 - 1)
 ORDERS = ("None", "None", "Left", "Right", "LeftRight", "RightLeft")
 KINDS = ("Inner", "Inner", "Left", "Left", "Right", "Full", "Cross", "Semi", "Anti", "IEJoin")
 
@@ -47,11 +49,18 @@ class Drawing(Chance):
     """What is drawn by one seed."""
 
     def document(self):
-        root = self.node(self.random.randint(1, 5))
-        if columns(root) and self.chance(0.6):
+        root = self.count_of_files() if self.chance(0.1) else self.node(self.random.randint(1, 5))
+        if self.chance(0.15):
+            root = self.orders(root)
+        if columns(root) and self.chance(0.05 if is_count(root) else 0.6):
             root = self.projection(root, 3)
         tables = [self.table(*it) for it in SOURCES] if self.chance(0.85) else None
-        return plan(root) | {"flags": self.one_of(1, 1, 1, 0), "shared": False, "tables": tables}
+        return plan(root) | {"flags": self.flags(), "shared": False, "tables": tables}
+
+    def flags(self):
+        """Pruning, checks of orders (for which plans are looked at without pruning too), fast projections and eager runs."""
+        shares = ((1, 0.75), (65536, 0.6), (512, 0.3), (16384, 0.5), (4096, 0.2))
+        return sum(bit for bit, share in shares if self.chance(share))
 
     def table(self, kind, source):
         height = self.random.randint(0, 4)
@@ -175,7 +184,8 @@ class Drawing(Chance):
         kinds = (
             self.filter, self.projection, self.select, self.select, self.added, self.added, self.sort, self.group_by,
             self.group_by, self.distinct, self.union, self.concatenation, self.join, self.join, self.join, self.join,
-            self.function, self.function, self.slice, self.sink, self.cache, self.count,
+            self.function, self.function, self.slice, self.sink, self.cache, self.count, self.needless, self.needless,
+            self.orders, self.orders, self.orders,
         )
         kind = self.one_of(*kinds)
         if kind in (self.union, self.concatenation, self.join):
@@ -191,7 +201,7 @@ class Drawing(Chance):
             "sources": {kind: [self.one_of(*found) for _ in range(several)]}, "hive": None, "output": None, "columns": None,
             "reader": [[name, TABLE[name]] for name in self.some(TABLE, 0, 5)],
             "row_index": ["i", self.one_of(0, 1, 5, 2**32 - 1)] if self.chance(0.3) else None,
-            "path_column": "p" if self.chance(0.3) else None, "rechunk": self.chance(0.2), "slice": None, "predicate": None,
+            "path_column": "p" if self.chance(0.3) else None, "rechunk": self.chance(0.5), "slice": None, "predicate": None,
         }
         if several and self.chance(0.4):
             hive = [(name, self.one_of(*PLAIN)) for name in self.some([*names(node["reader"]), "y", "m"], 0, 3)]
@@ -217,12 +227,42 @@ class Drawing(Chance):
         return {"op": "DataFrameScan", "inputs": [], "frame": self.one_of(0, 1, 2), "schema": schema, "output": output}
 
     def filter(self, below):
-        predicate = self.expression(columns(below), "Boolean", 2)
+        return self.filter_by(below, self.expression(columns(below), "Boolean", 2))
+
+    def filter_by(self, below, predicate):
         return {"op": "Filter", "inputs": [below], "predicate": self.put_out(predicate)}
+
+    def true_filter(self, below):
+        """A filter by the literal true, or by what is nearly that."""
+        predicate = {"op": "Literal", "type": "Boolean", "value": self.one_of(True, True, True, False, None)}
+        return self.filter_by(below, {"op": "Alias", "input": predicate, "name": "x"} if self.chance(0.1) else predicate)
 
     def projection(self, below, most=None):
         if columns(below):
             return {"op": "SimpleProjection", "inputs": [below], "columns": self.some(columns(below), 1, most)}
+
+    def same_columns(self, below):
+        """A projection to all columns, most in the order that they have."""
+        there = columns(below)
+        if there:
+            kept = there if self.chance(0.8) else self.some(there, len(there))
+            return {"op": "SimpleProjection", "inputs": [below], "columns": kept}
+
+    def columns_alone(self, below):
+        """A selection of columns, seldom one under an alias, which may be its own name."""
+        exprs = [[{"op": "Column", "name": it}, "col", it] for it in self.some(names(columns(below)), 1, 4)]
+        if not exprs:
+            return None
+        if self.chance(0.2):
+            exprs[0][1:] = "alias", self.one_of(exprs[0][2], "new")
+        return self.of_expressions(below, {"op": "Select", "exprs": exprs, "options": self.marks(3)})
+
+    def needless(self, below):
+        """Nodes over one another, of which rules leave fewer."""
+        kinds = self.one_of((self.cache,), (self.projection, self.same_columns, self.columns_alone, self.true_filter, self.cache))
+        for _ in range(self.one_of(1, 2, 2, 3)):
+            below = self.one_of(*kinds)(below) or below
+        return below
 
     def of_expressions(self, below, told):
         node = {"inputs": [below]} | told
@@ -236,12 +276,44 @@ class Drawing(Chance):
         exprs = [self.put_out({"op": "Len"})]
         return self.of_expressions(below, {"op": "Select", "exprs": exprs, "options": self.marks(3)})
 
+    def count_of_files(self):
+        """A count of the rows of files, or of what is nearly that."""
+        below = self.files_like(self.scan(), self.one_of(0, 1, 2, 3))
+        if self.chance(0.1):
+            below = self.one_of(self.filter, self.slice, self.cache, self.sink, self.needless, self.added)(below) or below
+        if self.chance(0.1):
+            return self.select(below)
+        if self.chance(0.1):
+            expr = {"op": "Alias", "input": {"op": "Len"}, "name": "n"}
+            return self.of_expressions(below, {"op": "Select", "exprs": [self.put_out(expr)], "options": self.marks(3)})
+        return self.count(below)
+
+    def files_like(self, scan, levels):
+        """A scan with the columns of another, mostly of the same format, or a union of such, some of them below projections."""
+        if levels == 0:
+            there = len(scan["sources"].get("paths", scan["sources"].get("buffers")))
+            kind, found = next((kind, range(3) if kind == "buffers" else PATHS) for kind in scan["sources"])
+            if self.chance(0.05):
+                kind, found = self.one_of(("paths", PATHS), ("buffers", range(3)))
+            count = there if scan["hive"] is not None or self.chance(0.5) else self.one_of(0, 1, 2)
+            of = {"kind": self.one_of("Csv", "Ipc", "Parquet")} if self.chance(0.05) else {}
+            return scan | {"sources": {kind: [self.one_of(*found) for _ in range(count)]}} | of
+        inputs = [self.files_like(scan, self.one_of(0, 0, levels - 1)) for _ in range(self.one_of(1, 1, 2, 3))]
+        if columns(scan):
+            inputs = [self.all_columns(it) if self.chance(0.2) else it for it in inputs]
+        marks = dict(zip(("maintain_order", "parallel", "rechunk", "flattened"), self.marks(4)))
+        return {"op": "Union", "inputs": inputs, "slice": None} | marks
+
+    def all_columns(self, below):
+        """A projection to all columns."""
+        return {"op": "SimpleProjection", "inputs": [below], "columns": columns(below)}
+
     def added(self, below):
         exprs = self.several(columns(below), 0, 4)
         return self.of_expressions(below, {"op": "HStack", "exprs": exprs, "options": self.marks(3)})
 
     def group_by(self, below):
-        keys = self.several(columns(below), 1, 2)
+        keys = self.several(columns(below), 1, self.one_of(1, 1, 2))
         aggs = [it for it in self.several(columns(below), 0, 3, True) if it[2] not in [key[2] for key in keys]]
         told = {"op": "GroupBy", "keys": keys, "aggs": aggs, "maintain_order": self.chance(0.6), "slice": None}
         return self.of_expressions(below, told)
@@ -262,6 +334,48 @@ class Drawing(Chance):
             "maintain_order": self.chance(0.5), "keep": self.one_of("First", "Last", "Any", "None"),
         }
 
+    def orders(self, below):
+        """Sorts over one another and over nodes that look at the order of rows, or pass it on where it isn't demanded."""
+        kinds = (
+            self.sort, self.sort, self.sort, self.sort_by_sum, self.distinct, self.distinct, self.row_by_row, self.row_by_row,
+            self.summed, self.summed, self.sorted_inputs, self.one_of(self.filter, self.slice, self.sink, self.same_columns),
+        )
+        for kind in self.some(kinds, 2, 4):
+            below = kind(below) or below
+        return below
+
+    def sort_by_sum(self, below):
+        """A sort by a key that isn't made of each row alone."""
+        key = {"op": "Agg", "kind": "Sum", "input": self.leaf(columns(below), "Int64", True)}
+        return self.sort(below) | {"by": [self.put_out(key)], "descending": [False], "nulls_last": [True]}
+
+    def row_by_row(self, below):
+        """A selection or an addition, mostly of what is made of each row alone."""
+        there = columns(below)
+        exprs = [self.expression(there, self.any_type(there), self.one_of(0, 0, 1, 2), self.chance(0.85)) for _ in range(2)]
+        found = list({named[2]: named for named in map(self.put_out, exprs)}.values())
+        return self.of_expressions(below, {"op": self.one_of("Select", "HStack"), "exprs": found, "options": self.marks(3)})
+
+    def summed(self, below):
+        """A grouping, mostly in any order, by columns, with aggregates of what is made of each row alone."""
+        there = columns(below)
+        keys = [self.put_out(self.expression(there, self.plain_type(there), self.one_of(0, 0, 0, 1), self.chance(0.9)))]
+        aggs = {}
+        for kind in self.some(AGGREGATES, 0, self.one_of(1, 1, 2)):
+            of = "Int64" if kind == "Sum" else self.plain_type(there)
+            expr = {"op": "Agg", "kind": kind, "input": self.expression(there, of, self.one_of(0, 0, 1), self.chance(0.9))}
+            named = self.put_out({"op": "Alias", "input": expr, "name": "s"} if self.chance(0.1) else expr)
+            if named[2] != keys[0][2]:
+                aggs[named[2]] = named
+        told = {"keys": keys, "aggs": list(aggs.values()), "maintain_order": self.chance(0.2), "slice": None}
+        return self.of_expressions(below, {"op": "GroupBy"} | told)
+
+    def sorted_inputs(self, below):
+        """A union of a few inputs, most of them sorted."""
+        inputs = [self.sort(below) if self.chance(0.7) else below for _ in range(self.one_of(1, 2, 2, 3))]
+        marks = dict(zip(("maintain_order", "parallel", "rechunk", "flattened"), self.marks(4)))
+        return {"op": "Union", "inputs": inputs, "slice": None} | marks
+
     def slice(self, below):
         offset, count = self.one_of(0, 1, 2, -1, -2, -9, 9), self.one_of(0, 1, 2, 3, 9)
         return {"op": "Slice", "inputs": [below], "offset": offset, "len": count}
@@ -270,14 +384,24 @@ class Drawing(Chance):
         return {"op": "Sink", "inputs": [below]}
 
     def cache(self, below):
-        return {"op": "Cache", "inputs": [below], "id": self.one_of(0, 1, 2), "hits": self.one_of(0, 1, 2)}
+        return {"op": "Cache", "inputs": [below], "id": self.one_of(0, 1, 2), "hits": self.one_of(*HITS)}
 
     def union(self, levels):
-        below = self.node(levels - 1)
-        kinds = (self.filter, self.slice, self.cache, lambda it: it)
+        return self.union_of(self.node(levels - 1))
+
+    def union_of(self, below):
+        """A union of inputs that have the columns of a node, some of them unions in turn."""
+        kinds = (self.filter, self.slice, self.cache, self.union_of, self.same_rows, lambda it: it)
         inputs = [self.one_of(*kinds)(below) for _ in range(self.one_of(1, 2, 2, 3))]
         marks = dict(zip(("maintain_order", "parallel", "rechunk", "flattened"), self.marks(4)))
         return {"op": "Union", "inputs": inputs, "slice": None} | marks
+
+    def same_rows(self, below):
+        """A union below what rules leave out."""
+        below = self.union_of(below)
+        if columns(below) and self.chance(0.5):
+            return {"op": "SimpleProjection", "inputs": [below], "columns": columns(below)}
+        return self.true_filter(below)
 
     def concatenation(self, levels):
         inputs, schema = [], []
