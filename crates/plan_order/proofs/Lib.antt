@@ -3,6 +3,7 @@ mod CodeTurns
 mod CountLemmas
 mod CountStarLemmas
 mod DemandLemmas
+mod Demanded
 mod EndLemmas
 mod MemberLemmas
 mod NodeExprs

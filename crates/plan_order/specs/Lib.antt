@@ -2,3 +2,4 @@
 pub mod Counts
 pub mod DemandTurns
 pub mod Members
+pub mod Undemanded

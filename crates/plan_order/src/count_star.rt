@@ -98,6 +98,27 @@ fn count_of(
     }
 }
 
+/// Adds a frame without columns, and gives its number and the function over it. Refuses for want of memory alone, and then nothing
+/// changes.
+fn add_empty(
+    alloc: Global,
+    function: &FunctionIR,
+    lp: &mut Arena<IR>,
+) -> Result<(Node, IR), AllocError>
+    ensures number { IfOk result (λ made. made.0.0 ≡ length lp.old) }
+    ensures copied { IfOk result (λ made. made.1 ≡ MapFunction made.0 function.now) }
+    ensures added { OnOk result (lp.new ≡ lp.old ++ DataFrameScan None [] None ∷ []) }
+    ensures unchanged { OnErr result (lp.new ≡ lp.old) }
+{
+    let function = function.try_clone(alloc)?;
+    let input = lp.add(IR::DataFrameScan {
+        df: None,
+        schema: Schema::new(alloc),
+        output_schema: None,
+    })?;
+    Ok((input, IR::MapFunction { input, function }))
+}
+
 /// Puts a function at `node`, over a frame without columns at a new number, and gives what stands at `node` then. Refuses for want of
 /// memory alone, and then nothing changes.
 fn put(
@@ -110,17 +131,9 @@ fn put(
     ensures placed { IfOk result (λ entry. (m : NodeType) × (m.0 ≡ length lp.old) × (entry ≡ MapFunction m function) × (lp.new ≡ slice_set (lp.old ++ DataFrameScan None [] None ∷ []) node.0 entry)) }
     ensures unchanged { OnErr result (lp.new ≡ lp.old) }
 {
-    let copy = function.try_clone(alloc)?;
-    let input = lp.add(IR::DataFrameScan {
-        df: None,
-        schema: Schema::new(alloc),
-        output_schema: None,
-    })?;
+    let (input, entry) = add_empty(alloc, &function, lp)?;
     lp.put(node, IR::MapFunction { input, function });
-    Ok(IR::MapFunction {
-        input,
-        function: copy,
-    })
+    Ok(entry)
 }
 
 /// Puts a count of the rows of files in the place of a plan that tells that alone.

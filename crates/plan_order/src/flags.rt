@@ -12,6 +12,7 @@ ghost use Rattle.plan_meaning.specs.Scans.{Keeps};
 ghost use Rattle.plan_meaning.specs.Steps.{IsValid};
 ghost use Rattle.plan_pass_laws.specs.Becoming.{Becomes};
 ghost use Rattle.plan_order_laws.specs.Demands.{ordered};
+ghost use Rattle.plan_order.specs.Undemanded.{Reordered};
 
 use crate::demands::top_demand;
 use crate::marks::{idle_input, stack_inputs, tell};
@@ -22,7 +23,8 @@ use std::alloc::AllocError;
 
 /// Leaves out the sorts of the plan at `root` whose order nothing observes, and sets the marks of unions and distinct rows to
 /// whether it is observed. The node of a sort's input moves up to the number of the sort. A valid plan is refined, with its scans,
-/// and its rows are counted where they were. `scratch` is used as a stack: whatever it held, it is empty afterwards. Refuses for want
+/// and its rows are counted where they were; each part of it whose order nothing observes gives the frames that it gave, with their
+/// rows in any order. `scratch` is used as a stack: whatever it held, it is empty afterwards. Refuses for want
 /// of memory alone, and then the plan stays as it is.
 pub fn set_order_flags(
     root: Node,
@@ -33,6 +35,7 @@ pub fn set_order_flags(
     requires { IsPlan lp.old ex.now root }
     ensures ordered { OnOk result (plan_at lp.new ex.now root ≡ ordered true (plan_at lp.old ex.now root)) }
     ensures refines { OnOk result (IsValid (plan_at lp.old ex.now root) → Refines (plan_at lp.new ex.now root) (plan_at lp.old ex.now root)) }
+    ensures reordered { OnOk result (IsValid (plan_at lp.old ex.now root) → Reordered true (plan_at lp.new ex.now root) (plan_at lp.old ex.now root)) }
     ensures keeps { OnOk result (IsValid (plan_at lp.old ex.now root) → Keeps (plan_at lp.new ex.now root) (plan_at lp.old ex.now root)) }
     ensures counts { OnOk result (IsValid (plan_at lp.old ex.now root) → meets_count (plan_at lp.new ex.now root) ≡ meets_count (plan_at lp.old ex.now root)) }
     ensures shared { OnOk result (AreShared (plan_at lp.old ex.now root) → AreShared (plan_at lp.new ex.now root)) }

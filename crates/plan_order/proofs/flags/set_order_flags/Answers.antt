@@ -16,6 +16,8 @@ use Rattle.plan_meaning.specs.Scans.{Keeps}
 use Rattle.plan_order_laws.proofs.OrderedRefines.{ordered_refines}
 use Rattle.plan_order_laws.proofs.OrderScans.{counts_ordered, ordered_keeps}
 use Rattle.plan_order_laws.proofs.SharedOrder.{shared_ordered}
+use Rattle.plan_order.specs.Undemanded.{Reordered}
+use Rattle.plan_order.proofs.Demanded.{ordered_reordered}
 use Rattle.plan_order.proofs.CodeTurns.{told_turn, dropped_turn, input_of}
 use Rattle.plan_order.proofs.NodeExprs.{node_exprs}
 use Rattle.plan_order.proofs.EndLemmas.{in_place, known_all, plan_ordered, still_plan, any_trees}
@@ -114,6 +116,11 @@ pub returns-clause-refines : goal.returns-clause-refines
 returns-clause-refines c = λ v.
     let p : Plan = plan_at c.args.lp.now c.args.ex.now c.args.root in
     subst (λ (q : Plan). Refines q p) (sym (returns-clause-ordered c)) (ordered_refines p v)
+
+pub returns-clause-reordered : goal.returns-clause-reordered
+returns-clause-reordered c = λ v.
+    let p : Plan = plan_at c.args.lp.now c.args.ex.now c.args.root in
+    subst (λ (q : Plan). Reordered true q p) (sym (returns-clause-ordered c)) (ordered_reordered true p v)
 
 pub returns-clause-keeps : goal.returns-clause-keeps
 returns-clause-keeps c = λ v.
