@@ -11,7 +11,8 @@ ghost use Rattle.plan_reshape.specs.Walking.{all_own};
 ghost use Rattle.plan_top.specs.Chains.{ReadsAsked, boxes_of, is_ordering, is_pruning, passes};
 ghost use Rattle.plan_top.specs.Trails.{Chained, RefusedFor, Trailed};
 
-use crate::passes::{count, keep_if, keep_step, order, prune, settle};
+use crate::passes::{count, order, prune, settle};
+use crate::steps::{count_step, keep_step, order_step, prune_step};
 use crate::trail::{Pass, Trail};
 use plan_check::check_plan;
 use plan_core::{Arena, Node, OptFlags, PolarsResult};
@@ -43,7 +44,7 @@ pub fn optimize(
     ex: &mut Arena<AExpr>,
     scratch: &mut Vec<Node>,
 ) -> PolarsResult<Node>
-    ensures refused { IfErr result (λ e. RefusedFor e lp.old ex.old root ((lp.new ≡ lp.old) × (ex.new ≡ ex.old))) }
+    ensures refused { IfErr result (λ e. RefusedFor e lp.old ex.old root ((lp.new ≡ lp.old) × (ex.new ≡ ex.old) × (scratch.new ≡ scratch.old))) }
     ensures valid { OnOk result ((schema : Columns) × (typed lp.old ex.old root ≡ Ok schema)) }
     ensures node { IfOk result (λ r. r ≡ root) }
     ensures is_plan { OnOk result (IsPlan lp.new ex.new root) }
@@ -82,7 +83,7 @@ pub fn optimize_with(
     trail: &mut Trail,
 ) -> PolarsResult<Node>
     ensures refused { IfErr result (λ e. RefusedFor e lp.old ex.old root (trail.new ≡ trail.old)) }
-    ensures unchanged { OnErr result (length trail.new ≡ length trail.old → (lp.new ≡ lp.old) × (ex.new ≡ ex.old) × (trail.new ≡ trail.old) × (extra.new.items ≡ extra.old.items)) }
+    ensures unchanged { OnErr result (length trail.new ≡ length trail.old → (lp.new ≡ lp.old) × (ex.new ≡ ex.old) × (trail.new ≡ trail.old) × (scratch.new ≡ scratch.old) × (extra.new.items ≡ extra.old.items)) }
     ensures valid { OnOk result ((schema : Columns) × (typed lp.old ex.old root ≡ Ok schema)) }
     ensures node { IfOk result (λ r. r ≡ root) }
     ensures is_plan { OnOk result (IsPlan lp.new ex.new root) }
@@ -99,13 +100,9 @@ pub fn optimize_with(
     let _ = shared;
     let _ = check_plan(alloc, root, lp, ex)?;
     keep_step(alloc, Pass::Given, 0, root, lp, ex, trail)?;
-    let ordered = order(alloc, root, flags, lp, ex, scratch)?;
-    keep_if(alloc, ordered, Pass::Order, root, lp, ex, trail)?;
-    let counts = prune(alloc, root, flags, lp, ex)?;
-    let pruned = flags.projection_pushdown();
-    keep_if(alloc, pruned, Pass::Prune, root, lp, ex, trail)?;
-    count(alloc, root, counts, lp, ex)?;
-    keep_if(alloc, counts, Pass::Count, root, lp, ex, trail)?;
+    let _ = order_step(alloc, root, flags, lp, ex, scratch, trail)?;
+    let counts = prune_step(alloc, root, flags, lp, ex, trail)?;
+    count_step(alloc, root, counts, lp, ex, trail)?;
     let replaced = settle(alloc, root, flags, lp, ex, extra)?;
     keep_step(alloc, Pass::Rules, replaced, root, lp, ex, trail)?;
     Ok(root)

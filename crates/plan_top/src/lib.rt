@@ -3,6 +3,7 @@
 
 mod chain;
 mod passes;
+mod steps;
 mod trail;
 
 pub use chain::{optimize, optimize_with};

@@ -1,5 +1,5 @@
-//! The passes of the chain, each with what it does to the plan at a number, and the steps that show what they leave.
-ghost use Rattle.std.specs.Prelude.{◌≡◌, ◌++◌, ◌∷◌, ◌≤◌, ◌&&◌, ◌||◌, true, false, [], IfErr, IfOk, OnErr, OnOk, List, length, map};
+//! The passes of the chain, each with what it does to the plan at a number.
+ghost use Rattle.std.specs.Prelude.{◌≡◌, ◌||◌, true, false, [], IfErr, IfOk, OnErr, OnOk, List, map};
 ghost use Rattle.plan_core.specs.declared.error.PolarsError.TheVariants.{OutOfMemory};
 ghost use Rattle.plan_core.specs.declared.flags.OptFlags.{OptFlags as Flags};
 ghost use Rattle.plan_expr.specs.declared.aexpr.AExpr.{AExpr as AExprType};
@@ -8,12 +8,9 @@ ghost use Rattle.plan_meaning.specs.Counting.{meets_count};
 ghost use Rattle.plan_meaning.specs.PlanAt.{plan_at};
 ghost use Rattle.plan_meaning.specs.Steps.{IsValid};
 ghost use Rattle.plan_top.specs.declared.trail.Pass.TheVariants as passes_of;
-ghost use Rattle.plan_top.specs.declared.trail.Step.{Step as StepType};
 ghost use Rattle.plan_top.specs.Chains.{Boxes, asks_members as are_members_asked, boxes_of, is_counting, is_ordering, is_pruning};
-ghost use Rattle.plan_top.specs.Trails.{KeptIf, Passed, RanIf, Shows};
+ghost use Rattle.plan_top.specs.Trails.{Passed, RanIf};
 
-use crate::trail::{Pass, Step, Trail};
-use plan_copy::renumbered;
 use plan_core::{Arena, Node, OptFlags, PolarsResult};
 use plan_expr::AExpr;
 use plan_ir::IR;
@@ -22,49 +19,6 @@ use plan_prune::ProjectionPushDown;
 use plan_reshape::{BoxedRule, OptimizationRule, Rule, StackOptimizer};
 use plan_rule::{DelayRechunk, FlattenUnionRule, SimpleProjectionAndCollapse};
 use std::alloc::{AllocError, Global};
-
-/// Appends a step that shows the plan at `root` as what a pass left. Refuses for want of memory alone, and then the trail is as it was.
-pub fn keep_step(
-    alloc: Global,
-    pass: Pass,
-    replaced: u64,
-    root: Node,
-    lp: &Arena<IR>,
-    ex: &Arena<AExpr>,
-    trail: &mut Trail,
-) -> Result<(), AllocError>
-    requires { IsPlan lp.now ex.now root }
-    ensures kept { OnOk result ((step : StepType) × (trail.new ≡ trail.old ++ step ∷ []) × Shows step (record { pass = pass; plan = plan_at lp.now ex.now root; replaced = replaced })) }
-    ensures unchanged { OnErr result (trail.new ≡ trail.old) }
-{
-    let plan = renumbered(alloc, root, lp, ex)?;
-    trail.push(Step {
-        pass,
-        plan,
-        replaced,
-    })?;
-    Ok(())
-}
-
-/// The same where the pass ran; else the trail stays. Refuses for want of memory alone, and then the trail is as it was.
-pub fn keep_if(
-    alloc: Global,
-    ran: bool,
-    pass: Pass,
-    root: Node,
-    lp: &Arena<IR>,
-    ex: &Arena<AExpr>,
-    trail: &mut Trail,
-) -> Result<(), AllocError>
-    requires { IsPlan lp.now ex.now root }
-    ensures kept { OnOk result (KeptIf ran (record { pass = pass; plan = plan_at lp.now ex.now root; replaced = 0 }) trail.old trail.new) }
-    ensures grows { length trail.old ≤ length trail.new }
-{
-    if ran {
-        keep_step(alloc, pass, 0, root, lp, ex, trail)?;
-    }
-    Ok(())
-}
 
 /// Whether a group-by, a sort or distinct rows were reached.
 fn has_order(members: &MemberCollector) -> bool
@@ -187,7 +141,7 @@ pub fn count(
     ensures passed { OnOk result ((flags : Flags) (boxes : Boxes) → RanIf runs flags boxes passes_of.Count lp.old lp.new ex.now ex.now root 0) }
 {
     if runs {
-        let _ = CountStar::new().optimize_plan(alloc, lp, ex, root)?;
+        drop(CountStar::new().optimize_plan(alloc, lp, ex, root)?);
     }
     Ok(())
 }

@@ -6,17 +6,20 @@ use Rattle.plan_top.proofs.chain.optimize_with.Goals as goal
 pub returns-clause-trailed : goal.returns-clause-trailed
 returns-clause-trailed g c =
     let given = plan_at c.args.lp.now c.args.ex.now c.args.root in
-    let ordered = plan_at c.order.new.lp c.args.ex.now c.args.root in
+    let ordered = plan_at c.order_step.new.lp c.args.ex.now c.args.root in
     let first = c.in_ok-keep_step.ensures.kept in
     let last = c.in_ok-keep_step-2.ensures.kept in
-    trailed_as c.args.flags _ c.args.root (in_order c.in_ok-ordered.ordered (is_pruning c.args.flags) c.in_ok-counts.counts) (passes c.args.flags given) c.args.lp.now c.settle.new.lp c.args.ex.now c.settle.new.ex c.args.trail.now c.keep_step-2.new.trail
-    (asked_passes c.args.flags c.in_ok-ordered.ordered c.in_ok-counts.counts given ordered c.in_ok-ordered.ensures.asked c.in_ok-counts.ensures.counts c.in_ok-ordered.ensures.counts)
-    (whole_trail c.args.flags _ c.args.root c.in_ok-ordered.ordered (is_pruning c.args.flags) c.in_ok-counts.counts c.args.lp.now c.order.new.lp c.prune.new.lp c.count.new.lp c.settle.new.lp c.args.ex.now c.prune.new.ex c.settle.new.ex c.in_ok-replaced.replaced first.0 last.0
-    c.args.trail.now c.keep_step.new.trail c.keep_if.new.trail c.keep_if-2.new.trail c.keep_if-3.new.trail c.keep_step-2.new.trail
+    let order = c.in_ok-order_step.ensures in
+    let prune = c.in_ok-counts.ensures in
+    let count = c.in_ok-count_step.ensures in
+    trailed_as c.args.flags _ c.args.root (in_order c.in_ok-order_step.field-0 (is_pruning c.args.flags) c.in_ok-counts.counts) (passes c.args.flags given) c.args.lp.now c.settle.new.lp c.args.ex.now c.settle.new.ex c.args.trail.now c.keep_step-2.new.trail
+    (asked_passes c.args.flags c.in_ok-order_step.field-0 c.in_ok-counts.counts given ordered order.asked prune.counts order.counts)
+    (whole_trail c.args.flags _ c.args.root c.in_ok-order_step.field-0 (is_pruning c.args.flags) c.in_ok-counts.counts c.args.lp.now c.order_step.new.lp c.prune_step.new.lp c.count_step.new.lp c.settle.new.lp c.args.ex.now c.prune_step.new.ex c.settle.new.ex c.in_ok-replaced.replaced first.0 last.0
+    c.args.trail.now c.keep_step.new.trail c.order_step.new.trail c.prune_step.new.trail c.count_step.new.trail c.keep_step-2.new.trail
     first.1 first.2
-    (c.in_ok-ordered.ensures.passed _) c.in_ok-keep_if.ensures.kept
-    (c.in_ok-counts.ensures.passed _) (rw c.projection_pushdown-pruned.ensures at c.in_ok-keep_if-2.ensures.kept)
-    (c.in_ok-count.ensures.passed c.args.flags _) c.in_ok-keep_if-3.ensures.kept
+    (order.passed _) order.kept
+    (prune.passed _) prune.kept
+    (count.passed c.args.flags _) count.kept
     (rw c.deref_mut.ensures.value at c.in_ok-replaced.ensures.passed) last.1 last.2)
 
 pub returns-clause-refines : goal.returns-clause-refines
