@@ -100,6 +100,30 @@ const COUNTED_LISTED: &str =
 const COUNT: &str =
     r#"{"exprs":[],"nodes":[{"function":{"FastCount":{"alias":null,"kind":"Csv","sources":{"paths":["t"]}}},"input":1,"op":"MapFunction"},{"frame":null,"op":"DataFrameScan","output":null,"schema":[]}],"root":0}"#;
 
+/// How many rows two text files have, the second one projected, as n.
+const TURNS: &str =
+    r#"{"root":0,"nodes":[{"op":"Select","input":1,"exprs":[[0,"alias","n"]],"schema":[["n","Int64"]],"options":[true,true,true]},{"op":"Union","inputs":[2,3],"maintain_order":true,"parallel":false,"rechunk":false,"flattened":false,"slice":null},{"op":"Scan","kind":"Csv","sources":{"paths":["t"]},"schema":[["a","Int64"]],"reader":[["a","Int64"]],"hive":null,"output":null,"columns":null,"row_index":null,"path_column":null,"rechunk":false,"slice":null,"predicate":null},{"op":"SimpleProjection","input":4,"columns":[["a","Int64"]]},{"op":"Scan","kind":"Csv","sources":{"paths":["u"]},"schema":[["a","Int64"],["b","Int64"]],"reader":[["a","Int64"],["b","Int64"]],"hive":null,"output":null,"columns":null,"row_index":null,"path_column":null,"rechunk":false,"slice":null,"predicate":null}],"exprs":[{"op":"Len"}],"flags":0,"shared":false,"tables":null}"#;
+
+/// A count of their rows.
+const TURNS_COUNT: &str =
+    r#"{"exprs":[],"nodes":[{"function":{"FastCount":{"alias":"n","kind":"Csv","sources":{"paths":["t","u"]}}},"input":1,"op":"MapFunction"},{"frame":null,"op":"DataFrameScan","output":null,"schema":[]}],"root":0}"#;
+
+/// How many rows of a text file pass a filter.
+const PASSING: &str =
+    r#"{"root":0,"nodes":[{"op":"Select","input":1,"exprs":[[0,"lit","len"]],"schema":[["len","Int64"]],"options":[true,true,true]},{"op":"Filter","input":2,"predicate":[1,"lit","literal"]},{"op":"Scan","kind":"Csv","sources":{"paths":["t"]},"schema":[["a","Int64"]],"reader":[["a","Int64"]],"hive":null,"output":null,"columns":null,"row_index":null,"path_column":null,"rechunk":false,"slice":null,"predicate":null}],"exprs":[{"op":"Len"},{"op":"Literal","type":"Boolean","value":true}],"flags":0,"shared":false,"tables":null}"#;
+
+/// The same plan.
+const PASSING_LISTED: &str =
+    r#"{"exprs":[{"op":"Len"},{"op":"Literal","type":"Boolean","value":true}],"nodes":[{"exprs":[[0,"lit","len"]],"input":1,"op":"Select","options":[true,true,true],"schema":[["len","Int64"]]},{"input":2,"op":"Filter","predicate":[1,"lit","literal"]},{"columns":null,"hive":null,"kind":"Csv","op":"Scan","output":null,"path_column":null,"predicate":null,"reader":[["a","Int64"]],"rechunk":false,"row_index":null,"schema":[["a","Int64"]],"slice":null,"sources":{"paths":["t"]}}],"root":0}"#;
+
+/// Plans, whether they are counted, and what is left.
+const COUNTS: &[(&str, bool, &str)] = &[
+    (COUNTED, true, COUNT),
+    (TURNS, true, TURNS_COUNT),
+    (PASSING, false, PASSING_LISTED),
+    (TRUE, false, TRUE_LISTED),
+];
+
 /// Plans, flags, and what is left.
 const CASES: &[(&str, u32, &str)] = &[
     (FILTERED, 1, NARROWED),
@@ -204,11 +228,20 @@ fn look_at_orders(alloc: Global, plan: &mut PlanCopy) -> Result<bool, Fail> {
     Ok(scratch.is_empty())
 }
 
-/// Puts a bare count in the place of a plan, if it can be counted. Gives whether it did.
+/// Puts a bare count in the place of a plan, if it can be counted.
 fn count(alloc: Global, plan: &mut PlanCopy) -> Result<bool, Fail> {
     let _ = check_plan(alloc, plan.root, &plan.lp, &plan.ex)?;
     let answer = CountStar::new().optimize_plan(alloc, &mut plan.lp, &plan.ex, plan.root)?;
-    Ok(answer.is_some())
+    let is_counted = answer.is_some();
+    drop(answer);
+    Ok(is_counted)
+}
+
+/// Whether counting the rows of files leaves this of the plan of a document, and says whether it did.
+fn is_left(alloc: Global, text: &str, counted: bool, left: &str) -> Result<bool, Fail> {
+    let mut plan = read(alloc, text)?;
+    let is_counted = count(alloc, &mut plan)?;
+    Ok(is_counted == counted && written(alloc, &plan)?.as_str() == left)
 }
 
 #[test]
@@ -224,20 +257,9 @@ fn orders_are_looked_at(rt: HostRuntime) -> Result<(), Fail> {
 #[test]
 fn rows_of_files_are_counted(rt: HostRuntime) -> Result<(), Fail> {
     let alloc = rt.alloc();
-    let mut plan = read(alloc, COUNTED)?;
-    let is_counted = count(alloc, &mut plan)?;
-    let text = written(alloc, &plan)?;
-    assert!(rt; is_counted && text.as_str() == COUNT);
-    Ok(())
-}
-
-#[test]
-fn other_plans_are_not_counted(rt: HostRuntime) -> Result<(), Fail> {
-    let alloc = rt.alloc();
-    let mut plan = read(alloc, TRUE)?;
-    let is_counted = count(alloc, &mut plan)?;
-    let text = written(alloc, &plan)?;
-    assert!(rt; !is_counted && text.as_str() == TRUE_LISTED);
+    for (text, counted, left) in COUNTS {
+        assert!(rt; is_left(alloc, *text, *counted, *left)?);
+    }
     Ok(())
 }
 

@@ -2,30 +2,10 @@ use Rattle.std.proofs.Common.{Option, subst}
 use Rattle.std.specs.Prelude.{string_bytes}
 use Rattle.plan_table.specs.declared.table.Table.{Table}
 use Rattle.plan_tool.specs.Listings.{IsListOf}
-use Rattle.plan_tool.proofs.AnswerLemmas.{fits_answered, rows_given}
 use Rattle.plan_tool.proofs.listings.listing.Goals as goal
-
-pub rows_of-requires-clause-fits : goal.rows_of-requires-clause-fits
-rows_of-requires-clause-fits g c =
-    fits_answered c.args.document.tables _ _ c.in_ok-optimize.ensures.promised.refines (c.in_ok-check_tables.ensures.frames c.args.document.ex c.in_ok-check.ensures.stands)
 
 pub returns-clause-says : goal.returns-clause-says
 returns-clause-says g c =
-    let d = c.args.document in
-    let fits = c.in_ok-check_tables.ensures.frames d.ex c.in_ok-check.ensures.stands in
-    record {
-      columns = c.in_ok-check.field-0;
-      checked = c.in_ok-check.ensures.checks;
-      fit = c.in_ok-check_tables.ensures.fit d.ex c.in_ok-check.ensures.stands;
-      is = record {
-        nodes = c.optimize.new.lp;
-        exprs = c.optimize.new.ex;
-        promised = c.in_ok-optimize.ensures.promised;
-        steps = c.in_ok-optimize.ensures.chained.steps;
-        chain = c.in_ok-optimize.ensures.chained.chain;
-        rows = c.in_ok-rows.rows;
-        answered_rows = c.in_ok-rows.ensures;
-        given_rows = rows_given d.tables _ _ c.in_ok-rows.rows c.in_ok-optimize.ensures.promised.refines fits c.in_ok-rows.ensures;
-        lists = subst (λ (rows : Option Table). IsListOf c.optimize.new.lp c.optimize.new.ex d.root rows (string_bytes c.in_ok-list.field-0)) c.as_ref.ensures.value c.in_ok-list.ensures;
-      };
-    }
+    let d = c.answered.new.document in
+    c.in_ok-rows.ensures.lists (string_bytes c.in_ok-list.field-0)
+    (subst (λ (rows : Option Table). IsListOf d.lp d.ex d.root rows (string_bytes c.in_ok-list.field-0)) c.as_ref.ensures.value c.in_ok-list.ensures)
