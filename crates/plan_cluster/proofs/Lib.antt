@@ -1,0 +1,19 @@
+-- The lemmas of this crate.
+mod NameLemmas
+mod NextLemmas
+mod RestLemmas
+mod RootLemmas
+mod FoundLemmas
+mod PartLemmas
+mod MeetLemmas
+mod MetLemmas
+mod LookLemmas
+mod Nodes
+mod Chained
+mod Clusters
+mod Picked
+mod Runs
+mod Settling
+mod Sides
+mod Turns
+mod Ends
