@@ -3,11 +3,11 @@ use Rattle.std.specs.Prelude.{ℕ, ◌==◌, Bool, Option, Some, None, if◌then
 use Rattle.serde_json.specs.Data.{Data}
 use Rattle.plan_doc_parts.specs.Parts.{◌>>=◌, truth_of}
 
--- flags of passes that are not built: CLUSTER_WITH_COLUMNS, COLLAPSE_JOINS
+-- the flag of a pass that is not built: COLLAPSE_JOINS
 abbrev pub unbuilt_flags : ℕ
-unbuilt_flags = 32776
+unbuilt_flags = 32768
 
--- flags without those
+-- flags without it
 abbrev pub built_flags : ℕ → Option ℕ
 built_flags n = if bit_and n unbuilt_flags == 0 then Some n else None
 

@@ -6,10 +6,10 @@ ghost use Rattle.plan_doc.specs.Built.{built_flags as built_flags_of, unshared_o
 use plan_doc_parts::{Fault, truth};
 use serde_json::Value;
 
-/// The sum of the flags whose passes aren't built: CLUSTER_WITH_COLUMNS and COLLAPSE_JOINS.
-const UNBUILT_FLAGS: u32 = 32776;
+/// The flag whose pass isn't built: COLLAPSE_JOINS.
+const UNBUILT_FLAGS: u32 = 32768;
 
-/// The same flags, where none of them is of a pass that isn't built; else `Form`. Bits without a name stay.
+/// The same flags, where that of the pass that isn't built is not among them; else `Form`. Bits without a name stay.
 pub fn built_flags(flags: u32) -> Result<u32, Fault>
     ensures { Gives result (built_flags_of flags) }
 {

@@ -25,6 +25,7 @@ pub mod Trees
 pub mod Renumbered
 mod Distinct
 mod ListedParts
+mod ListedClusters
 mod ListedColumns
 mod ListedTrees
 mod ListedScans

@@ -17,6 +17,7 @@ use Rattle.plan_top.specs.declared.trail.Pass.TheVariants as passes_of
 use Rattle.plan_top.specs.Chains.{Boxes, Chain, Follows, Left, kinds_for, passes}
 use Rattle.plan_round_trip.proofs.Renumbered.{NodeOpTold, PlanTold}
 use Rattle.plan_round_trip.proofs.Trees.{all_from, all_from_both}
+use Rattle.plan_round_trip.proofs.ListedClusters.{clustered_told}
 use Rattle.plan_round_trip.proofs.ListedColumns.{valid_columns}
 use Rattle.plan_round_trip.proofs.ListedParts.{ColumnsTold, RestTold, rest_of, whole_of}
 use Rattle.plan_round_trip.proofs.ListedOrders.{counted_told, ordered_told}
@@ -30,6 +31,7 @@ follows_told flags boxes passes_of.Given p q n own h t = subst IsTold (sym h.0) 
 follows_told flags boxes passes_of.Order p q n own h t = subst IsTold (sym h.0) (ordered_told true p t)
 follows_told flags boxes passes_of.Prune p q n own h t = subst IsTold (sym h.0.exact) (pruned_told true [] p t)
 follows_told flags boxes passes_of.Count p q n own h t = subst IsTold (sym h.0) (counted_told p t)
+follows_told flags boxes passes_of.Cluster p q n own h t = subst IsTold (sym h.0.exact) (clustered_told p t)
 follows_told flags boxes passes_of.Rules p q n own h t = rounds_told (kinds_for flags ++ boxes.kinds) p q (h.rounds own) t
 
 chain_told : (flags : OptFlags) (boxes : Boxes) (p : Plan) (ks : List Pass) (steps : List Left) (q : Plan) → boxes.own ≡ true → Chain flags boxes p ks steps q → IsTold p → IsTold q

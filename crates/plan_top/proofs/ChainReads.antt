@@ -1,5 +1,6 @@
 -- What a chain of passes with pruning reads: a bare count reads nothing, and the scans of any other plan what is asked of them.
 use Rattle.std.proofs.Common.{◌≡◌, Bool, true, false, cond, not, ◌&&◌, ◌||◌, List, [], ◌∷◌, ◌++◌, refl, sym, ap, ◌∙◌, subst}
+use Rattle.std.specs.List.{AllByRecursion}
 use Rattle.plan_core.specs.declared.flags.OptFlags.{OptFlags}
 use Rattle.plan_core.specs.Flags.{bits_of, has_bits}
 use Rattle.plan_tree.specs.Rose.{Roses, rose, no_roses, more}
@@ -15,16 +16,16 @@ use Rattle.plan_meaning.specs.Steps.{IsValid}
 use Rattle.plan_meaning.proofs.Keeping.{same_trans}
 use Rattle.plan_pruned.specs.Pruned.{pruned}
 use Rattle.plan_pruned.specs.Reads.{ReadWithin}
-use Rattle.plan_pass_laws.specs.Settling.{Settles}
 use Rattle.plan_order_laws.specs.Counted.{count_plan, countable, counted}
 use Rattle.plan_order_laws.specs.Demands.{basis, drops_order, ordered, unsorted}
 use Rattle.plan_order_laws.proofs.CountRefines.{counted_refines}
 use Rattle.plan_order_laws.proofs.OrderScans.{counts_ordered}
 use Rattle.plan_order_laws.proofs.OrderSites.{basis_given, sites_basis}
 use Rattle.plan_order.specs.Members.{has_op, is_distinct, is_group_by, is_sort}
+use Rattle.plan_top.specs.declared.trail.Pass.{Pass}
 use Rattle.plan_top.specs.declared.trail.Pass.TheVariants as passes_of
-use Rattle.plan_top.specs.Chains.{Boxes, Chain, IsPruned, Left, ReadsAsked, has_order, in_order, is_counting, is_ordering, is_pruning, kinds_for, only_if, passes}
-use Rattle.plan_top.proofs.CountEnds.{count_stays}
+use Rattle.plan_top.specs.Chains.{Boxes, Chain, IsPruned, Left, ReadsAsked, has_order, in_order, is_clustering, is_counting, is_ordering, is_pruning, only_if, passes}
+use Rattle.plan_top.proofs.ChainLaws.{IsLate, all_late_keep, chain_count, chain_keeps}
 use Rattle.plan_top.proofs.CountReads.{counted_is}
 use Rattle.plan_top.proofs.UnsortedPlans.{no_sort_stays}
 
@@ -82,54 +83,49 @@ record Ends (r q : Plan) (ss : List Site) : Type 0 where
   within : countable r ≡ false → ReadWithin (scans q) ss
 
 module _ (flags : OptFlags) (boxes : Boxes) where
-  end_counted : (r q : Plan) (steps : List Left) (ss : List Site) → IsValid r → ReadWithin (scans r) ss → Chain flags boxes r (passes_of.Count ∷ passes_of.Rules ∷ []) steps q → Ends r q ss
-  end_counted r q [] ss v reads h = absurd h
-  end_counted r q (b ∷ []) ss v reads h = absurd h.2
-  end_counted r q (b ∷ d ∷ e ∷ steps) ss v reads h = absurd h.2.2
-  end_counted r q (b ∷ d ∷ []) ss v reads h = record { count = count; within = within }
+  end_counted : (r q : Plan) (ks : List Pass) (steps : List Left) (ss : List Site) → AllByRecursion IsLate ks → IsValid r → ReadWithin (scans r) ss → Chain flags boxes r (passes_of.Count ∷ ks) steps q → Ends r q ss
+  end_counted r q ks [] ss late v reads h = absurd h
+  end_counted r q ks (b ∷ steps) ss late v reads h = record { count = count; within = within }
     where
-      settles : Settles (kinds_for flags ++ boxes.kinds) (counted r) d.plan d.replaced
-      settles = subst (λ (x : Plan). Settles (kinds_for flags ++ boxes.kinds) x d.plan d.replaced) h.1.0 h.2.1.settles
+      rest : Chain flags boxes (counted r) ks steps q
+      rest = subst (λ (x : Plan). Chain flags boxes x ks steps q) h.1.0 h.2
 
       count : countable r ≡ true → q ≡ counted r
       count e =
           let k = (counted_is r).1 e in
           let valid : IsValid (count_plan k.0 k.1) = subst IsValid k.2 (counted_refines r v).valid in
-          let same : d.plan ≡ count_plan k.0 k.1 = count_stays (kinds_for flags ++ boxes.kinds) k.0 k.1 d.plan d.replaced valid (subst (λ (x : Plan). Settles (kinds_for flags ++ boxes.kinds) x d.plan d.replaced) k.2 settles) in
-          sym h.2.2 ∙ same ∙ sym k.2
+          chain_count flags boxes k.0 k.1 ks steps q late valid (subst (λ (x : Plan). Chain flags boxes x ks steps q) k.2 rest) ∙ sym k.2
 
       within : countable r ≡ false → ReadWithin (scans q) ss
       within e =
-          let kept : KeepScans (scans d.plan) (scans r) = subst (λ (x : Plan). KeepScans (scans d.plan) (scans x)) ((counted_is r).0 e) settles.keeps in
-          subst (λ (x : Plan). ReadWithin (scans x) ss) h.2.2 (reads_kept (scans d.plan) (scans r) ss kept reads)
+          let same : counted r ≡ r = (counted_is r).0 e in
+          reads_kept (scans q) (scans r) ss (chain_keeps flags boxes r ks steps q (all_late_keep ks late) v (subst (λ (x : Plan). Chain flags boxes x ks steps q) same rest)) reads
 
-  end_uncounted : (r q : Plan) (steps : List Left) (ss : List Site) → (countable r ≡ true → ⊥) → ReadWithin (scans r) ss → Chain flags boxes r (passes_of.Rules ∷ []) steps q → Ends r q ss
-  end_uncounted r q [] ss never reads h = absurd h
-  end_uncounted r q (d ∷ e ∷ steps) ss never reads h = absurd h.2
-  end_uncounted r q (d ∷ []) ss never reads h = record {
+  end_uncounted : (r q : Plan) (ks : List Pass) (steps : List Left) (ss : List Site) → AllByRecursion IsLate ks → (countable r ≡ true → ⊥) → IsValid r → ReadWithin (scans r) ss → Chain flags boxes r ks steps q → Ends r q ss
+  end_uncounted r q ks steps ss late never v reads h = record {
     count = λ e. absurd (never e);
-    within = λ e. subst (λ (x : Plan). ReadWithin (scans x) ss) h.2 (reads_kept (scans d.plan) (scans r) ss h.1.settles.keeps reads);
+    within = λ e. reads_kept (scans q) (scans r) ss (chain_keeps flags boxes r ks steps q (all_late_keep ks late) v h) reads;
   }
 
   -- from the plan that is pruned
-  pruned_ends : (counting : Bool) (m q : Plan) (steps : List Left) → (counting ≡ false → meets_count m ≡ false) → Chain flags boxes m (passes_of.Prune ∷ (only_if counting passes_of.Count ++ passes_of.Rules ∷ [])) steps q → (r : Plan) × IsPruned m r × Ends r q (sites_of m)
-  pruned_ends counting m q [] none h = absurd h
-  pruned_ends true m q (l ∷ steps) none h = (l.plan, h.1.0, end_counted l.plan q steps (sites_of m) h.1.0.refines.valid h.1.0.reads h.2)
-  pruned_ends false m q (l ∷ steps) none h =
-      (l.plan, h.1.0, end_uncounted l.plan q steps (sites_of m) (λ e. no_count (none refl) (count_met m (subst (λ (x : Plan). countable x ≡ true) h.1.0.exact e))) h.1.0.reads h.2)
+  pruned_ends : (counting : Bool) (ks : List Pass) (m q : Plan) (steps : List Left) → AllByRecursion IsLate ks → (counting ≡ false → meets_count m ≡ false) → Chain flags boxes m (passes_of.Prune ∷ (only_if counting passes_of.Count ++ ks)) steps q → (r : Plan) × IsPruned m r × Ends r q (sites_of m)
+  pruned_ends counting ks m q [] late none h = absurd h
+  pruned_ends true ks m q (l ∷ steps) late none h = (l.plan, h.1.0, end_counted l.plan q ks steps (sites_of m) late h.1.0.refines.valid h.1.0.reads h.2)
+  pruned_ends false ks m q (l ∷ steps) late none h =
+      (l.plan, h.1.0, end_uncounted l.plan q ks steps (sites_of m) late (λ e. no_count (none refl) (count_met m (subst (λ (x : Plan). countable x ≡ true) h.1.0.exact e))) h.1.0.refines.valid h.1.0.reads h.2)
     where
       no_count : meets_count m ≡ false → meets_count m ≡ true → ⊥
       no_count f t = let u : true ≡ false = sym t ∙ f in cc
 
   -- the same of the first steps
-  first_ends : (ordering counting : Bool) (p q : Plan) (steps : List Left) → (counting ≡ false → meets_count (cond ordering (ordered true p) p) ≡ false) → Chain flags boxes p (in_order ordering true counting) steps q → (r : Plan) × IsPruned (cond ordering (ordered true p) p) r × Ends r q (sites_of (cond ordering (ordered true p) p))
-  first_ends ordering counting p q [] none h = absurd h
-  first_ends false counting p q (a ∷ steps) none h = pruned_ends counting p q steps none (subst (λ (x : Plan). Chain flags boxes x (passes_of.Prune ∷ (only_if counting passes_of.Count ++ passes_of.Rules ∷ [])) steps q) h.1.0 h.2)
-  first_ends true counting p q (a ∷ []) none h = absurd h.2
-  first_ends true counting p q (a ∷ b ∷ steps) none h =
+  first_ends : (ordering counting : Bool) (ks : List Pass) (p q : Plan) (steps : List Left) → AllByRecursion IsLate ks → (counting ≡ false → meets_count (cond ordering (ordered true p) p) ≡ false) → Chain flags boxes p (passes_of.Given ∷ (only_if ordering passes_of.Order ++ (passes_of.Prune ∷ (only_if counting passes_of.Count ++ ks)))) steps q → (r : Plan) × IsPruned (cond ordering (ordered true p) p) r × Ends r q (sites_of (cond ordering (ordered true p) p))
+  first_ends ordering counting ks p q [] late none h = absurd h
+  first_ends false counting ks p q (a ∷ steps) late none h = pruned_ends counting ks p q steps late none (subst (λ (x : Plan). Chain flags boxes x (passes_of.Prune ∷ (only_if counting passes_of.Count ++ ks)) steps q) h.1.0 h.2)
+  first_ends true counting ks p q (a ∷ []) late none h = absurd h.2
+  first_ends true counting ks p q (a ∷ b ∷ steps) late none h =
       let first : a.plan ≡ p = h.1.0 in
       let moved : b.plan ≡ ordered true p = subst (λ (x : Plan). b.plan ≡ ordered true x) first h.2.1.0 in
-      pruned_ends counting (ordered true p) q steps none (subst (λ (x : Plan). Chain flags boxes x (passes_of.Prune ∷ (only_if counting passes_of.Count ++ passes_of.Rules ∷ [])) steps q) moved h.2.2)
+      pruned_ends counting ks (ordered true p) q steps late none (subst (λ (x : Plan). Chain flags boxes x (passes_of.Prune ∷ (only_if counting passes_of.Count ++ ks)) steps q) moved h.2.2)
 
 -- ---- what is asked of the plan that is pruned is what is asked of the given one, sorts aside that nothing observes
 
@@ -172,13 +168,21 @@ and_false : (a b : Bool) → a ≡ true → a && b ≡ false → b ≡ false
 and_false true b on k = k
 and_false false b on k = cc
 
+-- the passes after the bare count
+abbrev late : (clustering : Bool) → List Pass
+late clustering = only_if clustering passes_of.Cluster ++ passes_of.Rules ∷ []
+
+all_late : (clustering : Bool) → AllByRecursion IsLate (late clustering)
+all_late true = (tt, (tt, tt))
+all_late false = (tt, tt)
+
 -- with pruning a chain reads what is asked
 pub chain_reads : (flags : OptFlags) (boxes : Boxes) (p q : Plan) (steps : List Left) → IsValid p → is_pruning flags ≡ true → Chain flags boxes p (passes flags p) steps q → ReadsAsked flags p q
 chain_reads flags boxes p q steps v on h =
     let o = is_ordering flags p in
-    let shaped : Chain flags boxes p (in_order o true (is_counting flags p)) steps q = subst (λ (b : Bool). Chain flags boxes p (in_order o b (is_counting flags p)) steps q) on h in
+    let shaped : Chain flags boxes p (in_order o true (is_counting flags p) (is_clustering flags)) steps q = subst (λ (b : Bool). Chain flags boxes p (in_order o b (is_counting flags p) (is_clustering flags)) steps q) on h in
     let none : is_counting flags p ≡ false → meets_count (cond o (ordered true p) p) ≡ false = λ k. same_counts p o v ∙ and_false (is_pruning flags) (meets_count p) on k in
-    let e = first_ends flags boxes o (is_counting flags p) p q steps none shaped in
+    let e = first_ends flags boxes o (is_counting flags p) (late (is_clustering flags)) p q steps (all_late (is_clustering flags)) none shaped in
     record {
       pruned = e.0;
       by = e.1;

@@ -18,7 +18,7 @@ use Rattle.plan_reshape.proofs.Brings.{become_refl, become_then}
 use Rattle.plan_top.specs.declared.trail.Pass.{Pass}
 use Rattle.plan_top.specs.declared.trail.Pass.TheVariants as passes_of
 use Rattle.plan_top.specs.declared.trail.Step.{Step}
-use Rattle.plan_top.specs.Chains.{Boxes, Chain, Left, ReadsAsked, in_order, is_counting, is_ordering, is_pruning, only_if, passes}
+use Rattle.plan_top.specs.Chains.{Boxes, Chain, Left, ReadsAsked, in_order, is_clustering, is_counting, is_ordering, is_pruning, only_if, passes}
 use Rattle.plan_top.specs.Trails.{Chained, InPlace, KeptIf, Passed, RanIf, ShowAll, Shows, Trailed}
 use Rattle.plan_top.proofs.ChainLaws.{chain_refines, chain_shared, chain_then, kept_unpruned}
 use Rattle.plan_top.proofs.ChainReads.{chain_reads}
@@ -82,15 +82,17 @@ module _ (flags : OptFlags) (boxes : Boxes) (root : Node) where
   ran_chain false k lp new ex grown n p = subst (λ (x : List IR). Chained flags boxes [] lp x ex grown root) (sym p.0) (subst (λ (y : List AExpr). Chained flags boxes [] lp lp ex y root) (sym p.1) (chained_none lp ex))
 
   -- the given plan, and then what each pass left
-  pub whole_chain : (ordering pruning counting : Bool) (a b c d e : List IR) (x y z : List AExpr) (n : ℕ) → RanIf ordering flags boxes passes_of.Order a b x x root 0 → RanIf pruning flags boxes passes_of.Prune b c x y root 0 → RanIf counting flags boxes passes_of.Count c d y y root 0 → Passed flags boxes passes_of.Rules d e y z root n → Chained flags boxes (in_order ordering pruning counting) a e x z root
-  whole_chain ordering pruning counting a b c d e x y z n o p k r =
+  pub whole_chain : (ordering pruning counting clustering : Bool) (a b c d e f : List IR) (x y z : List AExpr) (n : ℕ) → RanIf ordering flags boxes passes_of.Order a b x x root 0 → RanIf pruning flags boxes passes_of.Prune b c x y root 0 → RanIf counting flags boxes passes_of.Count c d y y root 0 → RanIf clustering flags boxes passes_of.Cluster d e y y root 0 → Passed flags boxes passes_of.Rules e f y z root n → Chained flags boxes (in_order ordering pruning counting clustering) a f x z root
+  whole_chain ordering pruning counting clustering a b c d e f x y z n o p k l r =
       let last = passes_of.Rules ∷ [] in
-      let counted = only_if counting passes_of.Count ++ last in
+      let clustered = only_if clustering passes_of.Cluster ++ last in
+      let counted = only_if counting passes_of.Count ++ clustered in
       let pruned = only_if pruning passes_of.Prune ++ counted in
-      chained_then (passes_of.Given ∷ []) (only_if ordering passes_of.Order ++ pruned) a a e x x z (chained_one passes_of.Given a a x x 0 (given_passed a x))
-      (chained_then (only_if ordering passes_of.Order) pruned a b e x x z (ran_chain ordering passes_of.Order a b x x 0 o)
-      (chained_then (only_if pruning passes_of.Prune) counted b c e x y z (ran_chain pruning passes_of.Prune b c x y 0 p)
-      (chained_then (only_if counting passes_of.Count) last c d e y y z (ran_chain counting passes_of.Count c d y y 0 k) (chained_one passes_of.Rules d e y z n r))))
+      chained_then (passes_of.Given ∷ []) (only_if ordering passes_of.Order ++ pruned) a a f x x z (chained_one passes_of.Given a a x x 0 (given_passed a x))
+      (chained_then (only_if ordering passes_of.Order) pruned a b f x x z (ran_chain ordering passes_of.Order a b x x 0 o)
+      (chained_then (only_if pruning passes_of.Prune) counted b c f x y z (ran_chain pruning passes_of.Prune b c x y 0 p)
+      (chained_then (only_if counting passes_of.Count) clustered c d f y y z (ran_chain counting passes_of.Count c d y y 0 k)
+      (chained_then (only_if clustering passes_of.Cluster) last d e f y y z (ran_chain clustering passes_of.Cluster d e y y 0 l) (chained_one passes_of.Rules e f y z n r)))))
 
   -- what is promised of the plan that they leave
 
@@ -101,7 +103,7 @@ module _ (flags : OptFlags) (boxes : Boxes) (root : Node) where
   whole_reads lp new ex grown v h on = chain_reads flags boxes (plan_at lp ex root) (plan_at new grown root) h.steps v on h.chain
 
   pub whole_keeps : (lp new : List IR) (ex grown : List AExpr) → IsValid (plan_at lp ex root) → Chained flags boxes (passes flags (plan_at lp ex root)) lp new ex grown root → is_pruning flags ≡ false → Keeps (plan_at new grown root) (plan_at lp ex root)
-  whole_keeps lp new ex grown v h off = kept_unpruned flags boxes (is_ordering flags (plan_at lp ex root)) (plan_at lp ex root) (plan_at new grown root) h.steps v (subst (λ (b : Bool). Chain flags boxes (plan_at lp ex root) (in_order (is_ordering flags (plan_at lp ex root)) b (b && meets_count (plan_at lp ex root))) h.steps (plan_at new grown root)) off h.chain)
+  whole_keeps lp new ex grown v h off = kept_unpruned flags boxes (is_ordering flags (plan_at lp ex root)) (is_clustering flags) (plan_at lp ex root) (plan_at new grown root) h.steps v (subst (λ (b : Bool). Chain flags boxes (plan_at lp ex root) (in_order (is_ordering flags (plan_at lp ex root)) b (b && meets_count (plan_at lp ex root)) (is_clustering flags)) h.steps (plan_at new grown root)) off h.chain)
 
   pub whole_shared : (lp new : List IR) (ex grown : List AExpr) (ks : List Pass) → Chained flags boxes ks lp new ex grown root → boxes.own ≡ true → AreShared (plan_at lp ex root) → AreShared (plan_at new grown root)
   whole_shared lp new ex grown ks h own = chain_shared flags boxes (plan_at lp ex root) ks h.steps (plan_at new grown root) own h.chain
@@ -133,19 +135,21 @@ module _ (flags : OptFlags) (boxes : Boxes) (root : Node) where
       (subst (λ (v : List IR). Trailed flags boxes [] lp v ex grown root before before) (sym p.0)
       (subst (λ (w : List AExpr). Trailed flags boxes [] lp lp ex w root before before) (sym p.1) (trailed_none lp ex before)))
 
-  pub whole_trail : (ordering pruning counting : Bool) (a b c d e : List IR) (x y z : List AExpr) (n : ℕ) (given rules : Step) (s t u v w r : List Step) → t ≡ s ++ given ∷ [] → Shows given (left_at passes_of.Given a x 0) → RanIf ordering flags boxes passes_of.Order a b x x root 0 → KeptIf ordering (left_at passes_of.Order b x 0) t u → RanIf pruning flags boxes passes_of.Prune b c x y root 0 → KeptIf pruning (left_at passes_of.Prune c y 0) u v → RanIf counting flags boxes passes_of.Count c d y y root 0 → KeptIf counting (left_at passes_of.Count d y 0) v w → Passed flags boxes passes_of.Rules d e y z root n → r ≡ w ++ rules ∷ [] → Shows rules (left_at passes_of.Rules e z n) → Trailed flags boxes (in_order ordering pruning counting) a e x z root s r
-  whole_trail ordering pruning counting a b c d e x y z n given rules s t u v w r at_first first o o_kept p p_kept k k_kept l at_last last_shown =
+  pub whole_trail : (ordering pruning counting clustering : Bool) (a b c d e f : List IR) (x y z : List AExpr) (n : ℕ) (given rules : Step) (s t u v w g r : List Step) → t ≡ s ++ given ∷ [] → Shows given (left_at passes_of.Given a x 0) → RanIf ordering flags boxes passes_of.Order a b x x root 0 → KeptIf ordering (left_at passes_of.Order b x 0) t u → RanIf pruning flags boxes passes_of.Prune b c x y root 0 → KeptIf pruning (left_at passes_of.Prune c y 0) u v → RanIf counting flags boxes passes_of.Count c d y y root 0 → KeptIf counting (left_at passes_of.Count d y 0) v w → RanIf clustering flags boxes passes_of.Cluster d e y y root 0 → KeptIf clustering (left_at passes_of.Cluster e y 0) w g → Passed flags boxes passes_of.Rules e f y z root n → r ≡ g ++ rules ∷ [] → Shows rules (left_at passes_of.Rules f z n) → Trailed flags boxes (in_order ordering pruning counting clustering) a f x z root s r
+  whole_trail ordering pruning counting clustering a b c d e f x y z n given rules s t u v w g r at_first first o o_kept p p_kept k k_kept l l_kept at_rules at_last last_shown =
       let last = passes_of.Rules ∷ [] in
-      let counted = only_if counting passes_of.Count ++ last in
+      let clustered = only_if clustering passes_of.Cluster ++ last in
+      let counted = only_if counting passes_of.Count ++ clustered in
       let pruned = only_if pruning passes_of.Prune ++ counted in
-      trailed_then (passes_of.Given ∷ []) (only_if ordering passes_of.Order ++ pruned) a a e x x z s t r (trailed_one passes_of.Given a a x x 0 given s t (given_passed a x) at_first first)
-      (trailed_then (only_if ordering passes_of.Order) pruned a b e x x z t u r (ran_trail ordering passes_of.Order a b x x t u o o_kept)
-      (trailed_then (only_if pruning passes_of.Prune) counted b c e x y z u v r (ran_trail pruning passes_of.Prune b c x y u v p p_kept)
-      (trailed_then (only_if counting passes_of.Count) last c d e y y z v w r (ran_trail counting passes_of.Count c d y y v w k k_kept) (trailed_one passes_of.Rules d e y z n rules w r l at_last last_shown))))
+      trailed_then (passes_of.Given ∷ []) (only_if ordering passes_of.Order ++ pruned) a a f x x z s t r (trailed_one passes_of.Given a a x x 0 given s t (given_passed a x) at_first first)
+      (trailed_then (only_if ordering passes_of.Order) pruned a b f x x z t u r (ran_trail ordering passes_of.Order a b x x t u o o_kept)
+      (trailed_then (only_if pruning passes_of.Prune) counted b c f x y z u v r (ran_trail pruning passes_of.Prune b c x y u v p p_kept)
+      (trailed_then (only_if counting passes_of.Count) clustered c d f y y z v w r (ran_trail counting passes_of.Count c d y y v w k k_kept)
+      (trailed_then (only_if clustering passes_of.Cluster) last d e f y y z w g r (ran_trail clustering passes_of.Cluster d e y y w g l l_kept) (trailed_one passes_of.Rules e f y z n rules g r at_rules at_last last_shown)))))
 
   pub trailed_as : (ks ls : List Pass) (lp new : List IR) (ex grown : List AExpr) (before after : List Step) → ks ≡ ls → Trailed flags boxes ks lp new ex grown root before after → Trailed flags boxes ls lp new ex grown root before after
   trailed_as ks ls lp new ex grown before after same t = subst (λ (ms : List Pass). Trailed flags boxes ms lp new ex grown root before after) same t
 
 -- the passes that ran are those that the flags ask for over the given plan
-pub asked_passes : (flags : OptFlags) (ordering counting : Bool) (p m : Plan) → ordering ≡ is_ordering flags p → counting ≡ is_counting flags m → meets_count m ≡ meets_count p → in_order ordering (is_pruning flags) counting ≡ passes flags p
-asked_passes flags ordering counting p m o c same = ap₂ (λ (a b : Bool). in_order a (is_pruning flags) b) o (c ∙ ap (λ (b : Bool). is_pruning flags && b) same)
+pub asked_passes : (flags : OptFlags) (ordering counting : Bool) (p m : Plan) → ordering ≡ is_ordering flags p → counting ≡ is_counting flags m → meets_count m ≡ meets_count p → in_order ordering (is_pruning flags) counting (is_clustering flags) ≡ passes flags p
+asked_passes flags ordering counting p m o c same = ap₂ (λ (a b : Bool). in_order a (is_pruning flags) b (is_clustering flags)) o (c ∙ ap (λ (b : Bool). is_pruning flags && b) same)

@@ -8,13 +8,16 @@ use Rattle.plan_meaning.specs.Asked.{sites_of}
 use Rattle.plan_meaning.specs.Caches.{AreShared}
 use Rattle.plan_meaning.specs.Counting.{meets_count}
 use Rattle.plan_meaning.specs.Relating.{Refines, all}
-use Rattle.plan_meaning.specs.Scans.{nodes, scans}
+use Rattle.plan_meaning.specs.Scans.{Keeps, nodes, scans}
 use Rattle.plan_meaning.specs.Work.{kept, made}
 use Rattle.plan_pruned.specs.Pruned.{pruned}
 use Rattle.plan_pruned.specs.Reads.{ReadWithin, tops}
 use Rattle.plan_pass_laws.specs.declared.kind.RuleKind.{RuleKind}
 use Rattle.plan_pass_laws.specs.Patterns.{flag_kinds}
 use Rattle.plan_pass_laws.specs.Settling.{Settles}
+use Rattle.plan_collapse_laws.specs.Clustered.{clustered as clustered_of}
+use Rattle.plan_collapse_laws.specs.Clusters.{IsClustered}
+use Rattle.plan_collapse_laws.specs.Counts.{placing}
 use Rattle.plan_order_laws.specs.Counted.{countable, counted}
 use Rattle.plan_order_laws.specs.Demands.{basis, ordered}
 use Rattle.plan_order.specs.Members.{has_op, is_distinct, is_group_by, is_sort}
@@ -42,6 +45,10 @@ is_ordering flags p = has_bits (bits_of flags) 65536 && (asks_members flags && h
 abbrev pub is_counting : OptFlags → Plan → Bool
 is_counting flags p = is_pruning flags && meets_count p
 
+-- whether CLUSTER_WITH_COLUMNS is set
+abbrev pub is_clustering : OptFlags → Bool
+is_clustering flags = has_bits (bits_of flags) 8
+
 -- the kinds of the rules that flags ask for: those of FAST_PROJECTION and EAGER
 abbrev pub kinds_for : OptFlags → List RuleKind
 kinds_for flags = flag_kinds (has_bits (bits_of flags) 16384) (has_bits (bits_of flags) 4096)
@@ -51,12 +58,12 @@ abbrev pub only_if : Bool → Pass → List Pass
 only_if runs k = if runs then k ∷ [] else []
 
 -- passes in order, of which some run or not
-abbrev pub in_order : (ordering pruning counting : Bool) → List Pass
-in_order ordering pruning counting = passes_of.Given ∷ (only_if ordering passes_of.Order ++ (only_if pruning passes_of.Prune ++ (only_if counting passes_of.Count ++ passes_of.Rules ∷ [])))
+abbrev pub in_order : (ordering pruning counting clustering : Bool) → List Pass
+in_order ordering pruning counting clustering = passes_of.Given ∷ (only_if ordering passes_of.Order ++ (only_if pruning passes_of.Prune ++ (only_if counting passes_of.Count ++ (only_if clustering passes_of.Cluster ++ passes_of.Rules ∷ []))))
 
 -- the passes that flags ask for over a plan, in order
 abbrev pub passes : OptFlags → Plan → List Pass
-passes flags p = in_order (is_ordering flags p) (is_pruning flags) (is_counting flags p)
+passes flags p = in_order (is_ordering flags p) (is_pruning flags) (is_counting flags p) (is_clustering flags)
 
 -- rules beside those that flags ask for: the kind of each, and whether each is its kind's own
 pub record Boxes : Type 0 where
@@ -76,6 +83,16 @@ pub record IsPruned (p q : Plan) : Type 0 where
   pub shared : AreShared p → AreShared q
   pub exact : q ≡ pruned true [] p
 
+-- clustering left q in the place of p
+pub record IsClusteredOf (p q : Plan) : Type 0 where
+  pub refines : Refines q p
+  pub keeps : Keeps q p
+  pub clustered : IsClustered q
+  pub stays : IsClustered p → q ≡ p
+  pub few : nodes q + placing q ≤ nodes p + placing p
+  pub shared : AreShared p → AreShared q
+  pub exact : q ≡ clustered_of p
+
 -- the loop over the rules that flags ask for, and then over others, left q in the place of p after so many counted replacements; where each of the others is its kind's own, it did so by walks of the rules
 pub record IsSettled (flags : OptFlags) (boxes : Boxes) (p q : Plan) (replaced : ℕ) : Type 0 where
   pub settles : Settles (kinds_for flags ++ boxes.kinds) p q replaced
@@ -87,6 +104,7 @@ Follows flags boxes passes_of.Given p q n = (q ≡ p) × (n ≡ 0)
 Follows flags boxes passes_of.Order p q n = (q ≡ ordered true p) × (n ≡ 0)
 Follows flags boxes passes_of.Prune p q n = IsPruned p q × (n ≡ 0)
 Follows flags boxes passes_of.Count p q n = (q ≡ counted p) × (n ≡ 0)
+Follows flags boxes passes_of.Cluster p q n = IsClusteredOf p q × (n ≡ 0)
 Follows flags boxes passes_of.Rules p q n = IsSettled flags boxes p q n
 
 -- what a pass left, after so many counted replacements

@@ -11,8 +11,8 @@ ghost use Rattle.plan_reshape.specs.Walking.{all_own};
 ghost use Rattle.plan_top.specs.Chains.{ReadsAsked, boxes_of, is_ordering, is_pruning, passes};
 ghost use Rattle.plan_top.specs.Trails.{Chained, RefusedFor, Trailed};
 
-use crate::passes::{count, order, prune, settle};
-use crate::steps::{count_step, keep_step, order_step, prune_step};
+use crate::passes::{cluster, count, order, prune, settle};
+use crate::steps::{cluster_step, count_step, keep_step, order_step, prune_step};
 use crate::trail::{Pass, Trail};
 use plan_check::check_plan;
 use plan_core::{Arena, Node, OptFlags, PolarsResult};
@@ -25,8 +25,9 @@ use std::alloc::Global;
 ///
 /// With `CHECK_ORDER_OBSERVE` and without `EAGER`, sorts whose order nothing observes are left out, if columns are pruned or
 /// `COMM_SUBEXPR_ELIM` is set, and the plan has a group-by, a sort or distinct rows. With `PROJECTION_PUSHDOWN` the plan is pruned, and
-/// becomes a bare count if it tells the number of the rows of files alone. Then rules are called until none finds its pattern: that which
-/// collapses projections with `FAST_PROJECTION`, and without `EAGER` those which delay rechunks and flatten unions.
+/// becomes a bare count if it tells the number of the rows of files alone. With `CLUSTER_WITH_COLUMNS` few additions of columns are made of
+/// those that stand directly on one another. Then rules are called until none finds its pattern: that which collapses projections with
+/// `FAST_PROJECTION`, and without `EAGER` those which delay rechunks and flatten unions.
 ///
 /// The plan then refines the given one. Where it was pruned and isn't a bare count, its scans stand one for one for the given ones and
 /// read only what they may for what is asked; without pruning they are kept. Caches of one number stand over alike plans if they did.
@@ -61,6 +62,7 @@ pub fn optimize(
     let _ = order(alloc, root, flags, lp, ex, scratch)?;
     let counts = prune(alloc, root, flags, lp, ex)?;
     count(alloc, root, counts, lp, ex)?;
+    cluster(alloc, root, flags, lp, ex)?;
     let none: &mut [BoxedRule] = &mut [];
     let _ = settle(alloc, root, flags, lp, ex, none)?;
     Ok(root)
@@ -103,6 +105,7 @@ pub fn optimize_with(
     let _ = order_step(alloc, root, flags, lp, ex, scratch, trail)?;
     let counts = prune_step(alloc, root, flags, lp, ex, trail)?;
     count_step(alloc, root, counts, lp, ex, trail)?;
+    cluster_step(alloc, root, flags, lp, ex, trail)?;
     let replaced = settle(alloc, root, flags, lp, ex, extra)?;
     keep_step(alloc, Pass::Rules, replaced, root, lp, ex, trail)?;
     Ok(root)

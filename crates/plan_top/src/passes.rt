@@ -8,9 +8,10 @@ ghost use Rattle.plan_meaning.specs.Counting.{meets_count};
 ghost use Rattle.plan_meaning.specs.PlanAt.{plan_at};
 ghost use Rattle.plan_meaning.specs.Steps.{IsValid};
 ghost use Rattle.plan_top.specs.declared.trail.Pass.TheVariants as passes_of;
-ghost use Rattle.plan_top.specs.Chains.{Boxes, asks_members as are_members_asked, boxes_of, is_counting, is_ordering, is_pruning};
+ghost use Rattle.plan_top.specs.Chains.{Boxes, asks_members as are_members_asked, boxes_of, is_clustering, is_counting, is_ordering, is_pruning};
 ghost use Rattle.plan_top.specs.Trails.{Passed, RanIf};
 
+use plan_cluster::cluster_with_columns;
 use plan_core::{Arena, Node, OptFlags, PolarsResult};
 use plan_expr::AExpr;
 use plan_ir::IR;
@@ -142,6 +143,27 @@ pub fn count(
 {
     if runs {
         drop(CountStar::new().optimize_plan(alloc, lp, ex, root)?);
+    }
+    Ok(())
+}
+
+/// Makes few of the additions of columns of the plan at `root` that stand directly on one another, where the flags ask for it. Refuses for
+/// want of memory alone.
+pub fn cluster(
+    alloc: Global,
+    root: Node,
+    flags: OptFlags,
+    lp: &mut Arena<IR>,
+    ex: &Arena<AExpr>,
+) -> Result<(), AllocError>
+    requires plan { IsPlan lp.old ex.now root }
+    requires valid { IsValid (plan_at lp.old ex.now root) }
+    ensures is_plan { OnOk result (IsPlan lp.new ex.now root) }
+    ensures is_valid { OnOk result (IsValid (plan_at lp.new ex.now root)) }
+    ensures passed { OnOk result ((boxes : Boxes) → RanIf (is_clustering flags) flags boxes passes_of.Cluster lp.old lp.new ex.now ex.now root 0) }
+{
+    if flags.cluster_with_columns() {
+        cluster_with_columns::optimize(alloc, root, lp, ex)?;
     }
     Ok(())
 }

@@ -8,10 +8,10 @@ ghost use Rattle.plan_meaning.specs.PlanAt.{plan_at};
 ghost use Rattle.plan_meaning.specs.Steps.{IsValid};
 ghost use Rattle.plan_top.specs.declared.trail.Pass.TheVariants as passes_of;
 ghost use Rattle.plan_top.specs.declared.trail.Step.{Step as StepType};
-ghost use Rattle.plan_top.specs.Chains.{Boxes, is_counting, is_ordering, is_pruning};
+ghost use Rattle.plan_top.specs.Chains.{Boxes, is_clustering, is_counting, is_ordering, is_pruning};
 ghost use Rattle.plan_top.specs.Trails.{KeptIf, RanIf, Shows};
 
-use crate::passes::{count, order, prune};
+use crate::passes::{cluster, count, order, prune};
 use crate::trail::{Pass, Step, Trail};
 use plan_copy::renumbered;
 use plan_core::{Arena, Node, OptFlags, PolarsResult};
@@ -133,5 +133,28 @@ pub fn count_step(
 {
     count(alloc, root, runs, lp, ex)?;
     keep_if(alloc, runs, Pass::Count, root, lp, ex, trail)?;
+    Ok(())
+}
+
+/// `cluster`, and a step of what it left where the flags ask for it. Refuses for want of memory alone.
+pub fn cluster_step(
+    alloc: Global,
+    root: Node,
+    flags: OptFlags,
+    lp: &mut Arena<IR>,
+    ex: &Arena<AExpr>,
+    trail: &mut Trail,
+) -> Result<(), AllocError>
+    requires plan { IsPlan lp.old ex.now root }
+    requires valid { IsValid (plan_at lp.old ex.now root) }
+    ensures is_plan { OnOk result (IsPlan lp.new ex.now root) }
+    ensures is_valid { OnOk result (IsValid (plan_at lp.new ex.now root)) }
+    ensures passed { OnOk result ((boxes : Boxes) → RanIf (is_clustering flags) flags boxes passes_of.Cluster lp.old lp.new ex.now ex.now root 0) }
+    ensures kept { OnOk result (KeptIf (is_clustering flags) (record { pass = passes_of.Cluster; plan = plan_at lp.new ex.now root; replaced = 0 }) trail.old trail.new) }
+    ensures grows { length trail.old ≤ length trail.new }
+{
+    cluster(alloc, root, flags, lp, ex)?;
+    let ran = flags.cluster_with_columns();
+    keep_if(alloc, ran, Pass::Cluster, root, lp, ex, trail)?;
     Ok(())
 }

@@ -17,6 +17,8 @@ pub enum Pass {
     Prune,
     /// A plan that tells the number of the rows of files alone becomes a count of them.
     Count,
+    /// Additions of columns that stand directly on one another become few.
+    Cluster,
     /// Rules are called until none of them finds its pattern.
     Rules,
 }
