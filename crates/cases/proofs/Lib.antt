@@ -1,0 +1,3 @@
+mod CaseLemmas
+mod WordLemmas
+mod EndingLemmas

@@ -2,7 +2,12 @@
 //! subject. The program prints each case that is answered otherwise, and of each file how many cases it has.
 #![tactic(auto)]
 
-use case_lines::{Line, Words, all_tried, cases_among, lines_of};
+mod answers;
+mod cases;
+mod words;
+
+use crate::cases::{Line, all_tried, cases_among};
+use crate::words::{Words, lines_of};
 use std::{env, fs, io};
 
 /// Tries the cases of a file, prints those that are answered otherwise, and gives how many there are.

@@ -1,3 +1,0 @@
-mod CaseLemmas
-mod WordLemmas
-mod EndingLemmas

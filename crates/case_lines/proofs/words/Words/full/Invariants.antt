@@ -1,8 +1,0 @@
-use Rattle.std.proofs.Common.{ℕ, List, drop, map, string_bytes}
-use Rattle.case_lines.specs.Words.{IsFilled}
-use Rattle.case_lines.proofs.WordLemmas.{seen}
-use Rattle.case_lines.proofs.words.Words.full.Given as goal
-
--- what the words that are left make of the text so far, all words make of the given text
-abbrev pub invariant-loop-word : goal.invariant-loop-word
-invariant-loop-word l = (full : List ℕ) → IsFilled (map seen (drop l.word-index l.word-items)) (string_bytes l.made) full → IsFilled l.self l.text full

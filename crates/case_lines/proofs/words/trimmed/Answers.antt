@@ -1,7 +1,0 @@
-use Rattle.std.proofs.Common.{arith}
-use Rattle.std.proofs.lemmas.Str.Pattern.{strip_prefix_char}
-use Rattle.case_lines.proofs.WordLemmas.{less_blank}
-use Rattle.case_lines.proofs.words.trimmed.Goals as goal
-
-pub returns : goal.returns
-returns c = less_blank c.args.text c.unwrap_or.result c.strip_prefix.result (strip_prefix_char 32 c.args.text.now c.strip_prefix.result c.strip_prefix.ensures.cases (omega arith)) c.unwrap_or.ensures

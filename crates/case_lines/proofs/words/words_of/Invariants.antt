@@ -1,9 +1,0 @@
-use Rattle.std.proofs.Common.{map, take}
-use Rattle.std.specs.List.{filter}
-use Rattle.case_lines.specs.Words.{AreWordsOf, gives_word}
-use Rattle.case_lines.proofs.WordLemmas.{seen, shown}
-use Rattle.case_lines.proofs.words.words_of.Given as goal
-
--- the words of the lines up to here
-abbrev pub invariant-loop-line : goal.invariant-loop-line
-invariant-loop-line l = AreWordsOf (filter gives_word (map shown (take l.line-index l.lines))) (map seen l.words.items)
