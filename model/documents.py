@@ -1,4 +1,5 @@
 """Documents as trees, and trees as documents and as listings."""
+from clusters import CLUSTER_WITH_COLUMNS, clustered
 from columns import columns, conditions, reads, scans
 from counts import counted
 from expressions import with_operands
@@ -86,6 +87,8 @@ def optimized(document, extra=()):
         root = pruning.pruned(root, [])
         if pruning.counts:
             root = counted(root)
+    if flags & CLUSTER_WITH_COLUMNS:
+        root = clustered(root)
     return settled(root, [*rules_of(flags), *extra])
 
 

@@ -52,14 +52,16 @@ class Drawing(Chance):
         root = self.count_of_files() if self.chance(0.1) else self.node(self.random.randint(1, 5))
         if self.chance(0.15):
             root = self.orders(root)
+        if self.chance(0.15):
+            root = self.additions(root)
         if columns(root) and self.chance(0.05 if is_count(root) else 0.6):
             root = self.projection(root, 3)
         tables = [self.table(*it) for it in SOURCES] if self.chance(0.85) else None
         return plan(root) | {"flags": self.flags(), "shared": False, "tables": tables}
 
     def flags(self):
-        """Pruning, checks of orders (for which plans are looked at without pruning too), fast projections and eager runs."""
-        shares = ((1, 0.75), (65536, 0.6), (512, 0.3), (16384, 0.5), (4096, 0.2))
+        """Pruning, clustering, checks of orders (for which plans are looked at without pruning too), fast projections, eager runs."""
+        shares = ((1, 0.75), (8, 0.6), (65536, 0.6), (512, 0.3), (16384, 0.5), (4096, 0.2))
         return sum(bit for bit, share in shares if self.chance(share))
 
     def table(self, kind, source):
@@ -185,7 +187,7 @@ class Drawing(Chance):
             self.filter, self.projection, self.select, self.select, self.added, self.added, self.sort, self.group_by,
             self.group_by, self.distinct, self.union, self.concatenation, self.join, self.join, self.join, self.join,
             self.function, self.function, self.slice, self.sink, self.cache, self.count, self.needless, self.needless,
-            self.orders, self.orders, self.orders,
+            self.orders, self.orders, self.orders, self.additions, self.additions, self.additions,
         )
         kind = self.one_of(*kinds)
         if kind in (self.union, self.concatenation, self.join):
@@ -312,6 +314,29 @@ class Drawing(Chance):
         exprs = self.several(columns(below), 0, 4)
         return self.of_expressions(below, {"op": "HStack", "exprs": exprs, "options": self.marks(3)})
 
+    def additions(self, below):
+        """Additions on one another, seldom with another node between them: of columns that are new, that were there, or that the
+        addition below makes, made of these and of each other's."""
+        lower = []
+        for _ in range(self.one_of(2, 2, 3, 3, 4, 5)):
+            there = columns(below)
+            exprs = dict(self.added_column(there, lower) for _ in range(self.one_of(0, 1, 1, 2, 2, 3, 3, 4)))
+            told = {"op": "HStack", "exprs": list(exprs.values()), "options": self.marks(3)}
+            below, lower = self.of_expressions(below, told), list(exprs)
+            if self.chance(0.05):
+                below, lower = self.one_of(self.filter, self.slice, self.cache, self.same_columns)(below) or below, []
+        return below
+
+    def added_column(self, there, lower):
+        """The name of an added column, and the expression, over some columns, of which the addition below makes those named."""
+        near, others = ([it for it in there if (it[0] in lower) is of_lower] for of_lower in (True, False))
+        read = self.one_of(near, others, others, there) or there
+        expr = self.expression(read, self.any_type(read), self.one_of(0, 0, 1, 2))
+        found = self.one_of(lower, names(others), names(others), NAMES, NAMES)
+        kind, name = own_name(expr)
+        new = [expr, kind, name] if kind == "alias" or self.chance(0.15) else [expr, "alias", self.one_of(*(found or NAMES))]
+        return new[2], new
+
     def group_by(self, below):
         keys = self.several(columns(below), 1, self.one_of(1, 1, 2))
         aggs = [it for it in self.several(columns(below), 0, 3, True) if it[2] not in [key[2] for key in keys]]
@@ -425,8 +450,8 @@ class Drawing(Chance):
         return node if len(set(found)) == len(found) else None
 
     def rename(self, there):
-        existing = self.some([*names(there), "q", "zz"], 0, 3)
-        new = self.some(existing, len(existing)) if self.chance(0.4) else self.some([*names(there), "r", "s", "zz"], 0, 3)
+        existing = self.some(dict.fromkeys([*names(there), "q", "zz"]), 0, 3)
+        new = self.some(existing, len(existing)) if self.chance(0.4) else self.some(dict.fromkeys([*names(there), "r", "s", "zz"]), 0, 3)
         count = min(len(existing), len(new))
         return "Rename", {"existing": existing[:count], "new": new[:count], "swapping": self.chance(0.5)}
 

@@ -12,7 +12,7 @@ COALESCE = ("JoinSpecific", "CoalesceColumns", "KeepColumns")
 ORDERS = ("None", "Left", "Right", "LeftRight", "RightLeft")
 KEEP = ("First", "Last", "Any", "None")
 # The bits of flags that have a name and start no pass that isn't built.
-FLAGS = 1 + 4 + 16 + 32 + 64 + 128 + 256 + 512 + 1024 + 2048 + 4096 + 8192 + 16384 + 65536 + 131072
+FLAGS = 1 + 4 + 8 + 16 + 32 + 64 + 128 + 256 + 512 + 1024 + 2048 + 4096 + 8192 + 16384 + 65536 + 131072
 
 
 def whole(least, most):
